@@ -77,7 +77,7 @@ view_same s t entries untouched journaled =
 
 -- for every history for which the one stands the other does
 abbrev pub KeepsHistories : State Kept → State Kept → Type 0
-KeepsHistories s t = (h : List Entry) → state.StandsFor tells s h → state.StandsFor tells t h
+KeepsHistories s t = state.KeepsHistories tells s t
 
 -- a state that stands for a history stands for its journal
 pub for_journal : (t : State Kept) (h : List Entry) → state.StandsFor tells t h → StandsForJournal t
@@ -95,13 +95,13 @@ for_some s stands = record { history = s.chronicle.entries; stands = stands }
 -- ---- a history that goes on
 
 -- the state goes on with these entries
-abbrev pub AcceptsNext : State Kept → List Entry → State Kept → Type 0
-AcceptsNext s more t = state.Accepts tells limits_of s s.chronicle.entries more t
+abbrev pub AcceptsNext : State Kept → State Kept → List Entry → Type 0
+AcceptsNext s t more = state.Accepts tells limits_of s t s.chronicle.entries more
 
-pub accepted_stands : (s t : State Kept) (more : List Entry) → AcceptsNext s more t → StandsForJournal t
+pub accepted_stands : (s t : State Kept) (more : List Entry) → AcceptsNext s t more → StandsForJournal t
 accepted_stands s t more accepts = for_journal t (s.chronicle.entries ++ more) accepts.stands
 
-pub goes_on_where : (s t : State Kept) (more : List Entry) → StandsForJournal s → AcceptsNext s more t → ((sub : ℕ) → is_live sub t.chronicle.entries ≡ true → place_of t.engine sub ≡ place_of s.engine sub)
+pub goes_on_where : (s t : State Kept) (more : List Entry) → StandsForJournal s → AcceptsNext s t more → ((sub : ℕ) → is_live sub t.chronicle.entries ≡ true → place_of t.engine sub ≡ place_of s.engine sub)
     → t.engine.audit.standing.drained ≡ s.engine.audit.standing.drained → t.engine.limits ≡ s.engine.limits → t.engine.audit.limit ≡ s.engine.audit.limit → t.chronicle.limits ≡ s.chronicle.limits → GoesOn (view_of s) more (view_of t)
 goes_on_where s t more stands accepts places drained streams audit journaled = record {
   room = accepts.room;
@@ -111,18 +111,18 @@ goes_on_where s t more stands accepts places drained streams audit journaled = r
   limits = limits_same s t streams audit journaled;
 }
 
-pub goes_on : (s t : State Kept) (more : List Entry) → StandsForJournal s → AcceptsNext s more t → IsUntouched s.engine t.engine → t.chronicle.limits ≡ s.chronicle.limits → GoesOn (view_of s) more (view_of t)
+pub goes_on : (s t : State Kept) (more : List Entry) → StandsForJournal s → AcceptsNext s t more → IsUntouched s.engine t.engine → t.chronicle.limits ≡ s.chronicle.limits → GoesOn (view_of s) more (view_of t)
 goes_on s t more stands accepts untouched journaled = goes_on_where s t more stands accepts (λ sub on. untouched.places sub) untouched.drained untouched.limits untouched.audit_limit journaled
 
 -- ---- each call
 
-pub opens : (s t : State Kept) (n : ℕ) → StandsForJournal s → state.Opens tells limits_of s s.chronicle.entries n t → IsUntouched s.engine t.engine → t.chronicle.limits ≡ s.chronicle.limits → Opens (view_of s) n (view_of t)
+pub opens : (s t : State Kept) (n : ℕ) → StandsForJournal s → state.Opens n s.chronicle.entries (AcceptsNext s t) → IsUntouched s.engine t.engine → t.chronicle.limits ≡ s.chronicle.limits → Opens (view_of s) n (view_of t)
 opens s t n stands opened untouched journaled = record { number = opened.number; goes_on = goes_on s t (Open n ∷ []) stands opened.accepts untouched journaled }
 
-pub closes : (s t : State Kept) (session : ℕ) → StandsForJournal s → state.Closes tells limits_of s s.chronicle.entries session t → IsUntouched s.engine t.engine → t.chronicle.limits ≡ s.chronicle.limits → Closes (view_of s) session (view_of t)
+pub closes : (s t : State Kept) (session : ℕ) → StandsForJournal s → state.Closes session s.chronicle.entries (AcceptsNext s t) → IsUntouched s.engine t.engine → t.chronicle.limits ≡ s.chronicle.limits → Closes (view_of s) session (view_of t)
 closes s t session stands closed untouched journaled = record { opened = closed.opened; goes_on = goes_on s t (Close session ∷ []) stands closed.accepts untouched journaled }
 
-pub edits : (s t : State Kept) (text : List ℕ) (n : ℕ) → StandsForJournal s → state.Edits tells limits_of s s.chronicle.entries text n t → IsUntouched s.engine t.engine → t.chronicle.limits ≡ s.chronicle.limits → Edits (view_of s) text n (view_of t)
+pub edits : (s t : State Kept) (text : List ℕ) (n : ℕ) → StandsForJournal s → state.Edits text n s.chronicle.entries (AcceptsNext s t) → IsUntouched s.engine t.engine → t.chronicle.limits ≡ s.chronicle.limits → Edits (view_of s) text n (view_of t)
 edits s t text n stands edited untouched journaled = record {
   policy = edited.policy;
   spelled = edited.spelled;
@@ -135,7 +135,7 @@ new_place : (s : State Kept) (n : ℕ) → StandsForJournal s → n ≡ subscrip
 new_place s n stands next =
     unplaced_at s stands n (stands.stands.numbered.subscriptions n (omega (arith, next))).gone
 
-pub subscribes : (s t : State Kept) (name : List ℕ) (n : ℕ) → StandsForJournal s → state.Subscribes tells limits_of s s.chronicle.entries name n t → IsUntouched s.engine t.engine → t.chronicle.limits ≡ s.chronicle.limits → Subscribes (view_of s) name n (view_of t)
+pub subscribes : (s t : State Kept) (name : List ℕ) (n : ℕ) → StandsForJournal s → state.Subscribes name n s.chronicle.entries (AcceptsNext s t) → IsUntouched s.engine t.engine → t.chronicle.limits ≡ s.chronicle.limits → Subscribes (view_of s) name n (view_of t)
 subscribes s t name n stands begun untouched journaled = record {
   named = begun.named;
   free = begun.free;
@@ -148,7 +148,7 @@ subscribes s t name n stands begun untouched journaled = record {
 ended : (h : List Entry) (sub : ℕ) → is_live sub (h ++ Unsubscribe sub ∷ []) ≡ false
 ended h sub = last_of-push (begins sub) false h (Unsubscribe sub) ∙ (rw (eq-eqb sub sub refl) refl)
 
-pub unsubscribes : (s t : State Kept) (sub : ℕ) → StandsForJournal s → state.Unsubscribes tells limits_of s s.chronicle.entries sub t → ((q : ℕ) → q ≢ sub → place_of t.engine q ≡ place_of s.engine q)
+pub unsubscribes : (s t : State Kept) (sub : ℕ) → StandsForJournal s → state.Unsubscribes sub s.chronicle.entries (AcceptsNext s t) → ((q : ℕ) → q ≢ sub → place_of t.engine q ≡ place_of s.engine q)
     → t.engine.audit.standing.drained ≡ s.engine.audit.standing.drained → t.engine.limits ≡ s.engine.limits → t.engine.audit.limit ≡ s.engine.audit.limit → t.chronicle.limits ≡ s.chronicle.limits → Unsubscribes (view_of s) sub (view_of t)
 unsubscribes s t sub stands over others drained streams audit journaled = record {
   live = over.live;
@@ -162,9 +162,9 @@ unsubscribes s t sub stands over others drained streams audit journaled = record
 with_cuts_are : (s : State Kept) → StandsForJournal s → (entry : Entry) → state.with_cuts s.engine s.chronicle.entries entry ≡ with_cuts (view_of s) entry
 with_cuts_are s stands entry = ap (λ (cuts : List Entry). cuts ++ entry ∷ []) (cuts_are s stands entry)
 
-goes_on_with_cuts : (s t : State Kept) (entry : Entry) → StandsForJournal s → AcceptsNext s (state.with_cuts s.engine s.chronicle.entries entry) t → IsUntouched s.engine t.engine → t.chronicle.limits ≡ s.chronicle.limits → GoesOn (view_of s) (with_cuts (view_of s) entry) (view_of t)
+goes_on_with_cuts : (s t : State Kept) (entry : Entry) → StandsForJournal s → AcceptsNext s t (state.with_cuts s.engine s.chronicle.entries entry) → IsUntouched s.engine t.engine → t.chronicle.limits ≡ s.chronicle.limits → GoesOn (view_of s) (with_cuts (view_of s) entry) (view_of t)
 goes_on_with_cuts s t entry stands accepts untouched journaled =
-    goes_on s t (with_cuts (view_of s) entry) stands (subst (λ (more : List Entry). AcceptsNext s more t) (with_cuts_are s stands entry) accepts) untouched journaled
+    goes_on s t (with_cuts (view_of s) entry) stands (subst (AcceptsNext s t) (with_cuts_are s stands entry) accepts) untouched journaled
 
 -- the audit holds what is named of an entry and its cuts
 audit_seen : (s : State Kept) (entry : Entry) → StandsForJournal s → state.AuditHolds s.engine s.chronicle.entries (state.with_cuts s.engine s.chronicle.entries entry) → AuditHolds (view_of s) (with_cuts (view_of s) entry)
@@ -173,7 +173,7 @@ audit_seen s entry stands holds = record {
   after = subst (λ (more : List Entry). length (drop s.engine.audit.standing.drained (audit_list (s.chronicle.entries ++ more))) ≤ s.engine.audit.limit) (with_cuts_are s stands entry) holds.after;
 }
 
-pub receives : (s t : State Kept) (session number : ℕ) (octets : List ℕ) (r : Receipt) → StandsForJournal s → state.Receives tells limits_of s s.chronicle.entries session number octets r t → IsUntouched s.engine t.engine → t.chronicle.limits ≡ s.chronicle.limits → Receives (view_of s) session number octets r (view_of t)
+pub receives : (s t : State Kept) (session number : ℕ) (octets : List ℕ) (r : Receipt) → StandsForJournal s → state.Receives s.engine session number octets r s.chronicle.entries (AcceptsNext s t) → IsUntouched s.engine t.engine → t.chronicle.limits ≡ s.chronicle.limits → Receives (view_of s) session number octets r (view_of t)
 receives s t session number octets r stands got untouched journaled = record {
   next = got.next;
   meaning = got.meaning;
@@ -241,7 +241,7 @@ refuses_prepared (fault.ClockBack last) s session number p stands r = r
 
 -- ---- an advance of the clock
 
-pub advances : (s t : State Kept) (time : ℕ) → StandsForJournal s → state.Advances tells limits_of s s.chronicle.entries time t → IsUntouched s.engine t.engine → t.chronicle.limits ≡ s.chronicle.limits → Advances (view_of s) time (view_of t)
+pub advances : (s t : State Kept) (time : ℕ) → StandsForJournal s → state.Advances s.engine time s.chronicle.entries (AcceptsNext s t) → IsUntouched s.engine t.engine → t.chronicle.limits ≡ s.chronicle.limits → Advances (view_of s) time (view_of t)
 advances s t time stands advanced untouched journaled = record {
   ahead = advanced.ahead;
   audit = audit_seen s (Advance time) stands advanced.audit;
@@ -266,10 +266,10 @@ refuses_advance fault.UnknownSub s time stands r = absurd r
 
 -- ---- what is handed out
 
-pub pulls : (s t : State Kept) (sub now target : ℕ) (answer : Option (List ℕ)) → StandsForJournal s → now < 2 ^ 32 → target < 2 ^ 16 → state.Pulls tells s s.chronicle.entries sub now target answer t → ((q : ℕ) → q ≢ sub → place_of t.engine q ≡ place_of s.engine q)
+pub pulls : (s t : State Kept) (sub now target : ℕ) (answer : Option (List ℕ)) → StandsForJournal s → KeepsHistories s t → now < 2 ^ 32 → target < 2 ^ 16 → state.Pulls s.engine t.engine sub now target answer s.chronicle.entries → ((q : ℕ) → q ≢ sub → place_of t.engine q ≡ place_of s.engine q)
     → t.engine.audit.standing.drained ≡ s.engine.audit.standing.drained → t.engine.limits ≡ s.engine.limits → t.engine.audit.limit ≡ s.engine.audit.limit → t.chronicle.limits ≡ s.chronicle.limits → Pulls (view_of s) sub now target answer (view_of t)
-pulls s t sub now target answer stands time size pulled others drained streams audit journaled =
-    let after : StandsForJournal t = for_journal t s.chronicle.entries pulled.stands in
+pulls s t sub now target answer stands keeps time size pulled others drained streams audit journaled =
+    let after : StandsForJournal t = stands_on s t stands keeps in
     record {
       time = time;
       size = size;
@@ -277,7 +277,7 @@ pulls s t sub now target answer stands time size pulled others drained streams a
       message = pulled.message ∙ ap (λ (p : ℕ). built (disclosed sub s.chronicle.entries) p now target) (sym (place_is s stands sub));
       moved = place_is t after sub ∙ pulled.moved ∙ ap (λ (p : ℕ). place_after (disclosed sub s.chronicle.entries) p target) (sym (place_is s stands sub));
       others = λ q other. place_is t after q ∙ others q other ∙ sym (place_is s stands q);
-      history = pulled.stands.told;
+      history = (keeps s.chronicle.entries stands).told;
       drained = drained;
       limits = limits_same s t streams audit journaled;
     }
@@ -336,54 +336,54 @@ pub either_way : {X E P : Type 0} (r : Result X E) → P → OnErr r P
 either_way (Ok x) p = tt
 either_way (Err e) p = p
 
-pub kept_open : (s t : State Kept) (n : ℕ) → IsKept s → state.Opens tells limits_of s s.chronicle.entries n t → IsUntouched s.engine t.engine → t.chronicle.limits ≡ s.chronicle.limits → IsKept t
+pub kept_open : (s t : State Kept) (n : ℕ) → IsKept s → state.Opens n s.chronicle.entries (AcceptsNext s t) → IsUntouched s.engine t.engine → t.chronicle.limits ≡ s.chronicle.limits → IsKept t
 kept_open s t n kept is untouched journaled = record {
   stands = accepted_stands s t (Open n ∷ []) is.accepts;
   held = held_open (view_of s) (view_of t) n (is_sound s kept) (opens s t n kept.stands is untouched journaled);
 }
 
-pub kept_close : (s t : State Kept) (session : ℕ) → IsKept s → state.Closes tells limits_of s s.chronicle.entries session t → IsUntouched s.engine t.engine → t.chronicle.limits ≡ s.chronicle.limits → IsKept t
+pub kept_close : (s t : State Kept) (session : ℕ) → IsKept s → state.Closes session s.chronicle.entries (AcceptsNext s t) → IsUntouched s.engine t.engine → t.chronicle.limits ≡ s.chronicle.limits → IsKept t
 kept_close s t session kept is untouched journaled = record {
   stands = accepted_stands s t (Close session ∷ []) is.accepts;
   held = held_close (view_of s) (view_of t) session (is_sound s kept) (closes s t session kept.stands is untouched journaled);
 }
 
-pub kept_edit : (s t : State Kept) (text : List ℕ) (n : ℕ) → IsKept s → state.Edits tells limits_of s s.chronicle.entries text n t → IsUntouched s.engine t.engine → t.chronicle.limits ≡ s.chronicle.limits → IsKept t
+pub kept_edit : (s t : State Kept) (text : List ℕ) (n : ℕ) → IsKept s → state.Edits text n s.chronicle.entries (AcceptsNext s t) → IsUntouched s.engine t.engine → t.chronicle.limits ≡ s.chronicle.limits → IsKept t
 kept_edit s t text n kept is untouched journaled = record {
   stands = accepted_stands s t (Edit text ∷ []) is.accepts;
   held = held_edit (view_of s) (view_of t) text n (is_sound s kept) (edits s t text n kept.stands is untouched journaled);
 }
 
-pub kept_subscribe : (s t : State Kept) (name : List ℕ) (n : ℕ) → IsKept s → state.Subscribes tells limits_of s s.chronicle.entries name n t → IsUntouched s.engine t.engine → t.chronicle.limits ≡ s.chronicle.limits → IsKept t
+pub kept_subscribe : (s t : State Kept) (name : List ℕ) (n : ℕ) → IsKept s → state.Subscribes name n s.chronicle.entries (AcceptsNext s t) → IsUntouched s.engine t.engine → t.chronicle.limits ≡ s.chronicle.limits → IsKept t
 kept_subscribe s t name n kept is untouched journaled = record {
   stands = accepted_stands s t (Subscribe n name ∷ []) is.accepts;
   held = held_subscribe (view_of s) (view_of t) name n (is_sound s kept) (subscribes s t name n kept.stands is untouched journaled);
 }
 
-pub kept_unsubscribe : (s t : State Kept) (sub : ℕ) → IsKept s → state.Unsubscribes tells limits_of s s.chronicle.entries sub t → ((q : ℕ) → q ≢ sub → place_of t.engine q ≡ place_of s.engine q)
+pub kept_unsubscribe : (s t : State Kept) (sub : ℕ) → IsKept s → state.Unsubscribes sub s.chronicle.entries (AcceptsNext s t) → ((q : ℕ) → q ≢ sub → place_of t.engine q ≡ place_of s.engine q)
     → t.engine.audit.standing.drained ≡ s.engine.audit.standing.drained → t.engine.limits ≡ s.engine.limits → t.engine.audit.limit ≡ s.engine.audit.limit → t.chronicle.limits ≡ s.chronicle.limits → IsKept t
 kept_unsubscribe s t sub kept is others drained streams audit journaled = record {
   stands = accepted_stands s t (Unsubscribe sub ∷ []) is.accepts;
   held = held_unsubscribe (view_of s) (view_of t) sub (is_sound s kept) (unsubscribes s t sub kept.stands is others drained streams audit journaled);
 }
 
-pub kept_receive : (s t : State Kept) (session number : ℕ) (octets : List ℕ) (r : Receipt) → IsKept s → state.Receives tells limits_of s s.chronicle.entries session number octets r t → IsUntouched s.engine t.engine → t.chronicle.limits ≡ s.chronicle.limits → IsKept t
+pub kept_receive : (s t : State Kept) (session number : ℕ) (octets : List ℕ) (r : Receipt) → IsKept s → state.Receives s.engine session number octets r s.chronicle.entries (AcceptsNext s t) → IsUntouched s.engine t.engine → t.chronicle.limits ≡ s.chronicle.limits → IsKept t
 kept_receive s t session number octets r kept is untouched journaled = record {
   stands = accepted_stands s t (state.with_cuts s.engine s.chronicle.entries (Message session number octets)) is.accepts;
   held = held_receive (view_of s) (view_of t) session number octets r (is_sound s kept) (receives s t session number octets r kept.stands is untouched journaled);
 }
 
-pub kept_advance : (s t : State Kept) (time : ℕ) → IsKept s → state.Advances tells limits_of s s.chronicle.entries time t → IsUntouched s.engine t.engine → t.chronicle.limits ≡ s.chronicle.limits → IsKept t
+pub kept_advance : (s t : State Kept) (time : ℕ) → IsKept s → state.Advances s.engine time s.chronicle.entries (AcceptsNext s t) → IsUntouched s.engine t.engine → t.chronicle.limits ≡ s.chronicle.limits → IsKept t
 kept_advance s t time kept is untouched journaled = record {
   stands = accepted_stands s t (state.with_cuts s.engine s.chronicle.entries (Advance time)) is.accepts;
   held = held_advance (view_of s) (view_of t) time (is_sound s kept) (advances s t time kept.stands is untouched journaled);
 }
 
-pub kept_pull : (s t : State Kept) (sub now target : ℕ) (answer : Option (List ℕ)) → IsKept s → now < 2 ^ 32 → target < 2 ^ 16 → state.Pulls tells s s.chronicle.entries sub now target answer t → ((q : ℕ) → q ≢ sub → place_of t.engine q ≡ place_of s.engine q)
+pub kept_pull : (s t : State Kept) (sub now target : ℕ) (answer : Option (List ℕ)) → IsKept s → KeepsHistories s t → now < 2 ^ 32 → target < 2 ^ 16 → state.Pulls s.engine t.engine sub now target answer s.chronicle.entries → ((q : ℕ) → q ≢ sub → place_of t.engine q ≡ place_of s.engine q)
     → t.engine.audit.standing.drained ≡ s.engine.audit.standing.drained → t.engine.limits ≡ s.engine.limits → t.engine.audit.limit ≡ s.engine.audit.limit → t.chronicle.limits ≡ s.chronicle.limits → IsKept t
-kept_pull s t sub now target answer kept time size is others drained streams audit journaled = record {
-  stands = for_journal t s.chronicle.entries is.stands;
-  held = held_pull (view_of s) (view_of t) sub now target answer kept.held (pulls s t sub now target answer kept.stands time size is others drained streams audit journaled);
+kept_pull s t sub now target answer kept keeps time size is others drained streams audit journaled = record {
+  stands = stands_on s t kept.stands keeps;
+  held = held_pull (view_of s) (view_of t) sub now target answer kept.held (pulls s t sub now target answer kept.stands keeps time size is others drained streams audit journaled);
 }
 
 pub kept_drain : (s t : State Kept) (most : ℕ) (out : List AuditEntry) → IsKept s → (out ≡ take most (drop s.engine.audit.standing.drained (audit_list s.chronicle.entries))) × state.StandsFor tells t s.chronicle.entries → ((q : ℕ) → place_of t.engine q ≡ place_of s.engine q)

@@ -150,11 +150,11 @@ waits_behind d h p so =
     ∙ ap (λ n. drop n (parts (disclosed 1 h))) so.place
 
 -- what the state answers to a pull is what the run does
-pub pulls_of : (d e : Run) (m : Option (List ℕ)) → SameButState d e → ((h : List HistoryEntry) → StandsFor tells d.state h → calls.Pulls tells d.state h 1 d.job.now d.job.target m e.state) → Pulls d m e
-pulls_of d e m same got = record {
+pub pulls_of : (d e : Run) (m : Option (List ℕ)) → SameButState d e → calls.KeepsHistories tells d.state e.state → calls.ForEachHistory tells d.state (calls.Pulls d.state.engine e.state.engine 1 d.job.now d.job.target m) → Pulls d m e
+pulls_of d e m same keeps got = record {
   message = λ h p so. (got h so.state).message ∙ ap (λ q. built (disclosed 1 h) q d.job.now d.job.target) so.place;
   stands = λ h p so.
-      stands_on d e h p (place_after (disclosed 1 h) p d.job.target) so same (got h so.state).stands ((got h so.state).moved ∙ ap (λ q. place_after (disclosed 1 h) q d.job.target) so.place);
+      stands_on d e h p (place_after (disclosed 1 h) p d.job.target) so same (keeps h so.state) ((got h so.state).moved ∙ ap (λ q. place_after (disclosed 1 h) q d.job.target) so.place);
 }
 
 -- the same history and the same entries drained: the same entries wait

@@ -17,7 +17,7 @@ use Rattle.mediator_state.specs.declared.fault.Fault.{Fault}
 use Rattle.mediator_state.specs.declared.fault.Fault.TheVariants as fault
 use Rattle.mediator_state.specs.Standing.{IsLiveAs}
 use Rattle.mediator_state.specs.Seen.{place_in, IsUntouched}
-use Rattle.mediator_state.specs.Calls.{StandsFor, Edits, RefusesEdit, Subscribes, RefusesSubscribe, Opens, LacksRoomAfter, HasPolicy}
+use Rattle.mediator_state.specs.Calls.{StandsFor, Accepts, GoesOnBy, Edits, RefusesEdit, Subscribes, RefusesSubscribe, Opens, LacksRoomAfter, HasPolicy}
 use Rattle.mediator_offline.specs.declared.run.Run.{Run}
 use Rattle.mediator_offline.specs.declared.job.OfflineJob.{OfflineJob}
 use Rattle.mediator_offline.specs.Offline.{edited, started, stream_limits, audit_limit, journal_limits}
@@ -48,13 +48,13 @@ pub record Keeps (a b : State Counted) : Type 0 where
   pub journaled : b.chronicle.limits ≡ a.chronicle.limits
 
 abbrev pub EditsAll : State Counted → List ℕ → ℕ → State Counted → Type 0
-EditsAll a text n b = (h : List Entry) → StandsFor tells a h → Edits tells (λ t. t.limits) a h text n b
+EditsAll a text n b = GoesOnBy tells (λ t. t.limits) a b (Edits text n)
 
 abbrev pub SubscribesAll : State Counted → List ℕ → ℕ → State Counted → Type 0
-SubscribesAll a name n b = (h : List Entry) → StandsFor tells a h → Subscribes tells (λ t. t.limits) a h name n b
+SubscribesAll a name n b = GoesOnBy tells (λ t. t.limits) a b (Subscribes name n)
 
 abbrev pub OpensAll : State Counted → ℕ → State Counted → Type 0
-OpensAll a n b = (h : List Entry) → StandsFor tells a h → Opens tells (λ t. t.limits) a h n b
+OpensAll a n b = GoesOnBy tells (λ t. t.limits) a b (Opens n)
 
 pub edited_stands : (a b : State Counted) (job : OfflineJob) (n : ℕ) → IsMade a → EditsAll a job.policy.now n b → StandsFor tells b (edited job)
 edited_stands a b job n m e = (e [] m.stands).accepts.stands
@@ -126,10 +126,10 @@ opened d a b c job n k i same messages records sent m ab e bc s cd o = record {
     h2 : List Entry
     h2 = Edit job.policy.now ∷ Subscribe 1 job.name.now ∷ []
 
-    named : Subscribes tells (λ t. t.limits) b (edited job) job.name.now k c
+    named : Subscribes job.name.now k (edited job) (Accepts tells (λ t. t.limits) b c (edited job))
     named = s (edited job) (edited_stands a b job n m e)
 
-    last : Opens tells (λ t. t.limits) c h2 i d.state
+    last : Opens i h2 (Accepts tells (λ t. t.limits) c d.state h2)
     last = o h2 (subscribed_stands a b c job n k m e s)
 
     journal : c.chronicle.limits ≡ journal_limits

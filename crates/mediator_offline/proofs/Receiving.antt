@@ -167,7 +167,7 @@ pub record Taken (old new : Run) (octets : List ℕ) (r : Receipt) : Type 0 wher
   pub records : new.records ≡ old.records + r.records
   pub untouched : IsUntouched old.state.engine new.state.engine
   pub journaled : new.state.chronicle.limits ≡ old.state.chronicle.limits
-  pub receives : (h : List Entry) → StandsFor tells old.state h → calls.Receives tells (λ t. t.limits) old.state h 1 old.messages octets r new.state
+  pub receives : calls.GoesOnBy tells (λ t. t.limits) old.state new.state (calls.Receives old.state.engine 1 old.messages octets r)
 
 accepts_it : (old new : Run) (octets : List ℕ) (r : Receipt) (h : List Entry) → Taken old new octets r → Stands old h (end_of h) → Accepts h octets
 accepts_it old new octets r h t so =
@@ -196,7 +196,7 @@ goes_on old new octets r h t so small none = (subst (λ x. Stands new x (end_of 
     whole : after_message h octets ≡ h ++ next ∷ []
     whole = ap (λ cuts. h ++ (cuts ++ next ∷ [])) none
 
-    got : calls.Receives tells (λ t. t.limits) old.state h 1 old.messages octets r new.state
+    got : calls.Receives old.state.engine 1 old.messages octets r h (calls.Accepts tells (λ t. t.limits) old.state new.state h)
     got = t.receives h so.state
 
     room : HasRoomAfter journal_limits h (next ∷ [])
@@ -253,11 +253,11 @@ received old new octets r t = record {
 octets_few : (h : List Entry) (octets : List ℕ) → HasRoomAfter journal_limits h (next_message h octets ∷ []) → length octets < 2 ^ 32
 octets_few h octets room = room.spelled 0 (next_message h octets) (omega arith)
 
-pub records_fit : (old new : Run) (octets : List ℕ) (r : Receipt) → HasDelivered old → ((h : List Entry) → StandsFor tells old.state h → calls.Receives tells (λ t. t.limits) old.state h 1 old.messages octets r new.state) → old.records + r.records < 2 ^ 64
+pub records_fit : (old new : Run) (octets : List ℕ) (r : Receipt) → HasDelivered old → calls.GoesOnBy tells (λ t. t.limits) old.state new.state (calls.Receives old.state.engine 1 old.messages octets r) → old.records + r.records < 2 ^ 64
 records_fit old new octets r had receives =
     omega (arith, had.stands.records, had.small.records, had.small.octets, ap (λ x. x.records) got.receipt, ap (λ x. length (records_meant x)) (sym got.means), few_records (messages_of 1 had.history) octets, long)
   where
-    got : calls.Receives tells (λ t. t.limits) old.state had.history 1 old.messages octets r new.state
+    got : calls.Receives old.state.engine 1 old.messages octets r had.history (calls.Accepts tells (λ t. t.limits) old.state new.state had.history)
     got = receives had.history had.stands.state
 
     room : HasRoomAfter journal_limits had.history (with_cuts old.state.engine had.history (Message 1 old.messages octets))

@@ -21,7 +21,7 @@ use Rattle.mediator_state.specs.Seen.{waiting_of, IsSameEngine}
 use Rattle.mediator_state.specs.Planning.{IsJudged}
 use Rattle.mediator_state.specs.Accepting.{LacksAudit}
 use Rattle.mediator_state.specs.Advancing.{HasRoomToClose, IsClosingFor}
-use Rattle.mediator_state.specs.Calls.{StandsFor, AuditHolds, with_cuts, Advances, RefusesAdvance}
+use Rattle.mediator_state.specs.Calls.{StandsFor, Accepts, AuditHolds, with_cuts, Advances, RefusesAdvance}
 use Rattle.mediator_state.proofs.SameLaws.{stands_same, judged_same}
 use Rattle.mediator_state.proofs.CallLaws.{room_after, room_before, length-cut_entries, audit_holds}
 use Rattle.event_journal.specs.declared.limits.TheConstants.{MOST_ENTRIES}
@@ -103,7 +103,7 @@ AcceptsClosing e position t c new = (h : List Entry) → Stands e h → length h
 
 pub advanced : {C : Type 0} (tells : C → List Entry → Type 0) (limits : C → Journaled) (old new : State C) (e : Engine) (count sizes : ℕ) (h : List Entry) (t : ℕ) (c : Closing) (entries : List Entry) (position : ℕ)
     → StandsFor tells old h → IsCountOf h count sizes → position ≡ count → IsClosing old.engine h t c entries → HasRoom (limits old.chronicle) count sizes entries → IsSameEngine old.engine e → AuditHolds old.engine h (with_cuts old.engine h (Advance t))
-    → tells new.chronicle (h ++ entries) → AcceptsClosing e position t c new.engine → Advances tells limits old h t new
+    → tells new.chronicle (h ++ entries) → AcceptsClosing e position t c new.engine → Advances old.engine t h (Accepts tells limits old new h)
 advanced tells limits old new e count sizes h t c entries position stands counts at f room same held told accepts =
     let same_entries : entries ≡ with_cuts old.engine h (Advance t) = entries_closing old.engine h t c entries f in
     let after : Stands new.engine (after_cuts h c.cuts.items ++ Advance t ∷ []) =

@@ -244,7 +244,7 @@ AcceptsPlan e position p new = (h : List Entry) (number : ℕ) (octets : List �
 
 pub received : {C : Type 0} (tells : C → List Entry → Type 0) (limits : C → Journaled) (old new : State C) (e : Engine) (count sizes : ℕ) (h : List Entry) (session number : ℕ) (octets : List ℕ) (p : Plan) (entries : List Entry) (r : Receipt) (position : ℕ)
     → StandsFor tells old h → IsCountOf h count sizes → position ≡ count → IsFound old.engine h session number octets p entries → HasRoom (limits old.chronicle) count sizes entries → IsSameEngine old.engine e → AuditHolds old.engine h (with_cuts old.engine h (Message session number octets))
-    → tells new.chronicle (h ++ entries) → AcceptsPlan e position p new.engine → r ≡ receipt_of position (length p.cuts.items) p.reading.meaning → Receives tells limits old h session number octets r new
+    → tells new.chronicle (h ++ entries) → AcceptsPlan e position p new.engine → r ≡ receipt_of position (length p.cuts.items) p.reading.meaning → Receives old.engine session number octets r h (Accepts tells limits old new h)
 received tells limits old new e count sizes h session number octets p entries r position stands c at f room same held told accepts receipt =
     let counted : length h ≡ position = sym (at ∙ c.entries) in
     let same_entries : entries ≡ with_cuts old.engine h (Message session number octets) = entries_are old.engine h session number octets p entries f.session_is f.entries_made f.plan in
@@ -276,7 +276,7 @@ pub accepts_one : {C : Type 0} (tells : C → List Entry → Type 0) (limits : C
     → HasRoom (limits mid.chronicle) (count mid.chronicle) (sizes mid.chronicle) (written ∷ []) → written ≡ entry
     → ((g : List Entry) → tells old.chronicle g → tells mid.chronicle g) → ((g : List Entry) → tells mid.chronicle g → tells chronicle (g ++ written ∷ []))
     → mid.engine ≡ old.engine → ((g : List Entry) → Stands mid.engine g → Stands engine (g ++ entry ∷ []))
-    → Accepts tells limits old h (entry ∷ []) (record { chronicle = chronicle; engine = engine })
+    → Accepts tells limits old (record { chronicle = chronicle; engine = engine }) h (entry ∷ [])
 accepts_one tells limits count sizes old mid chronicle engine h written entry s c same_limits same_count same_sizes room is keeps goes_on same_engine stands = record {
   room = room_after (limits old.chronicle) (count old.chronicle) (sizes old.chronicle) h (entry ∷ []) c
       (subst (λ (l : Journaled). HasRoom l (count old.chronicle) (sizes old.chronicle) (entry ∷ [])) same_limits

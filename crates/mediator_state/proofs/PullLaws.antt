@@ -67,16 +67,15 @@ pull_stands d t h sub now target answer s live others served r = record {
   small = s.small;
 }
 
-pub pulls : {C : Type 0} (tells : C → List Entry → Type 0) (old : State C) (t : Table) (h : List Entry) (sub now target : ℕ) (answer : Option (List ℕ)) → StandsFor tells old h → is_live sub h ≡ true → ((q : ℕ) → q ≢ sub → at t q ≡ at old.engine.subscriptions q) → t.served ≡ old.engine.subscriptions.served → Related (PullsOne now target answer) (at old.engine.subscriptions sub) (at t sub)
-    → Pulls tells old h sub now target answer (record { chronicle = old.chronicle; engine = record old.engine { subscriptions = t } })
-pulls tells old t h sub now target answer s live others served r =
-    let one : IsPulled h old.engine.limits sub now target answer (at old.engine.subscriptions sub) (at t sub) = pulled h old.engine.limits sub now target answer (at old.engine.subscriptions sub) (at t sub) live r (s.stands.subscriptions sub) in
-    record {
-      live = live;
-      message = one.message;
-      stands = record { told = s.told; stands = pull_stands old.engine t h sub now target answer s.stands live others served r };
-      moved = one.moved;
-    }
+pub pulls : (d : Engine) (t : Table) (h : List Entry) (sub now target : ℕ) (answer : Option (List ℕ)) → Stands d h → is_live sub h ≡ true → Related (PullsOne now target answer) (at d.subscriptions sub) (at t sub) → Pulls d (record d { subscriptions = t }) sub now target answer h
+pulls d t h sub now target answer s live r =
+    let one : IsPulled h d.limits sub now target answer (at d.subscriptions sub) (at t sub) = pulled h d.limits sub now target answer (at d.subscriptions sub) (at t sub) live r (s.subscriptions sub) in
+    record { live = live; message = one.message; moved = one.moved }
+
+-- the history stays
+pub pull_keeps : {C : Type 0} (tells : C → List Entry → Type 0) (old : State C) (t : Table) (h : List Entry) (sub now target : ℕ) (answer : Option (List ℕ)) → StandsFor tells old h → is_live sub h ≡ true → ((q : ℕ) → q ≢ sub → at t q ≡ at old.engine.subscriptions q) → t.served ≡ old.engine.subscriptions.served → Related (PullsOne now target answer) (at old.engine.subscriptions sub) (at t sub)
+    → StandsFor tells (record { chronicle = old.chronicle; engine = record old.engine { subscriptions = t } }) h
+pull_keeps tells old t h sub now target answer s live others served r = record { told = s.told; stands = pull_stands old.engine t h sub now target answer s.stands live others served r }
 
 -- a table that is the same for all that contracts see
 pub same_table : (d : Engine) (t : Table) → SameTable d.subscriptions t → IsSameEngine d (record d { subscriptions = t })

@@ -50,10 +50,22 @@ pub record StandsForSome {C : Type 0} (tells : C → List Entry → Type 0) (s :
   pub history : List Entry
   pub stands : StandsFor tells s history
 
--- behind the history there was room for these entries, and it goes on with them
-pub record Accepts {C : Type 0} (tells : C → List Entry → Type 0) (limits : C → Journaled) (old : State C) (h more : List Entry) (new : State C) : Type 0 where
+-- whichever history the state stands for, this holds of it
+abbrev pub ForEachHistory : {C : Type 0} → (C → List Entry → Type 0) → State C → (List Entry → Type 0) → Type 0
+ForEachHistory tells s P = (h : List Entry) → StandsFor tells s h → P h
+
+-- the new state stands for each history that the old one stood for
+abbrev pub KeepsHistories : {C : Type 0} → (C → List Entry → Type 0) → State C → State C → Type 0
+KeepsHistories tells old new = ForEachHistory tells old (StandsFor tells new)
+
+-- a step: behind the history there was room for these entries, and the new state stands for it with them
+pub record Accepts {C : Type 0} (tells : C → List Entry → Type 0) (limits : C → Journaled) (old new : State C) (h more : List Entry) : Type 0 where
   pub room : HasRoomAfter (limits old.chronicle) h more
   pub stands : StandsFor tells new (h ++ more)
+
+-- whichever history the state stood for, this holds of it, and of the entries that were accepted behind it
+abbrev pub GoesOnBy : {C : Type 0} → (C → List Entry → Type 0) → (C → Journaled) → State C → State C → (List Entry → (List Entry → Type 0) → Type 0) → Type 0
+GoesOnBy tells limits old new P = ForEachHistory tells old (λ h. P h (Accepts tells limits old new h))
 
 -- what waits to be drained is no more than the audit's limit, before these entries behind a history and with what it names of them
 pub record AuditHolds (e : Engine) (h more : List Entry) : Type 0 where
@@ -70,16 +82,22 @@ LacksRoom _ limits count octets more = ⊥
 abbrev pub LacksRoomAfter : Fault → Journaled → List Entry → List Entry → Type 0
 LacksRoomAfter e limits h more = LacksRoom e limits (length h) (history_octets h) more
 
+-- Below a record for each call says what it answers behind a history h, and which entries were accepted then: `accepted` tells of
+-- these. What a call refuses is said beside it.
+
 -- ---- sessions
 
 -- the next number, from 1 on
-pub record Opens {C : Type 0} (tells : C → List Entry → Type 0) (limits : C → Journaled) (old : State C) (h : List Entry) (n : ℕ) (new : State C) : Type 0 where
+pub record Opens (n : ℕ) (h : List Entry) (accepted : List Entry → Type 0) : Type 0 where
   pub number : n ≡ sessions_opened h + 1
-  pub accepts : Accepts tells limits old h (Open n ∷ []) new
+  pub accepts : accepted (Open n ∷ [])
 
-pub record Closes {C : Type 0} (tells : C → List Entry → Type 0) (limits : C → Journaled) (old : State C) (h : List Entry) (session : ℕ) (new : State C) : Type 0 where
+abbrev pub RefusesOpen : Fault → Journaled → List Entry → Type 0
+RefusesOpen e limits h = LacksRoomAfter e limits h (Open (sessions_opened h + 1) ∷ [])
+
+pub record Closes (session : ℕ) (h : List Entry) (accepted : List Entry → Type 0) : Type 0 where
   pub opened : is_open session h ≡ true
-  pub accepts : Accepts tells limits old h (Close session ∷ []) new
+  pub accepts : accepted (Close session ∷ [])
 
 abbrev pub RefusesClose : Fault → Journaled → List Entry → ℕ → Type 0
 RefusesClose fault.UnknownSession limits h session = is_open session h ≡ false
@@ -92,13 +110,13 @@ abbrev pub with_cuts : Engine → List Entry → Entry → List Entry
 with_cuts e h entry = cuts_before e.limits h entry (waiting_of e) ++ entry ∷ []
 
 -- the message is the next of its session, the audit holds it, it and its cuts are accepted, and this is its receipt
-pub record Receives {C : Type 0} (tells : C → List Entry → Type 0) (limits : C → Journaled) (old : State C) (h : List Entry) (session number : ℕ) (octets : List ℕ) (r : Receipt) (new : State C) : Type 0 where
+pub record Receives (e : Engine) (session number : ℕ) (octets : List ℕ) (r : Receipt) (h : List Entry) (accepted : List Entry → Type 0) : Type 0 where
   pub next : IsNext h session number
   pub meaning : Meaning
   pub means : meaning_of (messages_of session h) octets ≡ Ok meaning
-  pub audit : AuditHolds old.engine h (with_cuts old.engine h (Message session number octets))
-  pub accepts : Accepts tells limits old h (with_cuts old.engine h (Message session number octets)) new
-  pub receipt : r ≡ receipt_of (length h) (length (cuts_before old.engine.limits h (Message session number octets) (waiting_of old.engine))) meaning
+  pub audit : AuditHolds e h (with_cuts e h (Message session number octets))
+  pub accepts : accepted (with_cuts e h (Message session number octets))
+  pub receipt : r ≡ receipt_of (length h) (length (cuts_before e.limits h (Message session number octets) (waiting_of e))) meaning
 
 -- the octets are a message of the session
 pub record HasMeaning (h : List Entry) (session : ℕ) (octets : List ℕ) : Type 0 where
@@ -135,10 +153,10 @@ RefusesSnapshot _ h session = ⊥
 -- ---- the clock
 
 -- the time isn't before that of the last advance, the audit holds the advance's cuts, and both are accepted
-pub record Advances {C : Type 0} (tells : C → List Entry → Type 0) (limits : C → Journaled) (old : State C) (h : List Entry) (t : ℕ) (new : State C) : Type 0 where
+pub record Advances (e : Engine) (t : ℕ) (h : List Entry) (accepted : List Entry → Type 0) : Type 0 where
   pub ahead : clock_of h ≤ t
-  pub audit : AuditHolds old.engine h (with_cuts old.engine h (Advance t))
-  pub accepts : Accepts tells limits old h (with_cuts old.engine h (Advance t)) new
+  pub audit : AuditHolds e h (with_cuts e h (Advance t))
+  pub accepts : accepted (with_cuts e h (Advance t))
 
 -- the clock stands later; else the journal is judged, and then the audit, whose need and room are told; memory runs out only where
 -- the clock doesn't stand later
@@ -155,11 +173,11 @@ RefusesAdvance _ limits e h t = ⊥
 -- ---- policies
 
 -- the number of edits so far
-pub record Edits {C : Type 0} (tells : C → List Entry → Type 0) (limits : C → Journaled) (old : State C) (h : List Entry) (text : List ℕ) (n : ℕ) (new : State C) : Type 0 where
+pub record Edits (text : List ℕ) (n : ℕ) (h : List Entry) (accepted : List Entry → Type 0) : Type 0 where
   pub policy : Policy
   pub spelled : policy_of text ≡ Ok policy
   pub number : n ≡ edits_made h + 1
-  pub accepts : Accepts tells limits old h (Edit text ∷ []) new
+  pub accepts : accepted (Edit text ∷ [])
 
 pub record HasPolicy (text : List ℕ) : Type 0 where
   pub policy : Policy
@@ -182,11 +200,11 @@ abbrev pub IsFree : List Entry → List ℕ → Type 0
 IsFree h name = (sub : ℕ) → is_live sub h ≡ true → name_of sub h ≢ name
 
 -- the next number, from 1 on
-pub record Subscribes {C : Type 0} (tells : C → List Entry → Type 0) (limits : C → Journaled) (old : State C) (h : List Entry) (name : List ℕ) (n : ℕ) (new : State C) : Type 0 where
+pub record Subscribes (name : List ℕ) (n : ℕ) (h : List Entry) (accepted : List Entry → Type 0) : Type 0 where
   pub named : is_name name ≡ true
   pub free : IsFree h name
   pub number : n ≡ subscriptions_begun h + 1
-  pub accepts : Accepts tells limits old h (Subscribe n name ∷ []) new
+  pub accepts : accepted (Subscribe n name ∷ [])
 
 abbrev pub RefusesSubscribe : Fault → Journaled → List Entry → List ℕ → Type 0
 RefusesSubscribe fault.BadName limits h name = is_name name ≡ false
@@ -194,9 +212,9 @@ RefusesSubscribe (fault.AlreadySubscribed sub) limits h name = (is_name name ≡
 RefusesSubscribe fault.OutOfMemory limits h name = (is_name name ≡ true) × IsFree h name
 RefusesSubscribe e limits h name = (is_name name ≡ true) × IsFree h name × LacksRoomAfter e limits h (Subscribe (subscriptions_begun h + 1) name ∷ [])
 
-pub record Unsubscribes {C : Type 0} (tells : C → List Entry → Type 0) (limits : C → Journaled) (old : State C) (h : List Entry) (sub : ℕ) (new : State C) : Type 0 where
+pub record Unsubscribes (sub : ℕ) (h : List Entry) (accepted : List Entry → Type 0) : Type 0 where
   pub live : is_live sub h ≡ true
-  pub accepts : Accepts tells limits old h (Unsubscribe sub ∷ []) new
+  pub accepts : accepted (Unsubscribe sub ∷ [])
 
 abbrev pub RefusesUnsubscribe : Fault → Journaled → List Entry → ℕ → Type 0
 RefusesUnsubscribe fault.UnknownSub limits h sub = is_live sub h ≡ false
@@ -205,11 +223,10 @@ RefusesUnsubscribe e limits h sub = (is_live sub h ≡ true) × LacksRoomAfter e
 -- ---- what is handed out
 
 -- the message built at the place up to which the parts of what is disclosed were handed out, which then moves past it
-pub record Pulls {C : Type 0} (tells : C → List Entry → Type 0) (old : State C) (h : List Entry) (sub now target : ℕ) (answer : Option (List ℕ)) (new : State C) : Type 0 where
+pub record Pulls (old new : Engine) (sub now target : ℕ) (answer : Option (List ℕ)) (h : List Entry) : Type 0 where
   pub live : is_live sub h ≡ true
-  pub message : answer ≡ built (disclosed sub h) (place_of old.engine sub) now target
-  pub stands : StandsFor tells new h
-  pub moved : place_of new.engine sub ≡ place_after (disclosed sub h) (place_of old.engine sub) target
+  pub message : answer ≡ built (disclosed sub h) (place_of old sub) now target
+  pub moved : place_of new sub ≡ place_after (disclosed sub h) (place_of old sub) target
 
 abbrev pub RefusesPull : Fault → List Entry → ℕ → Type 0
 RefusesPull fault.UnknownSub h sub = is_live sub h ≡ false

@@ -51,9 +51,8 @@ pub struct State<C> {
 }
 
 impl<C: Chronicle + Drop> State<C> {
-    ghost use Rattle.mediator_state.specs.Calls.{StandsFor, StandsForSome, AreLimits, LacksRoom, LacksRoomAfter, Opens, Closes, RefusesClose};
+    ghost use Rattle.mediator_state.specs.Calls.{StandsFor, StandsForSome, ForEachHistory, KeepsHistories, GoesOnBy, AreLimits, LacksRoom, Opens, RefusesOpen, Closes, RefusesClose};
     ghost use Rattle.mediator_state.specs.Seen.{IsUntouched};
-    ghost use Rattle.mediator_history.specs.Sessions.{sessions_opened};
 
     /// A state before any entry: no session is open, nobody is subscribed, and the policy has no rules. It holds no
     /// more than `limits` allow, each in its range, and its history is kept by `chronicle`, which has no entry. All of
@@ -83,8 +82,7 @@ impl<C: Chronicle + Drop> State<C> {
     /// Hashes by `keys` what exporters choose: the keys of groups, and templates, of subscriptions that begin from now
     /// on. It shows in no answer.
     pub fn hash_by(&mut self, keys: HashKeys)
-        ensures unchanged { (h : List Entry) → StandsFor C.tells self.old h
-            → StandsFor C.tells self.new h }
+        ensures unchanged { KeepsHistories C.tells self.old self.new }
         ensures untouched { IsUntouched self.old.engine self.new.engine }
         ensures journaled { C.limits self.new.chronicle ≡ C.limits self.old.chronicle }
     {
@@ -141,16 +139,13 @@ impl<C: Chronicle + Drop> State<C> {
     pub fn open(&mut self) -> Result<u64, Fault>
         requires stands { StandsForSome C.tells self.old }
         // The entry of the call stands as the next one, and nothing is handed out.
-        ensures ok { IfOk result (λ n. (h : List Entry) → StandsFor C.tells self.old h
-            → Opens C.tells C.limits self.old h n self.new) }
+        ensures ok { IfOk result (λ n. GoesOnBy C.tells C.limits self.old self.new (Opens n)) }
         ensures untouched { IsUntouched self.old.engine self.new.engine }
         // A refused call changes nothing, and names the first cause. The limits of the journal stay in any case.
-        ensures unchanged { OnErr result ((h : List Entry) → StandsFor C.tells self.old h
-            → StandsFor C.tells self.new h) }
+        ensures unchanged { OnErr result (KeepsHistories C.tells self.old self.new) }
         ensures journaled { C.limits self.new.chronicle ≡ C.limits self.old.chronicle }
-        ensures err { IfErr result (λ e. (h : List Entry) → StandsFor C.tells self.old h
-            → LacksRoomAfter e (C.limits self.old.chronicle) h
-            (Open (sessions_opened h + 1) ∷ [])) }
+        ensures err { IfErr result (λ e. ForEachHistory C.tells self.old
+            (RefusesOpen e (C.limits self.old.chronicle))) }
     {
         let session = self.engine.next_session(self.chronicle.len());
         let entry = Entry::Open { session };
@@ -168,15 +163,13 @@ impl<C: Chronicle + Drop> State<C> {
     pub fn close(&mut self, session: u64) -> Result<(), Fault>
         requires stands { StandsForSome C.tells self.old }
         // The entry of the call stands as the next one, and nothing is handed out.
-        ensures ok { OnOk result ((h : List Entry) → StandsFor C.tells self.old h
-            → Closes C.tells C.limits self.old h session self.new) }
+        ensures ok { OnOk result (GoesOnBy C.tells C.limits self.old self.new (Closes session)) }
         ensures untouched { IsUntouched self.old.engine self.new.engine }
         // A refused call changes nothing, and names the first cause. The limits of the journal stay in any case.
-        ensures unchanged { OnErr result ((h : List Entry) → StandsFor C.tells self.old h
-            → StandsFor C.tells self.new h) }
+        ensures unchanged { OnErr result (KeepsHistories C.tells self.old self.new) }
         ensures journaled { C.limits self.new.chronicle ≡ C.limits self.old.chronicle }
-        ensures err { IfErr result (λ e. (h : List Entry) → StandsFor C.tells self.old h
-            → RefusesClose e (C.limits self.old.chronicle) h session) }
+        ensures err { IfErr result (λ e. ForEachHistory C.tells self.old
+            (λ h. RefusesClose e (C.limits self.old.chronicle) h session)) }
     {
         if !self.engine.is_open(session) {
             return Err(Fault::UnknownSession);
@@ -190,7 +183,7 @@ impl<C: Chronicle + Drop> State<C> {
 }
 
 impl<C: Chronicle + Drop> State<C> {
-    ghost use Rattle.mediator_state.specs.Calls.{StandsFor, StandsForSome, Receives, RefusesReceive, RefusesReceivePrepared, IsSnapshot, RefusesSnapshot, Edits, RefusesEdit, Subscribes, RefusesSubscribe, Unsubscribes, RefusesUnsubscribe, Advances, RefusesAdvance};
+    ghost use Rattle.mediator_state.specs.Calls.{StandsForSome, ForEachHistory, KeepsHistories, GoesOnBy, Receives, RefusesReceive, RefusesReceivePrepared, IsSnapshot, RefusesSnapshot, Edits, RefusesEdit, Subscribes, RefusesSubscribe, Unsubscribes, RefusesUnsubscribe, Advances, RefusesAdvance};
     ghost use Rattle.mediator_state.specs.Seen.{IsUntouched, place_of};
     ghost use Rattle.mediator_state.specs.Planning.{IsNextReading};
 
@@ -205,16 +198,15 @@ impl<C: Chronicle + Drop> State<C> {
     pub fn receive(&mut self, session: u64, number: u64, message: Bytes) -> Result<Receipt, Fault>
         requires stands { StandsForSome C.tells self.old }
         // The message stands as the next entry, behind the cuts that it makes, and nothing is handed out.
-        ensures ok { IfOk result (λ r. (h : List Entry) → StandsFor C.tells self.old h
-            → Receives C.tells C.limits self.old h session number message r self.new) }
+        ensures ok { IfOk result (λ r. GoesOnBy C.tells C.limits self.old self.new
+            (Receives self.old.engine session number message r)) }
         ensures untouched { IsUntouched self.old.engine self.new.engine }
         // A refused call changes nothing, and names the first cause. The limits of the journal stay in any case.
-        ensures unchanged { OnErr result ((h : List Entry) → StandsFor C.tells self.old h
-            → StandsFor C.tells self.new h) }
+        ensures unchanged { OnErr result (KeepsHistories C.tells self.old self.new) }
         ensures journaled { C.limits self.new.chronicle ≡ C.limits self.old.chronicle }
-        ensures err { IfErr result (λ e. (h : List Entry) → StandsFor C.tells self.old h
-            → RefusesReceive e (C.limits self.old.chronicle) self.old.engine h
-            session number message) }
+        ensures err { IfErr result (λ e. ForEachHistory C.tells self.old
+            (λ h. RefusesReceive e (C.limits self.old.chronicle) self.old.engine h
+            session number message)) }
     {
         self.receive_judged(session, number, message, None)
     }
@@ -234,16 +226,15 @@ impl<C: Chronicle + Drop> State<C> {
     ) -> Result<Receipt, Fault>
         requires stands { StandsForSome C.tells self.old }
         // The message stands as the next entry, behind the cuts that it makes, and nothing is handed out.
-        ensures ok { IfOk result (λ r. (h : List Entry) → StandsFor C.tells self.old h
-            → Receives C.tells C.limits self.old h session number message r self.new) }
+        ensures ok { IfOk result (λ r. GoesOnBy C.tells C.limits self.old self.new
+            (Receives self.old.engine session number message r)) }
         ensures untouched { IsUntouched self.old.engine self.new.engine }
         // A refused call changes nothing, and names the first cause. The limits of the journal stay in any case.
-        ensures unchanged { OnErr result ((h : List Entry) → StandsFor C.tells self.old h
-            → StandsFor C.tells self.new h) }
+        ensures unchanged { OnErr result (KeepsHistories C.tells self.old self.new) }
         ensures journaled { C.limits self.new.chronicle ≡ C.limits self.old.chronicle }
-        ensures err { IfErr result (λ e. (h : List Entry) → StandsFor C.tells self.old h
-            → RefusesReceive e (C.limits self.old.chronicle) self.old.engine h
-            session number message) }
+        ensures err { IfErr result (λ e. ForEachHistory C.tells self.old
+            (λ h. RefusesReceive e (C.limits self.old.chronicle) self.old.engine h
+            session number message)) }
     {
         let reading = self.engine.read(session, number, &message)?;
         let judgement = judgement_of(ahead, &reading);
@@ -257,16 +248,15 @@ impl<C: Chronicle + Drop> State<C> {
     /// # Errors
     /// [`Fault::UnknownSession`] where the session isn't open; or [`Fault::OutOfMemory`].
     pub fn snapshot(&mut self, session: u64) -> Result<Snapshot, Fault>
-        ensures ok { IfOk result (λ snapshot. (h : List Entry) → StandsFor C.tells self.old h
-            → IsSnapshot h session snapshot) }
+        ensures ok { IfOk result (λ snapshot. ForEachHistory C.tells self.old
+            (λ h. IsSnapshot h session snapshot)) }
         // Nothing changes.
-        ensures unchanged { (h : List Entry) → StandsFor C.tells self.old h
-            → StandsFor C.tells self.new h }
+        ensures unchanged { KeepsHistories C.tells self.old self.new }
         ensures untouched { IsUntouched self.old.engine self.new.engine }
         ensures journaled { C.limits self.new.chronicle ≡ C.limits self.old.chronicle }
         // A refusal names the first cause.
-        ensures err { IfErr result (λ e. (h : List Entry) → StandsFor C.tells self.old h
-            → RefusesSnapshot e h session) }
+        ensures err { IfErr result (λ e. ForEachHistory C.tells self.old
+            (λ h. RefusesSnapshot e h session)) }
     {
         self.engine.snapshot(session)
     }
@@ -287,16 +277,15 @@ impl<C: Chronicle + Drop> State<C> {
     ) -> Result<Receipt, (Fault, Prepared)>
         requires stands { StandsForSome C.tells self.old }
         // The message stands as the next entry, behind the cuts that it makes, and nothing is handed out.
-        ensures ok { IfOk result (λ r. (h : List Entry) → StandsFor C.tells self.old h
-            → Receives C.tells C.limits self.old h session number prepared.message r self.new) }
+        ensures ok { IfOk result (λ r. GoesOnBy C.tells C.limits self.old self.new
+            (Receives self.old.engine session number prepared.message r)) }
         ensures untouched { IsUntouched self.old.engine self.new.engine }
         // A refused call changes nothing, and names the first cause. The limits of the journal stay in any case.
-        ensures unchanged { OnErr result ((h : List Entry) → StandsFor C.tells self.old h
-            → StandsFor C.tells self.new h) }
+        ensures unchanged { OnErr result (KeepsHistories C.tells self.old self.new) }
         ensures journaled { C.limits self.new.chronicle ≡ C.limits self.old.chronicle }
-        ensures err { IfErr result (λ e. (h : List Entry) → StandsFor C.tells self.old h
-            → RefusesReceivePrepared e.0 (C.limits self.old.chronicle) self.old.engine h
-            session number prepared) }
+        ensures err { IfErr result (λ e. ForEachHistory C.tells self.old
+            (λ h. RefusesReceivePrepared e.0 (C.limits self.old.chronicle) self.old.engine h
+            session number prepared)) }
         // The message is handed back, to be prepared anew or offered again.
         ensures handed_back { IfErr result (λ e. e.1 ≡ prepared) }
     {
@@ -320,16 +309,15 @@ impl<C: Chronicle + Drop> State<C> {
     ) -> Result<Receipt, Fault>
         requires stands { StandsForSome C.tells self.old }
         // The message stands as the next entry, behind the cuts that it makes, and nothing is handed out.
-        ensures ok { IfOk result (λ r. (h : List Entry) → StandsFor C.tells self.old h
-            → Receives C.tells C.limits self.old h session number prepared.old.message r self.new) }
+        ensures ok { IfOk result (λ r. GoesOnBy C.tells C.limits self.old self.new
+            (Receives self.old.engine session number prepared.old.message r)) }
         ensures untouched { IsUntouched self.old.engine self.new.engine }
         // A refused call changes nothing, and names the first cause. The limits of the journal stay in any case.
-        ensures unchanged { OnErr result ((h : List Entry) → StandsFor C.tells self.old h
-            → StandsFor C.tells self.new h) }
+        ensures unchanged { OnErr result (KeepsHistories C.tells self.old self.new) }
         ensures journaled { C.limits self.new.chronicle ≡ C.limits self.old.chronicle }
-        ensures err { IfErr result (λ e. (h : List Entry) → StandsFor C.tells self.old h
-            → RefusesReceivePrepared e (C.limits self.old.chronicle) self.old.engine h
-            session number prepared.old) }
+        ensures err { IfErr result (λ e. ForEachHistory C.tells self.old
+            (λ h. RefusesReceivePrepared e (C.limits self.old.chronicle) self.old.engine h
+            session number prepared.old)) }
         // What was read of the message stays.
         ensures lent { prepared.new ≡ prepared.old }
     {
@@ -356,19 +344,18 @@ impl<C: Chronicle + Drop> State<C> {
         requires stands { StandsForSome C.tells self.old }
         requires judgement { IfSome judgement
             (IsJudgementOf reading.meaning.header.domain reading.meaning.records) }
-        requires read { (h : List Entry) → StandsFor C.tells self.old h
-            → IsNextReading h session number message reading }
+        requires read { ForEachHistory C.tells self.old
+            (λ h. IsNextReading h session number message reading) }
         // The message stands as the next entry, behind the cuts that it makes, and nothing is handed out.
-        ensures ok { IfOk result (λ r. (h : List Entry) → StandsFor C.tells self.old h
-            → Receives C.tells C.limits self.old h session number message r self.new) }
+        ensures ok { IfOk result (λ r. GoesOnBy C.tells C.limits self.old self.new
+            (Receives self.old.engine session number message r)) }
         ensures untouched { IsUntouched self.old.engine self.new.engine }
         // A refused call changes nothing, and names the first cause. The limits of the journal stay in any case.
-        ensures unchanged { OnErr result ((h : List Entry) → StandsFor C.tells self.old h
-            → StandsFor C.tells self.new h) }
+        ensures unchanged { OnErr result (KeepsHistories C.tells self.old self.new) }
         ensures journaled { C.limits self.new.chronicle ≡ C.limits self.old.chronicle }
-        ensures err { IfErr result (λ e. (h : List Entry) → StandsFor C.tells self.old h
-            → RefusesReceive e (C.limits self.old.chronicle) self.old.engine h
-            session number message) }
+        ensures err { IfErr result (λ e. ForEachHistory C.tells self.old
+            (λ h. RefusesReceive e (C.limits self.old.chronicle) self.old.engine h
+            session number message)) }
     {
         see_octets(&message);
         let position = self.chronicle.len();
@@ -397,15 +384,13 @@ impl<C: Chronicle + Drop> State<C> {
     pub fn edit(&mut self, text: &str) -> Result<u64, Fault>
         requires stands { StandsForSome C.tells self.old }
         // The entry of the call stands as the next one, and nothing is handed out.
-        ensures ok { IfOk result (λ n. (h : List Entry) → StandsFor C.tells self.old h
-            → Edits C.tells C.limits self.old h text.now n self.new) }
+        ensures ok { IfOk result (λ n. GoesOnBy C.tells C.limits self.old self.new (Edits text.now n)) }
         ensures untouched { IsUntouched self.old.engine self.new.engine }
         // A refused call changes nothing, and names the first cause. The limits of the journal stay in any case.
-        ensures unchanged { OnErr result ((h : List Entry) → StandsFor C.tells self.old h
-            → StandsFor C.tells self.new h) }
+        ensures unchanged { OnErr result (KeepsHistories C.tells self.old self.new) }
         ensures journaled { C.limits self.new.chronicle ≡ C.limits self.old.chronicle }
-        ensures err { IfErr result (λ e. (h : List Entry) → StandsFor C.tells self.old h
-            → RefusesEdit e (C.limits self.old.chronicle) h text.now) }
+        ensures err { IfErr result (λ e. ForEachHistory C.tells self.old
+            (λ h. RefusesEdit e (C.limits self.old.chronicle) h text.now)) }
     {
         let policy = read_policy(self.engine.alloc, text)?;
         let in_force = self.engine.with_policy(policy)?;
@@ -426,15 +411,14 @@ impl<C: Chronicle + Drop> State<C> {
     pub fn subscribe(&mut self, name: &str) -> Result<u64, Fault>
         requires stands { StandsForSome C.tells self.old }
         // The entry of the call stands as the next one, and nothing is handed out.
-        ensures ok { IfOk result (λ n. (h : List Entry) → StandsFor C.tells self.old h
-            → Subscribes C.tells C.limits self.old h name.now n self.new) }
+        ensures ok { IfOk result (λ n. GoesOnBy C.tells C.limits self.old self.new
+            (Subscribes name.now n)) }
         ensures untouched { IsUntouched self.old.engine self.new.engine }
         // A refused call changes nothing, and names the first cause. The limits of the journal stay in any case.
-        ensures unchanged { OnErr result ((h : List Entry) → StandsFor C.tells self.old h
-            → StandsFor C.tells self.new h) }
+        ensures unchanged { OnErr result (KeepsHistories C.tells self.old self.new) }
         ensures journaled { C.limits self.new.chronicle ≡ C.limits self.old.chronicle }
-        ensures err { IfErr result (λ e. (h : List Entry) → StandsFor C.tells self.old h
-            → RefusesSubscribe e (C.limits self.old.chronicle) h name.now) }
+        ensures err { IfErr result (λ e. ForEachHistory C.tells self.old
+            (λ h. RefusesSubscribe e (C.limits self.old.chronicle) h name.now)) }
     {
         if !is_name(name) {
             return Err(Fault::BadName);
@@ -463,19 +447,17 @@ impl<C: Chronicle + Drop> State<C> {
         ensures limits { self.new.engine.limits ≡ self.old.engine.limits }
         ensures audit_limit { self.new.engine.audit.limit ≡ self.old.engine.audit.limit }
         // The end stands as the next entry. Other subscriptions keep their places, and nothing is drained.
-        ensures ok { OnOk result ((h : List Entry) → StandsFor C.tells self.old h
-            → Unsubscribes C.tells C.limits self.old h sub self.new) }
+        ensures ok { OnOk result (GoesOnBy C.tells C.limits self.old self.new (Unsubscribes sub)) }
         ensures others { (q : ℕ) → q ≢ sub
             → place_of self.new.engine q ≡ place_of self.old.engine q }
         ensures drained { self.new.engine.audit.standing.drained
             ≡ self.old.engine.audit.standing.drained }
         // A refused call changes nothing, and names the first cause. The limits of the journal stay in any case.
-        ensures unchanged { OnErr result ((h : List Entry) → StandsFor C.tells self.old h
-            → StandsFor C.tells self.new h) }
+        ensures unchanged { OnErr result (KeepsHistories C.tells self.old self.new) }
         ensures untouched { OnErr result (IsUntouched self.old.engine self.new.engine) }
         ensures journaled { C.limits self.new.chronicle ≡ C.limits self.old.chronicle }
-        ensures err { IfErr result (λ e. (h : List Entry) → StandsFor C.tells self.old h
-            → RefusesUnsubscribe e (C.limits self.old.chronicle) h sub) }
+        ensures err { IfErr result (λ e. ForEachHistory C.tells self.old
+            (λ h. RefusesUnsubscribe e (C.limits self.old.chronicle) h sub)) }
     {
         if !self.engine.is_live(sub) {
             return Err(Fault::UnknownSub);
@@ -497,15 +479,14 @@ impl<C: Chronicle + Drop> State<C> {
     pub fn advance(&mut self, t: u64) -> Result<(), Fault>
         requires stands { StandsForSome C.tells self.old }
         // The advance stands as the next entry, behind the cuts that it makes, and nothing is handed out.
-        ensures ok { OnOk result ((h : List Entry) → StandsFor C.tells self.old h
-            → Advances C.tells C.limits self.old h t self.new) }
+        ensures ok { OnOk result (GoesOnBy C.tells C.limits self.old self.new
+            (Advances self.old.engine t)) }
         ensures untouched { IsUntouched self.old.engine self.new.engine }
         // A refused call changes nothing, and names the first cause. The limits of the journal stay in any case.
-        ensures unchanged { OnErr result ((h : List Entry) → StandsFor C.tells self.old h
-            → StandsFor C.tells self.new h) }
+        ensures unchanged { OnErr result (KeepsHistories C.tells self.old self.new) }
         ensures journaled { C.limits self.new.chronicle ≡ C.limits self.old.chronicle }
-        ensures err { IfErr result (λ e. (h : List Entry) → StandsFor C.tells self.old h
-            → RefusesAdvance e (C.limits self.old.chronicle) self.old.engine h t) }
+        ensures err { IfErr result (λ e. ForEachHistory C.tells self.old
+            (λ h. RefusesAdvance e (C.limits self.old.chronicle) self.old.engine h t)) }
     {
         let last = self.engine.in_force.clock();
         if t < last {
@@ -542,7 +523,7 @@ impl<C: Chronicle + Drop> State<C> {
 }
 
 impl<C: Chronicle + Drop> State<C> {
-    ghost use Rattle.mediator_state.specs.Calls.{StandsFor, StandsForSome, Pulls, RefusesPull, IsStatus};
+    ghost use Rattle.mediator_state.specs.Calls.{StandsFor, ForEachHistory, KeepsHistories, Pulls, RefusesPull, IsStatus};
     ghost use Rattle.mediator_state.specs.Seen.{IsUntouched, place_of};
     ghost use Rattle.disclosure_audit.specs.Queue.{Drains};
 
@@ -557,19 +538,19 @@ impl<C: Chronicle + Drop> State<C> {
         ensures limits { self.new.engine.limits ≡ self.old.engine.limits }
         ensures audit_limit { self.new.engine.audit.limit ≡ self.old.engine.audit.limit }
         // The message is that at the place of the subscription, which moves past it. No other place moves.
-        ensures ok { IfOk result (λ m. (h : List Entry) → StandsFor C.tells self.old h
-            → Pulls C.tells self.old h sub now target m self.new) }
+        ensures ok { IfOk result (λ m. ForEachHistory C.tells self.old
+            (Pulls self.old.engine self.new.engine sub now target m)) }
         ensures others { (q : ℕ) → q ≢ sub
             → place_of self.new.engine q ≡ place_of self.old.engine q }
         ensures drained { self.new.engine.audit.standing.drained
             ≡ self.old.engine.audit.standing.drained }
-        // A refused call changes nothing, and names the first cause. The limits of the journal stay in any case.
-        ensures unchanged { OnErr result ((h : List Entry) → StandsFor C.tells self.old h
-            → StandsFor C.tells self.new h) }
-        ensures untouched { OnErr result (IsUntouched self.old.engine self.new.engine) }
+        // The history stays in any case, and so do the limits of the journal.
+        ensures unchanged { KeepsHistories C.tells self.old self.new }
         ensures journaled { C.limits self.new.chronicle ≡ C.limits self.old.chronicle }
-        ensures err { IfErr result (λ e. (h : List Entry) → StandsFor C.tells self.old h
-            → RefusesPull e h sub) }
+        // A refused call changes nothing, and names the first cause.
+        ensures untouched { OnErr result (IsUntouched self.old.engine self.new.engine) }
+        ensures err { IfErr result (λ e. ForEachHistory C.tells self.old
+            (λ h. RefusesPull e h sub)) }
     {
         if !self.engine.is_live(sub) {
             return Err(Fault::UnknownSub);
@@ -583,10 +564,9 @@ impl<C: Chronicle + Drop> State<C> {
     /// How the live subscription with the number `sub` stands, or `None` where none with this number is live. It takes
     /// no memory.
     pub fn status(&self, sub: u64) -> Option<Status>
-        ensures some { IfSome result (λ s. (h : List Entry) → StandsFor C.tells self.now h
-            → IsStatus h sub (place_of self.now.engine sub) s) }
-        ensures none { IfNone result ((h : List Entry) → StandsFor C.tells self.now h
-            → is_live sub h ≡ false) }
+        ensures some { IfSome result (λ s. ForEachHistory C.tells self.now
+            (λ h. IsStatus h sub (place_of self.now.engine sub) s)) }
+        ensures none { IfNone result (ForEachHistory C.tells self.now (λ h. is_live sub h ≡ false)) }
     {
         let kept = self.engine.subscriptions.get(sub)?;
         Some(Status {
@@ -640,9 +620,9 @@ impl<C: Chronicle + Drop> State<C> {
         ensures limits { self.new.engine.limits ≡ self.old.engine.limits }
         ensures audit_limit { self.new.engine.audit.limit ≡ self.old.engine.audit.limit }
         // The oldest entries are handed out, and count as drained. No place moves.
-        ensures ok { IfOk result (λ out. (h : List Entry) → StandsFor C.tells self.old h
-            → (out.items ≡ take most (drop self.old.engine.audit.standing.drained (audit_list h)))
-            × StandsFor C.tells self.new h) }
+        ensures ok { IfOk result (λ out. ForEachHistory C.tells self.old (λ h.
+            (out.items ≡ take most (drop self.old.engine.audit.standing.drained (audit_list h)))
+            × StandsFor C.tells self.new h)) }
         ensures places { (q : ℕ) → place_of self.new.engine q ≡ place_of self.old.engine q }
         ensures drained { IfOk result (λ out. self.new.engine.audit.standing.drained
             ≡ self.old.engine.audit.standing.drained + length out.items) }
