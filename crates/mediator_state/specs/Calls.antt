@@ -82,8 +82,8 @@ LacksRoom _ limits count octets more = ⊥
 abbrev pub LacksRoomAfter : Fault → Journaled → List Entry → List Entry → Type 0
 LacksRoomAfter e limits h more = LacksRoom e limits (length h) (history_octets h) more
 
--- Below a record for each call says what it answers behind a history h, and which entries were accepted then: `accepted` tells of
--- these. What a call refuses is said beside it.
+-- Below, a record of each call says what it answers behind the history h, and that its entries were accepted there. Beside it
+-- stands why the call is refused.
 
 -- ---- sessions
 

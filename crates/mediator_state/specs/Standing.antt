@@ -1,5 +1,5 @@
 -- The histories that an engine stands for.
-use Rattle.std.specs.Prelude.{◌≡◌, ℕ, ◌+◌, ◌*◌, ◌≤◌, ◌<◌, true, false, not, List, [], length, Option, Some, None}
+use Rattle.std.specs.Prelude.{◌≡◌, ℕ, ◌+◌, ◌*◌, ◌≤◌, ◌<◌, true, false, not, List, [], ◌++◌, length, Option, Some, None}
 use Rattle.std.specs.List.{flat_map, AllByRecursion}
 use Rattle.ipfix_session.specs.Keeping.{at_key}
 use Rattle.ipfix_session.specs.Standing.{StandsFor}
@@ -102,3 +102,7 @@ pub record StandsSomewhere (e : Engine) (count : ℕ) : Type 0 where
 pub record HasHistory (e : Engine) : Type 0 where
   pub history : List Entry
   pub stands : Stands e history
+
+-- the new engine stands for each history that the old one stood for, with these entries behind it
+abbrev pub GoesOnWith : List Entry → Engine → Engine → Type 0
+GoesOnWith more old new = (h : List Entry) → Stands old h → Stands new (h ++ more)

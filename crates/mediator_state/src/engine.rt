@@ -78,7 +78,7 @@ impl Drop for Engine {
 
 impl Engine {
     ghost use Rattle.mediator_tables.specs.SubscriptionTable.{at};
-    ghost use Rattle.mediator_state.specs.Standing.{Stands, StandsSomewhere, HasHistory, AreInRange};
+    ghost use Rattle.mediator_state.specs.Standing.{Stands, GoesOnWith, StandsSomewhere, HasHistory, AreInRange};
     ghost use Rattle.mediator_state.specs.Seen.{IsSameEngine, IsUntouched, place_of};
     ghost use Rattle.mediator_state.specs.Calls.{IsSnapshot, RefusesSnapshot};
     ghost use Rattle.std.specs.Prelude.{IfErr};
@@ -139,8 +139,7 @@ impl Engine {
     /// Want of memory, and then nothing has changed.
     pub(crate) fn open(&mut self, number: u64) -> Result<(), AllocError>
         requires next { number ≡ self.old.opened + 1 }
-        ensures ok { OnOk result ((h : List Entry) → Stands self.old h
-            → Stands self.new (h ++ Open number ∷ [])) }
+        ensures ok { OnOk result (GoesOnWith (Open number ∷ []) self.old self.new) }
         ensures untouched { IsUntouched self.old self.new }
         ensures err { OnErr result (IsSameEngine self.old self.new) }
     {
@@ -210,8 +209,7 @@ impl Engine {
 
     /// Closes the session with the number `number`. It takes no memory.
     pub(crate) fn close(&mut self, number: u64)
-        ensures stands { (h : List Entry) → Stands self.old h
-            → Stands self.new (h ++ Close number ∷ []) }
+        ensures stands { GoesOnWith (Close number ∷ []) self.old self.new }
         ensures untouched { IsUntouched self.old self.new }
     {
         self.sessions.close(number);
@@ -277,8 +275,7 @@ impl Engine {
         requires name { is_name name.now ≡ true }
         requires free { (q : ℕ) → IfSome (at self.old.subscriptions q) (λ s. s.name ≢ name.now) }
         // The beginning stands as the next entry.
-        ensures ok { OnOk result ((h : List Entry) → Stands self.old h
-            → Stands self.new (h ++ Subscribe number name.now ∷ [])) }
+        ensures ok { OnOk result (GoesOnWith (Subscribe number name.now ∷ []) self.old self.new) }
         ensures untouched { IsUntouched self.old self.new }
         // Want of memory changes nothing.
         ensures err { OnErr result (IsSameEngine self.old self.new) }
@@ -291,7 +288,7 @@ impl Engine {
 }
 
 impl Engine {
-    ghost use Rattle.mediator_state.specs.Standing.{Stands};
+    ghost use Rattle.mediator_state.specs.Standing.{Stands, GoesOnWith};
     ghost use Rattle.mediator_state.specs.Seen.{place_of};
     ghost use Rattle.mediator_tables.specs.SubscriptionTable.{cut_off};
     ghost use Rattle.std.specs.Prelude.{filter, if◌then◌else◌, ◌==◌};
@@ -301,8 +298,7 @@ impl Engine {
     /// Ends the subscription with the number `number`, with what waits for it and its running groups. It takes no
     /// memory.
     pub(crate) fn unsubscribe(&mut self, number: u64)
-        ensures stands { (h : List Entry) → Stands self.old h
-            → Stands self.new (h ++ Unsubscribe number ∷ []) }
+        ensures stands { GoesOnWith (Unsubscribe number ∷ []) self.old self.new }
         // Other subscriptions keep their places, and the audit and the limits stay.
         ensures others { (q : ℕ) → q ≢ number → place_of self.new q ≡ place_of self.old q }
         ensures drained { self.new.audit.standing.drained ≡ self.old.audit.standing.drained }
