@@ -54,6 +54,12 @@ if_ok_at P r x is p = rw is p
 pub if_ok_none : {X E : Type 0} (P : X → Type 0) (r : Result X E) (e : E) → r ≡ Err e → IfOk r P
 if_ok_none P r e is = rw is tt
 
+pub on_err_at : {X E P : Type 0} (r : Result X E) (e : E) → r ≡ Err e → P → OnErr r P
+on_err_at r e is p = rw is p
+
+pub on_err_none : {X E : Type 0} (P : Type 0) (r : Result X E) (x : X) → r ≡ Ok x → OnErr r P
+on_err_none P r x is = rw is tt
+
 -- ---- the same mediator
 
 limits_same : (s t : State Kept) → t.engine.limits ≡ s.engine.limits → t.engine.audit.limit ≡ s.engine.audit.limit → t.chronicle.limits ≡ s.chronicle.limits → (view_of t).limits ≡ (view_of s).limits
@@ -79,6 +85,10 @@ view_same s t entries untouched journaled =
 abbrev pub KeepsHistories : State Kept → State Kept → Type 0
 KeepsHistories s t = state.KeepsHistories tells s t
 
+-- all that contracts see of the one is so of the other
+abbrev pub StaysSame : State Kept → State Kept → Type 0
+StaysSame s t = state.StaysSame tells limits_of s t
+
 -- a state that stands for a history stands for its journal
 pub for_journal : (t : State Kept) (h : List Entry) → state.StandsFor tells t h → StandsForJournal t
 for_journal t h stands = record { told = refl; stands = subst (λ (g : List Entry). Stands t.engine g) (sym stands.told) stands.stands }
@@ -86,8 +96,13 @@ for_journal t h stands = record { told = refl; stands = subst (λ (g : List Entr
 pub stands_on : (s t : State Kept) → StandsForJournal s → KeepsHistories s t → StandsForJournal t
 stands_on s t stands keeps = for_journal t s.chronicle.entries (keeps s.chronicle.entries stands)
 
-pub same_on : (s t : State Kept) → StandsForJournal s → KeepsHistories s t → IsUntouched s.engine t.engine → t.chronicle.limits ≡ s.chronicle.limits → view_of t ≡ view_of s
-same_on s t stands keeps untouched journaled = view_same s t (keeps s.chronicle.entries stands).told untouched journaled
+pub same_on : (s t : State Kept) → StandsForJournal s → StaysSame s t → view_of t ≡ view_of s
+same_on s t stands same = view_same s t (same.histories s.chronicle.entries stands).told same.untouched same.journaled
+
+-- a refused call leaves the mediator as it was
+pub refused_same : {X E : Type 0} (r : Result X E) (s t : State Kept) (m : Mediation) → StandsForJournal s → view_of s ≡ m → OnErr r (StaysSame s t) → OnErr r (view_of t ≡ m)
+refused_same (Ok x) s t m stands is same = tt
+refused_same (Err e) s t m stands is same = same_on s t stands same ∙ is
 
 pub for_some : (s : State Kept) → StandsForJournal s → state.StandsForSome tells s
 for_some s stands = record { history = s.chronicle.entries; stands = stands }
@@ -307,20 +322,20 @@ is_sound s kept = record {
 }
 
 -- a refused call leaves it so
-pub kept_same : (s t : State Kept) → IsKept s → KeepsHistories s t → IsUntouched s.engine t.engine → t.chronicle.limits ≡ s.chronicle.limits → IsKept t
-kept_same s t kept keeps untouched journaled = record {
-  stands = stands_on s t kept.stands keeps;
-  held = subst IsHeld (sym (same_on s t kept.stands keeps untouched journaled)) kept.held;
+pub kept_same : (s t : State Kept) → IsKept s → StaysSame s t → IsKept t
+kept_same s t kept same = record {
+  stands = stands_on s t kept.stands same.histories;
+  held = subst IsHeld (sym (same_on s t kept.stands same)) kept.held;
 }
 
 -- whatever a call answers, where it keeps so what it accepts
-pub kept_by : {X E : Type 0} {P : X → Type 0} (r : Result X E) (s t : State Kept) → IsKept s → IfOk r P → ((x : X) → P x → IsKept t) → OnErr r (KeepsHistories s t) → OnErr r (IsUntouched s.engine t.engine) → t.chronicle.limits ≡ s.chronicle.limits → IsKept t
-kept_by (Ok x) s t kept ok does same untouched journaled = does x ok
-kept_by (Err e) s t kept ok does same untouched journaled = kept_same s t kept same untouched journaled
+pub kept_by : {X E : Type 0} {P : X → Type 0} (r : Result X E) (s t : State Kept) → IsKept s → IfOk r P → ((x : X) → P x → IsKept t) → OnErr r (StaysSame s t) → IsKept t
+kept_by (Ok x) s t kept ok does same = does x ok
+kept_by (Err e) s t kept ok does same = kept_same s t kept same
 
-pub kept_done : {X E P : Type 0} (r : Result X E) (s t : State Kept) → IsKept s → OnOk r P → (P → IsKept t) → OnErr r (KeepsHistories s t) → OnErr r (IsUntouched s.engine t.engine) → t.chronicle.limits ≡ s.chronicle.limits → IsKept t
-kept_done (Ok x) s t kept ok does same untouched journaled = does ok
-kept_done (Err e) s t kept ok does same untouched journaled = kept_same s t kept same untouched journaled
+pub kept_done : {X E P : Type 0} (r : Result X E) (s t : State Kept) → IsKept s → OnOk r P → (P → IsKept t) → OnErr r (StaysSame s t) → IsKept t
+kept_done (Ok x) s t kept ok does same = does ok
+kept_done (Err e) s t kept ok does same = kept_same s t kept same
 
 pub both_ok : {X E : Type 0} (P Q : X → Type 0) (r : Result X E) → IfOk r P → IfOk r Q → IfOk r (λ x. P x × Q x)
 both_ok P Q (Ok x) p q = (p, q)
@@ -330,11 +345,6 @@ both_ok P Q (Err e) p q = tt
 pub kept_or_same : {X E : Type 0} {P : X → Type 0} (r : Result X E) (s t : State Kept) → IsKept s → IfOk r P → ((x : X) → P x → IsKept t) → OnErr r (t ≡ s) → IsKept t
 kept_or_same (Ok x) s t kept ok does same = does x ok
 kept_or_same (Err e) s t kept ok does same = subst IsKept (sym same) kept
-
--- an untouched engine is so whatever is answered
-pub either_way : {X E P : Type 0} (r : Result X E) → P → OnErr r P
-either_way (Ok x) p = tt
-either_way (Err e) p = p
 
 pub kept_open : (s t : State Kept) (n : ℕ) → IsKept s → state.Opens n s.chronicle.entries (AcceptsNext s t) → IsUntouched s.engine t.engine → t.chronicle.limits ≡ s.chronicle.limits → IsKept t
 kept_open s t n kept is untouched journaled = record {

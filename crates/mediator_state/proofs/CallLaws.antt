@@ -1,6 +1,6 @@
 -- What the calls of a state answer and leave, by what its parts do.
 use Rattle.std.proofs.Common.{◌≡◌, ℕ, suc, ◌+◌, ◌≤◌, Bool, true, false, List, [], ◌∷◌, ◌++◌, length, drop, map, Result, Ok, Err, refl, sym, ap, ◌∙◌, subst, append_assoc, length-append, arith}
-use Rattle.std.specs.Prelude.{◌↔◌, IsTrue, OnErr}
+use Rattle.std.specs.Prelude.{◌↔◌, IsTrue, IfOk, OnErr}
 use Rattle.std.specs.Result.{IsErr, IsErrAnd, IfErr}
 use Rattle.std.proofs.lemmas.List.{length-map, drop-append-le}
 use Rattle.policy_text.specs.Naming.{is_name}
@@ -29,12 +29,12 @@ use Rattle.mediator_state.specs.declared.fault.Fault.{Fault}
 use Rattle.mediator_state.specs.declared.fault.Fault.TheVariants as fault
 use Rattle.mediator_state.specs.declared.state.State.{State}
 use Rattle.mediator_state.specs.Standing.{Stands, StandsSomewhere}
-use Rattle.mediator_state.specs.Seen.{waiting_of, IsSameEngine}
+use Rattle.mediator_state.specs.Seen.{waiting_of, IsUntouched, IsSameEngine}
 use Rattle.mediator_shares.specs.Noting.{Kept}
 use Rattle.mediator_state.specs.Planning.{IsPlan, IsNext, IsNextReading, RefusesMessage}
 use Rattle.mediator_state.specs.Accepting.{LacksAudit, HasRoomForPlan, IsPlannedFor, receipt_of}
-use Rattle.mediator_state.specs.Calls.{StandsFor, StandsForSome, AuditHolds, Accepts, LacksRoom, LacksRoomAfter, with_cuts, HasMeaning, RefusesReceive, RefusesReceivePrepared, Receives, IsFree, RefusesEdit, RefusesSubscribe}
-use Rattle.mediator_state.proofs.SameLaws.{stands_same, plan_same}
+use Rattle.mediator_state.specs.Calls.{StandsFor, StandsForSome, StaysSame, AuditHolds, Accepts, LacksRoom, LacksRoomAfter, with_cuts, HasMeaning, RefusesReceive, RefusesReceivePrepared, Receives, IsFree, RefusesEdit, RefusesSubscribe}
+use Rattle.mediator_state.proofs.SameLaws.{stands_same, untouched_same, plan_same}
 use Rattle.event_journal.specs.declared.limits.TheConstants.{MOST_ENTRIES}
 
 -- ---- what keeps the history counts it
@@ -333,7 +333,40 @@ room_memory_after e limits count octets h more is c room = lacks_after e limits 
 pub refused_memory : (e : Fault) (limits : Journaled) (h : List Entry) (name : List ℕ) → e ≡ fault.OutOfMemory → is_name name ≡ true → IsFree h name → RefusesSubscribe e limits h name
 refused_memory e limits h name is named free = rw is (named, free)
 
+-- ---- a state that stays
+
+pub same_state : {C : Type 0} (tells : C → List Entry → Type 0) (limits : C → Journaled) (s : State C) → StaysSame tells limits s s
+same_state tells limits s = record {
+  histories = λ h so. so;
+  untouched = record { places = λ n. refl; drained = refl; limits = refl; audit_limit = refl };
+  journaled = refl;
+}
+
+-- the engine is the same, and what keeps the history tells of no other
+pub same_kept : {C : Type 0} (tells : C → List Entry → Type 0) (limits : C → Journaled) (old : State C) (chronicle : C) (engine : Engine)
+    → ((h : List Entry) → tells old.chronicle h → tells chronicle h) → engine ≡ old.engine → limits chronicle ≡ limits old.chronicle
+    → StaysSame tells limits old (record { chronicle = chronicle; engine = engine })
+same_kept tells limits old chronicle engine keeps same journaled = record {
+  histories = λ h so. record { told = keeps h so.told; stands = subst (λ (e : Engine). Stands e h) (sym same) so.stands };
+  untouched = subst (λ (e : Engine). IsUntouched old.engine e) (sym same) (record { places = λ n. refl; drained = refl; limits = refl; audit_limit = refl });
+  journaled = journaled;
+}
+
+-- in the engine reserved room has changed too
+pub same_roomed : {C : Type 0} (tells : C → List Entry → Type 0) (limits : C → Journaled) (old : State C) (chronicle : C) (engine : Engine)
+    → ((h : List Entry) → tells old.chronicle h → tells chronicle h) → IsSameEngine old.engine engine → limits chronicle ≡ limits old.chronicle
+    → StaysSame tells limits old (record { chronicle = chronicle; engine = engine })
+same_roomed tells limits old chronicle engine keeps same journaled = record {
+  histories = λ h so. record { told = keeps h so.told; stands = stands_same old.engine engine h same so.stands };
+  untouched = untouched_same old.engine engine same;
+  journaled = journaled;
+}
+
 -- ---- results
+
+pub if_ok_gives : {X E : Type 0} {P Q : X → Type 0} (r : Result X E) → IfOk r P → ((x : X) → P x → Q x) → IfOk r Q
+if_ok_gives (Ok x) known f = f x known
+if_ok_gives (Err e) known f = tt
 
 pub err_gives : {X E : Type 0} {P Q : E → Type 0} (r : Result X E) → IsErr r × IsErrAnd r P → ((e : E) → P e → Q e) → IfErr r Q
 err_gives (Ok x) known f = tt

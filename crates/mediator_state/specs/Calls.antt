@@ -31,7 +31,7 @@ use Rattle.mediator_state.specs.declared.fault.Fault.TheVariants as fault
 use Rattle.mediator_state.specs.declared.state.Limits.{Limits}
 use Rattle.mediator_state.specs.declared.state.State.{State}
 use Rattle.mediator_state.specs.Standing.{Stands}
-use Rattle.mediator_state.specs.Seen.{place_of, waiting_of}
+use Rattle.mediator_state.specs.Seen.{place_of, waiting_of, IsUntouched}
 use Rattle.mediator_state.specs.Planning.{IsNext, RefusesMessage}
 use Rattle.mediator_state.specs.Accepting.{receipt_of}
 
@@ -66,6 +66,18 @@ pub record Accepts {C : Type 0} (tells : C → List Entry → Type 0) (limits : 
 -- whichever history the state stood for, this holds of it, and of the entries that were accepted behind it
 abbrev pub GoesOnBy : {C : Type 0} → (C → List Entry → Type 0) → (C → Journaled) → State C → State C → (List Entry → (List Entry → Type 0) → Type 0) → Type 0
 GoesOnBy tells limits old new P = ForEachHistory tells old (λ h. P h (Accepts tells limits old new h))
+
+-- a call that is accepted goes on so, hands out and drains nothing, and leaves the limits
+pub record Proceeds {C : Type 0} (tells : C → List Entry → Type 0) (limits : C → Journaled) (old new : State C) (P : List Entry → (List Entry → Type 0) → Type 0) : Type 0 where
+  pub goes_on : GoesOnBy tells limits old new P
+  pub untouched : IsUntouched old.engine new.engine
+  pub journaled : limits new.chronicle ≡ limits old.chronicle
+
+-- one that is refused changes nothing that contracts see
+pub record StaysSame {C : Type 0} (tells : C → List Entry → Type 0) (limits : C → Journaled) (old new : State C) : Type 0 where
+  pub histories : KeepsHistories tells old new
+  pub untouched : IsUntouched old.engine new.engine
+  pub journaled : limits new.chronicle ≡ limits old.chronicle
 
 -- what waits to be drained is no more than the audit's limit, before these entries behind a history and with what it names of them
 pub record AuditHolds (e : Engine) (h more : List Entry) : Type 0 where

@@ -51,8 +51,7 @@ pub struct State<C> {
 }
 
 impl<C: Chronicle + Drop> State<C> {
-    ghost use Rattle.mediator_state.specs.Calls.{StandsFor, StandsForSome, ForEachHistory, KeepsHistories, GoesOnBy, AreLimits, LacksRoom, Opens, RefusesOpen, Closes, RefusesClose};
-    ghost use Rattle.mediator_state.specs.Seen.{IsUntouched};
+    ghost use Rattle.mediator_state.specs.Calls.{StandsFor, StandsForSome, ForEachHistory, Proceeds, StaysSame, AreLimits, LacksRoom, Opens, RefusesOpen, Closes, RefusesClose};
 
     /// A state before any entry: no session is open, nobody is subscribed, and the policy has no rules. It holds no
     /// more than `limits` allow, each in its range, and its history is kept by `chronicle`, which has no entry. All of
@@ -82,9 +81,7 @@ impl<C: Chronicle + Drop> State<C> {
     /// Hashes by `keys` what exporters choose: the keys of groups, and templates, of subscriptions that begin from now
     /// on. It shows in no answer.
     pub fn hash_by(&mut self, keys: HashKeys)
-        ensures unchanged { KeepsHistories C.tells self.old self.new }
-        ensures untouched { IsUntouched self.old.engine self.new.engine }
-        ensures journaled { C.limits self.new.chronicle ≡ C.limits self.old.chronicle }
+        ensures unchanged { StaysSame C.tells C.limits self.old self.new }
     {
         self.engine.hash_by(keys);
     }
@@ -139,11 +136,9 @@ impl<C: Chronicle + Drop> State<C> {
     pub fn open(&mut self) -> Result<u64, Fault>
         requires stands { StandsForSome C.tells self.old }
         // The entry of the call stands as the next one, and nothing is handed out.
-        ensures ok { IfOk result (λ n. GoesOnBy C.tells C.limits self.old self.new (Opens n)) }
-        ensures untouched { IsUntouched self.old.engine self.new.engine }
-        // A refused call changes nothing, and names the first cause. The limits of the journal stay in any case.
-        ensures unchanged { OnErr result (KeepsHistories C.tells self.old self.new) }
-        ensures journaled { C.limits self.new.chronicle ≡ C.limits self.old.chronicle }
+        ensures ok { IfOk result (λ n. Proceeds C.tells C.limits self.old self.new (Opens n)) }
+        // A refused call changes nothing, and names the first cause.
+        ensures unchanged { OnErr result (StaysSame C.tells C.limits self.old self.new) }
         ensures err { IfErr result (λ e. ForEachHistory C.tells self.old
             (RefusesOpen e (C.limits self.old.chronicle))) }
     {
@@ -163,11 +158,9 @@ impl<C: Chronicle + Drop> State<C> {
     pub fn close(&mut self, session: u64) -> Result<(), Fault>
         requires stands { StandsForSome C.tells self.old }
         // The entry of the call stands as the next one, and nothing is handed out.
-        ensures ok { OnOk result (GoesOnBy C.tells C.limits self.old self.new (Closes session)) }
-        ensures untouched { IsUntouched self.old.engine self.new.engine }
-        // A refused call changes nothing, and names the first cause. The limits of the journal stay in any case.
-        ensures unchanged { OnErr result (KeepsHistories C.tells self.old self.new) }
-        ensures journaled { C.limits self.new.chronicle ≡ C.limits self.old.chronicle }
+        ensures ok { OnOk result (Proceeds C.tells C.limits self.old self.new (Closes session)) }
+        // A refused call changes nothing, and names the first cause.
+        ensures unchanged { OnErr result (StaysSame C.tells C.limits self.old self.new) }
         ensures err { IfErr result (λ e. ForEachHistory C.tells self.old
             (λ h. RefusesClose e (C.limits self.old.chronicle) h session)) }
     {
@@ -183,8 +176,8 @@ impl<C: Chronicle + Drop> State<C> {
 }
 
 impl<C: Chronicle + Drop> State<C> {
-    ghost use Rattle.mediator_state.specs.Calls.{StandsForSome, ForEachHistory, KeepsHistories, GoesOnBy, Receives, RefusesReceive, RefusesReceivePrepared, IsSnapshot, RefusesSnapshot, Edits, RefusesEdit, Subscribes, RefusesSubscribe, Unsubscribes, RefusesUnsubscribe, Advances, RefusesAdvance};
-    ghost use Rattle.mediator_state.specs.Seen.{IsUntouched, place_of};
+    ghost use Rattle.mediator_state.specs.Calls.{StandsForSome, ForEachHistory, GoesOnBy, Proceeds, StaysSame, Receives, RefusesReceive, RefusesReceivePrepared, IsSnapshot, RefusesSnapshot, Edits, RefusesEdit, Subscribes, RefusesSubscribe, Unsubscribes, RefusesUnsubscribe, Advances, RefusesAdvance};
+    ghost use Rattle.mediator_state.specs.Seen.{place_of};
     ghost use Rattle.mediator_state.specs.Planning.{IsNextReading};
 
     /// Accepts `message` as the next one of the session with the number `session`. `number` is to be how many messages
@@ -198,12 +191,10 @@ impl<C: Chronicle + Drop> State<C> {
     pub fn receive(&mut self, session: u64, number: u64, message: Bytes) -> Result<Receipt, Fault>
         requires stands { StandsForSome C.tells self.old }
         // The message stands as the next entry, behind the cuts that it makes, and nothing is handed out.
-        ensures ok { IfOk result (λ r. GoesOnBy C.tells C.limits self.old self.new
+        ensures ok { IfOk result (λ r. Proceeds C.tells C.limits self.old self.new
             (Receives self.old.engine session number message r)) }
-        ensures untouched { IsUntouched self.old.engine self.new.engine }
-        // A refused call changes nothing, and names the first cause. The limits of the journal stay in any case.
-        ensures unchanged { OnErr result (KeepsHistories C.tells self.old self.new) }
-        ensures journaled { C.limits self.new.chronicle ≡ C.limits self.old.chronicle }
+        // A refused call changes nothing, and names the first cause.
+        ensures unchanged { OnErr result (StaysSame C.tells C.limits self.old self.new) }
         ensures err { IfErr result (λ e. ForEachHistory C.tells self.old
             (λ h. RefusesReceive e (C.limits self.old.chronicle) self.old.engine h
             session number message)) }
@@ -226,12 +217,10 @@ impl<C: Chronicle + Drop> State<C> {
     ) -> Result<Receipt, Fault>
         requires stands { StandsForSome C.tells self.old }
         // The message stands as the next entry, behind the cuts that it makes, and nothing is handed out.
-        ensures ok { IfOk result (λ r. GoesOnBy C.tells C.limits self.old self.new
+        ensures ok { IfOk result (λ r. Proceeds C.tells C.limits self.old self.new
             (Receives self.old.engine session number message r)) }
-        ensures untouched { IsUntouched self.old.engine self.new.engine }
-        // A refused call changes nothing, and names the first cause. The limits of the journal stay in any case.
-        ensures unchanged { OnErr result (KeepsHistories C.tells self.old self.new) }
-        ensures journaled { C.limits self.new.chronicle ≡ C.limits self.old.chronicle }
+        // A refused call changes nothing, and names the first cause.
+        ensures unchanged { OnErr result (StaysSame C.tells C.limits self.old self.new) }
         ensures err { IfErr result (λ e. ForEachHistory C.tells self.old
             (λ h. RefusesReceive e (C.limits self.old.chronicle) self.old.engine h
             session number message)) }
@@ -251,9 +240,7 @@ impl<C: Chronicle + Drop> State<C> {
         ensures ok { IfOk result (λ snapshot. ForEachHistory C.tells self.old
             (λ h. IsSnapshot h session snapshot)) }
         // Nothing changes.
-        ensures unchanged { KeepsHistories C.tells self.old self.new }
-        ensures untouched { IsUntouched self.old.engine self.new.engine }
-        ensures journaled { C.limits self.new.chronicle ≡ C.limits self.old.chronicle }
+        ensures unchanged { StaysSame C.tells C.limits self.old self.new }
         // A refusal names the first cause.
         ensures err { IfErr result (λ e. ForEachHistory C.tells self.old
             (λ h. RefusesSnapshot e h session)) }
@@ -277,12 +264,10 @@ impl<C: Chronicle + Drop> State<C> {
     ) -> Result<Receipt, (Fault, Prepared)>
         requires stands { StandsForSome C.tells self.old }
         // The message stands as the next entry, behind the cuts that it makes, and nothing is handed out.
-        ensures ok { IfOk result (λ r. GoesOnBy C.tells C.limits self.old self.new
+        ensures ok { IfOk result (λ r. Proceeds C.tells C.limits self.old self.new
             (Receives self.old.engine session number prepared.message r)) }
-        ensures untouched { IsUntouched self.old.engine self.new.engine }
-        // A refused call changes nothing, and names the first cause. The limits of the journal stay in any case.
-        ensures unchanged { OnErr result (KeepsHistories C.tells self.old self.new) }
-        ensures journaled { C.limits self.new.chronicle ≡ C.limits self.old.chronicle }
+        // A refused call changes nothing, and names the first cause.
+        ensures unchanged { OnErr result (StaysSame C.tells C.limits self.old self.new) }
         ensures err { IfErr result (λ e. ForEachHistory C.tells self.old
             (λ h. RefusesReceivePrepared e.0 (C.limits self.old.chronicle) self.old.engine h
             session number prepared)) }
@@ -309,12 +294,10 @@ impl<C: Chronicle + Drop> State<C> {
     ) -> Result<Receipt, Fault>
         requires stands { StandsForSome C.tells self.old }
         // The message stands as the next entry, behind the cuts that it makes, and nothing is handed out.
-        ensures ok { IfOk result (λ r. GoesOnBy C.tells C.limits self.old self.new
+        ensures ok { IfOk result (λ r. Proceeds C.tells C.limits self.old self.new
             (Receives self.old.engine session number prepared.old.message r)) }
-        ensures untouched { IsUntouched self.old.engine self.new.engine }
-        // A refused call changes nothing, and names the first cause. The limits of the journal stay in any case.
-        ensures unchanged { OnErr result (KeepsHistories C.tells self.old self.new) }
-        ensures journaled { C.limits self.new.chronicle ≡ C.limits self.old.chronicle }
+        // A refused call changes nothing, and names the first cause.
+        ensures unchanged { OnErr result (StaysSame C.tells C.limits self.old self.new) }
         ensures err { IfErr result (λ e. ForEachHistory C.tells self.old
             (λ h. RefusesReceivePrepared e (C.limits self.old.chronicle) self.old.engine h
             session number prepared.old)) }
@@ -347,12 +330,10 @@ impl<C: Chronicle + Drop> State<C> {
         requires read { ForEachHistory C.tells self.old
             (λ h. IsNextReading h session number message reading) }
         // The message stands as the next entry, behind the cuts that it makes, and nothing is handed out.
-        ensures ok { IfOk result (λ r. GoesOnBy C.tells C.limits self.old self.new
+        ensures ok { IfOk result (λ r. Proceeds C.tells C.limits self.old self.new
             (Receives self.old.engine session number message r)) }
-        ensures untouched { IsUntouched self.old.engine self.new.engine }
-        // A refused call changes nothing, and names the first cause. The limits of the journal stay in any case.
-        ensures unchanged { OnErr result (KeepsHistories C.tells self.old self.new) }
-        ensures journaled { C.limits self.new.chronicle ≡ C.limits self.old.chronicle }
+        // A refused call changes nothing, and names the first cause.
+        ensures unchanged { OnErr result (StaysSame C.tells C.limits self.old self.new) }
         ensures err { IfErr result (λ e. ForEachHistory C.tells self.old
             (λ h. RefusesReceive e (C.limits self.old.chronicle) self.old.engine h
             session number message)) }
@@ -384,11 +365,9 @@ impl<C: Chronicle + Drop> State<C> {
     pub fn edit(&mut self, text: &str) -> Result<u64, Fault>
         requires stands { StandsForSome C.tells self.old }
         // The entry of the call stands as the next one, and nothing is handed out.
-        ensures ok { IfOk result (λ n. GoesOnBy C.tells C.limits self.old self.new (Edits text.now n)) }
-        ensures untouched { IsUntouched self.old.engine self.new.engine }
-        // A refused call changes nothing, and names the first cause. The limits of the journal stay in any case.
-        ensures unchanged { OnErr result (KeepsHistories C.tells self.old self.new) }
-        ensures journaled { C.limits self.new.chronicle ≡ C.limits self.old.chronicle }
+        ensures ok { IfOk result (λ n. Proceeds C.tells C.limits self.old self.new (Edits text.now n)) }
+        // A refused call changes nothing, and names the first cause.
+        ensures unchanged { OnErr result (StaysSame C.tells C.limits self.old self.new) }
         ensures err { IfErr result (λ e. ForEachHistory C.tells self.old
             (λ h. RefusesEdit e (C.limits self.old.chronicle) h text.now)) }
     {
@@ -411,12 +390,10 @@ impl<C: Chronicle + Drop> State<C> {
     pub fn subscribe(&mut self, name: &str) -> Result<u64, Fault>
         requires stands { StandsForSome C.tells self.old }
         // The entry of the call stands as the next one, and nothing is handed out.
-        ensures ok { IfOk result (λ n. GoesOnBy C.tells C.limits self.old self.new
+        ensures ok { IfOk result (λ n. Proceeds C.tells C.limits self.old self.new
             (Subscribes name.now n)) }
-        ensures untouched { IsUntouched self.old.engine self.new.engine }
-        // A refused call changes nothing, and names the first cause. The limits of the journal stay in any case.
-        ensures unchanged { OnErr result (KeepsHistories C.tells self.old self.new) }
-        ensures journaled { C.limits self.new.chronicle ≡ C.limits self.old.chronicle }
+        // A refused call changes nothing, and names the first cause.
+        ensures unchanged { OnErr result (StaysSame C.tells C.limits self.old self.new) }
         ensures err { IfErr result (λ e. ForEachHistory C.tells self.old
             (λ h. RefusesSubscribe e (C.limits self.old.chronicle) h name.now)) }
     {
@@ -452,10 +429,9 @@ impl<C: Chronicle + Drop> State<C> {
             → place_of self.new.engine q ≡ place_of self.old.engine q }
         ensures drained { self.new.engine.audit.standing.drained
             ≡ self.old.engine.audit.standing.drained }
-        // A refused call changes nothing, and names the first cause. The limits of the journal stay in any case.
-        ensures unchanged { OnErr result (KeepsHistories C.tells self.old self.new) }
-        ensures untouched { OnErr result (IsUntouched self.old.engine self.new.engine) }
         ensures journaled { C.limits self.new.chronicle ≡ C.limits self.old.chronicle }
+        // A refused call changes nothing, and names the first cause.
+        ensures unchanged { OnErr result (StaysSame C.tells C.limits self.old self.new) }
         ensures err { IfErr result (λ e. ForEachHistory C.tells self.old
             (λ h. RefusesUnsubscribe e (C.limits self.old.chronicle) h sub)) }
     {
@@ -479,12 +455,10 @@ impl<C: Chronicle + Drop> State<C> {
     pub fn advance(&mut self, t: u64) -> Result<(), Fault>
         requires stands { StandsForSome C.tells self.old }
         // The advance stands as the next entry, behind the cuts that it makes, and nothing is handed out.
-        ensures ok { OnOk result (GoesOnBy C.tells C.limits self.old self.new
+        ensures ok { OnOk result (Proceeds C.tells C.limits self.old self.new
             (Advances self.old.engine t)) }
-        ensures untouched { IsUntouched self.old.engine self.new.engine }
-        // A refused call changes nothing, and names the first cause. The limits of the journal stay in any case.
-        ensures unchanged { OnErr result (KeepsHistories C.tells self.old self.new) }
-        ensures journaled { C.limits self.new.chronicle ≡ C.limits self.old.chronicle }
+        // A refused call changes nothing, and names the first cause.
+        ensures unchanged { OnErr result (StaysSame C.tells C.limits self.old self.new) }
         ensures err { IfErr result (λ e. ForEachHistory C.tells self.old
             (λ h. RefusesAdvance e (C.limits self.old.chronicle) self.old.engine h t)) }
     {
@@ -523,8 +497,8 @@ impl<C: Chronicle + Drop> State<C> {
 }
 
 impl<C: Chronicle + Drop> State<C> {
-    ghost use Rattle.mediator_state.specs.Calls.{StandsFor, ForEachHistory, KeepsHistories, Pulls, RefusesPull, IsStatus};
-    ghost use Rattle.mediator_state.specs.Seen.{IsUntouched, place_of};
+    ghost use Rattle.mediator_state.specs.Calls.{StandsFor, ForEachHistory, KeepsHistories, StaysSame, Pulls, RefusesPull, IsStatus};
+    ghost use Rattle.mediator_state.specs.Seen.{place_of};
     ghost use Rattle.disclosure_audit.specs.Queue.{Drains};
 
     /// Builds the next message of the live subscription with the number `sub`, out of what waits for it; or answers
@@ -545,10 +519,10 @@ impl<C: Chronicle + Drop> State<C> {
         ensures drained { self.new.engine.audit.standing.drained
             ≡ self.old.engine.audit.standing.drained }
         // The history stays in any case, and so do the limits of the journal.
-        ensures unchanged { KeepsHistories C.tells self.old self.new }
+        ensures keeps { KeepsHistories C.tells self.old self.new }
         ensures journaled { C.limits self.new.chronicle ≡ C.limits self.old.chronicle }
         // A refused call changes nothing, and names the first cause.
-        ensures untouched { OnErr result (IsUntouched self.old.engine self.new.engine) }
+        ensures unchanged { OnErr result (StaysSame C.tells C.limits self.old self.new) }
         ensures err { IfErr result (λ e. ForEachHistory C.tells self.old
             (λ h. RefusesPull e h sub)) }
     {

@@ -1,21 +1,27 @@
-use Rattle.std.proofs.Common.{subst}
+use Rattle.std.proofs.Common.{subst, ◌∙◌}
 use Rattle.mediator_calls.specs.Mediation.{Mediation}
 use Rattle.mediator_calls.specs.View.{view_of}
 use Rattle.mediator_calls.specs.Calls.{Opens}
-use Rattle.mediator_calls.proofs.CallLaws.{if_ok_at, if_ok_none, opens, kept_open, kept_same}
+use Rattle.mediator_calls.proofs.CallLaws.{if_ok_at, if_ok_none, opens, kept_open, kept_same, same_on, on_err_at, on_err_none}
 use Rattle.mediator_calls.proofs.mediator.Mediator.open.Goals.{in-Ok, in-Err}
 use Rattle.mediator_calls.proofs.mediator.Mediator.open.Goals as goal
 
 pub invariant_of-self : goal.invariant_of-self
 invariant_of-self c = elim c.match-open.branch [
-  | in-Ok w ↦ kept_open c.self.inside.state c.open.new.self w.in-Ok.session c.self.invariant (w.in-Ok.ensures.ok c.self.inside.state.chronicle.entries c.self.invariant.stands) w.in-Ok.ensures.untouched w.in-Ok.ensures.journaled
-  | in-Err w ↦ kept_same c.self.inside.state c.open.new.self c.self.invariant w.in-Err.ensures.unchanged w.in-Err.ensures.untouched w.in-Err.ensures.journaled
+  | in-Ok w ↦ kept_open c.self.inside.state c.open.new.self w.in-Ok.session c.self.invariant (w.in-Ok.ensures.ok.goes_on c.self.inside.state.chronicle.entries c.self.invariant.stands) w.in-Ok.ensures.ok.untouched w.in-Ok.ensures.ok.journaled
+  | in-Err w ↦ kept_same c.self.inside.state c.open.new.self c.self.invariant w.in-Err.ensures.unchanged
 ]
 
 pub returns-clause-ok : goal.returns-clause-ok
 returns-clause-ok c = elim c.match-open.branch [
   | in-Ok w ↦ if_ok_at _ c.match-open.result _ w.result-is
       (subst (λ (m : Mediation). Opens m w.in-Ok.session (view_of c.open.new.self)) c.self.view_is
-      (opens c.self.inside.state c.open.new.self w.in-Ok.session c.self.invariant.stands (w.in-Ok.ensures.ok c.self.inside.state.chronicle.entries c.self.invariant.stands) w.in-Ok.ensures.untouched w.in-Ok.ensures.journaled))
+      (opens c.self.inside.state c.open.new.self w.in-Ok.session c.self.invariant.stands (w.in-Ok.ensures.ok.goes_on c.self.inside.state.chronicle.entries c.self.invariant.stands) w.in-Ok.ensures.ok.untouched w.in-Ok.ensures.ok.journaled))
   | in-Err w ↦ if_ok_none _ c.match-open.result _ w.result-is
+]
+
+pub returns-clause-same : goal.returns-clause-same
+returns-clause-same c = elim c.match-open.branch [
+  | in-Ok w ↦ on_err_none _ c.match-open.result _ w.result-is
+  | in-Err w ↦ on_err_at c.match-open.result _ w.result-is (same_on c.self.inside.state c.open.new.self c.self.invariant.stands w.in-Err.ensures.unchanged ∙ c.self.view_is)
 ]

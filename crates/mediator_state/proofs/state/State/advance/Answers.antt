@@ -1,14 +1,26 @@
-use Rattle.std.proofs.Common.{List, sym, ◌∙◌, subst, arith}
+use Rattle.std.proofs.Common.{List, refl, sym, ◌∙◌, subst, arith}
 use Rattle.event_journal.specs.declared.entry.Entry.{Entry}
 use Rattle.mediator_state.specs.declared.engine.Engine.{Engine}
 use Rattle.mediator_state.specs.declared.fault.Fault.{Fault}
 use Rattle.mediator_state.specs.Seen.{IsSameEngine}
 use Rattle.mediator_state.specs.Advancing.{IsClosingFor}
 use Rattle.mediator_state.specs.Calls.{RefusesAdvance}
-use Rattle.mediator_state.proofs.SameLaws.{stands_same}
-use Rattle.mediator_state.proofs.CallLaws.{full_where, room_where, err_gives, on_err}
+use Rattle.mediator_state.proofs.SameLaws.{untouched_same, untouched_after}
+use Rattle.mediator_state.proofs.CallLaws.{full_where, room_where, same_state, same_roomed, err_gives, on_err}
 use Rattle.mediator_state.proofs.AdvanceCalls.{ahead_of, ahead_memory, closing_held, closing_found, closing_full, closing_audit, closing_for, advanced}
 use Rattle.mediator_state.proofs.state.State.advance.Goals as goal
+
+pub returns-then-t-last-clause-same : goal.returns-then-t-last-clause-same
+returns-then-t-last-clause-same g c = same_state g.C.Chronicle.tells g.C.Chronicle.limits c.args.self.now
+
+pub returns-in_err-closing-clause-same : goal.returns-in_err-closing-clause-same
+returns-in_err-closing-clause-same g c = on_err c.from_residual.result (same_state g.C.Chronicle.tells g.C.Chronicle.limits c.args.self.now)
+
+pub returns-in_err-entries-clause-same : goal.returns-in_err-entries-clause-same
+returns-in_err-entries-clause-same g c = on_err c.from_residual-in_err-entries.result (same_state g.C.Chronicle.tells g.C.Chronicle.limits c.args.self.now)
+
+pub returns-then-not-room-clause-same : goal.returns-then-not-room-clause-same
+returns-then-not-room-clause-same g c = same_state g.C.Chronicle.tells g.C.Chronicle.limits c.args.self.now
 
 pub returns-in_err-closing-clause-err : goal.returns-in_err-closing-clause-err
 returns-in_err-closing-clause-err g c =
@@ -28,8 +40,8 @@ returns-then-not-room-clause-err g c = λ h s.
     (closing_found c.args.self.now.engine h c.args.t c.in_ok-closing.closing c.in_ok-entries.entries.items c.deref.result.now (ahead_of c.args.self.now.engine h c.args.t c.clock-last.result s.stands c.clock-last.ensures (omega (arith, c.if-t-last.false))) (c.in_ok-closing.ensures h s.stands) c.in_ok-entries.ensures c.deref.ensures.value)
     (full_where c.room.result (g.C.Chronicle.limits c.args.self.now.chronicle) (g.C.Chronicle.count c.args.self.now.chronicle) (g.C.Chronicle.octets c.args.self.now.chronicle) c.deref-2.result.now c.in_ok-entries.entries.items c.room.ensures c.deref-2.ensures.value c.if-not-room.true)
 
-pub returns-in_err-make_room_to_close-clause-unchanged : goal.returns-in_err-make_room_to_close-clause-unchanged
-returns-in_err-make_room_to_close-clause-unchanged g c = on_err c.from_residual-in_err-make_room_to_close.result (λ h s. record { told = s.told; stands = stands_same c.args.self.now.engine c.make_room_to_close.new.self h c.make_room_to_close.ensures.unchanged s.stands })
+pub returns-in_err-make_room_to_close-clause-same : goal.returns-in_err-make_room_to_close-clause-same
+returns-in_err-make_room_to_close-clause-same g c = on_err c.from_residual-in_err-make_room_to_close.result (same_roomed g.C.Chronicle.tells g.C.Chronicle.limits c.args.self.now c.args.self.now.chronicle c.make_room_to_close.new.self (λ h told. told) c.make_room_to_close.ensures.unchanged refl)
 
 pub returns-in_err-make_room_to_close-clause-err : goal.returns-in_err-make_room_to_close-clause-err
 returns-in_err-make_room_to_close-clause-err g c =
@@ -41,8 +53,8 @@ returns-in_err-make_room_to_close-clause-err g c =
     (room_where c.room.result (g.C.Chronicle.limits c.args.self.now.chronicle) (g.C.Chronicle.count c.args.self.now.chronicle) (g.C.Chronicle.octets c.args.self.now.chronicle) c.deref-2.result.now c.in_ok-entries.entries.items c.room.ensures c.deref-2.ensures.value c.if-not-room.false)
     c.in_err-make_room_to_close.ensures.err))
 
-pub returns-in_err-reserve-clause-unchanged : goal.returns-in_err-reserve-clause-unchanged
-returns-in_err-reserve-clause-unchanged g c = on_err c.from_residual-in_err-reserve.result (λ h s. record { told = c.reserve.ensures.tells h s.told; stands = stands_same c.args.self.now.engine c.make_room_to_close.new.self h c.make_room_to_close.ensures.unchanged s.stands })
+pub returns-in_err-reserve-clause-same : goal.returns-in_err-reserve-clause-same
+returns-in_err-reserve-clause-same g c = on_err c.from_residual-in_err-reserve.result (same_roomed g.C.Chronicle.tells g.C.Chronicle.limits c.args.self.now c.reserve.new.self c.make_room_to_close.new.self c.reserve.ensures.tells c.make_room_to_close.ensures.unchanged c.reserve.ensures.limits)
 
 pub returns-in_err-reserve-clause-err : goal.returns-in_err-reserve-clause-err
 returns-in_err-reserve-clause-err g c =
@@ -61,13 +73,18 @@ advance-requires-clause-planned g c =
     (omega (arith, c.len-position.ensures.within, c.len-position.ensures.limits.most_entries)) (c.in_ok-closing.ensures h s.stands))
 
 pub returns-clause-ok : goal.returns-clause-ok
-returns-clause-ok g c = λ h s.
-    advanced g.C.Chronicle.tells g.C.Chronicle.limits c.args.self.now (record { chronicle = c.append.new.self.chronicle; engine = c.advance.new.self }) c.append.new.self.engine (g.C.Chronicle.count c.args.self.now.chronicle) (g.C.Chronicle.octets c.args.self.now.chronicle) h c.args.t c.in_ok-closing.closing c.in_ok-entries.entries.items c.len-position.result
-    s (g.met.C.Chronicle.counted c.args.self.now.chronicle h s.told) c.len-position.ensures.value
-    (closing_found c.args.self.now.engine h c.args.t c.in_ok-closing.closing c.in_ok-entries.entries.items c.deref.result.now (ahead_of c.args.self.now.engine h c.args.t c.clock-last.result s.stands c.clock-last.ensures (omega (arith, c.if-t-last.false))) (c.in_ok-closing.ensures h s.stands) c.in_ok-entries.ensures c.deref.ensures.value)
-    (room_where c.room.result (g.C.Chronicle.limits c.args.self.now.chronicle) (g.C.Chronicle.count c.args.self.now.chronicle) (g.C.Chronicle.octets c.args.self.now.chronicle) c.deref-2.result.now c.in_ok-entries.entries.items c.room.ensures c.deref-2.ensures.value c.if-not-room.false)
-    (subst (λ (e : Engine). IsSameEngine c.args.self.now.engine e) (sym c.append.ensures.engine) c.make_room_to_close.ensures.unchanged)
-    (closing_held c.args.self.now.engine c.make_room_to_close.new.self h c.args.t c.in_ok-closing.closing c.in_ok-entries.entries.items c.make_room_to_close.ensures.unchanged s.stands
-    (closing_found c.args.self.now.engine h c.args.t c.in_ok-closing.closing c.in_ok-entries.entries.items c.deref.result.now (ahead_of c.args.self.now.engine h c.args.t c.clock-last.result s.stands c.clock-last.ensures (omega (arith, c.if-t-last.false))) (c.in_ok-closing.ensures h s.stands) c.in_ok-entries.ensures c.deref.ensures.value)
-    c.in_ok-make_room_to_close.ensures.ok)
-    (c.append.ensures.tells h (c.reserve.ensures.tells h s.told)) c.advance.ensures.stands
+returns-clause-ok g c = record {
+  goes_on = λ h s.
+      advanced g.C.Chronicle.tells g.C.Chronicle.limits c.args.self.now (record { chronicle = c.append.new.self.chronicle; engine = c.advance.new.self }) c.append.new.self.engine (g.C.Chronicle.count c.args.self.now.chronicle) (g.C.Chronicle.octets c.args.self.now.chronicle) h c.args.t c.in_ok-closing.closing c.in_ok-entries.entries.items c.len-position.result
+      s (g.met.C.Chronicle.counted c.args.self.now.chronicle h s.told) c.len-position.ensures.value
+      (closing_found c.args.self.now.engine h c.args.t c.in_ok-closing.closing c.in_ok-entries.entries.items c.deref.result.now (ahead_of c.args.self.now.engine h c.args.t c.clock-last.result s.stands c.clock-last.ensures (omega (arith, c.if-t-last.false))) (c.in_ok-closing.ensures h s.stands) c.in_ok-entries.ensures c.deref.ensures.value)
+      (room_where c.room.result (g.C.Chronicle.limits c.args.self.now.chronicle) (g.C.Chronicle.count c.args.self.now.chronicle) (g.C.Chronicle.octets c.args.self.now.chronicle) c.deref-2.result.now c.in_ok-entries.entries.items c.room.ensures c.deref-2.ensures.value c.if-not-room.false)
+      (subst (λ (e : Engine). IsSameEngine c.args.self.now.engine e) (sym c.append.ensures.engine) c.make_room_to_close.ensures.unchanged)
+      (closing_held c.args.self.now.engine c.make_room_to_close.new.self h c.args.t c.in_ok-closing.closing c.in_ok-entries.entries.items c.make_room_to_close.ensures.unchanged s.stands
+      (closing_found c.args.self.now.engine h c.args.t c.in_ok-closing.closing c.in_ok-entries.entries.items c.deref.result.now (ahead_of c.args.self.now.engine h c.args.t c.clock-last.result s.stands c.clock-last.ensures (omega (arith, c.if-t-last.false))) (c.in_ok-closing.ensures h s.stands) c.in_ok-entries.ensures c.deref.ensures.value)
+      c.in_ok-make_room_to_close.ensures.ok)
+      (c.append.ensures.tells h (c.reserve.ensures.tells h s.told)) c.advance.ensures.stands;
+  untouched = untouched_after c.args.self.now.engine c.append.new.self.engine c.advance.new.self
+      (untouched_same c.args.self.now.engine c.append.new.self.engine (subst (λ (e : Engine). IsSameEngine c.args.self.now.engine e) (sym c.append.ensures.engine) c.make_room_to_close.ensures.unchanged)) c.advance.ensures.untouched;
+  journaled = c.append.ensures.limits ∙ c.reserve.ensures.limits;
+}

@@ -5,9 +5,22 @@ use Rattle.event_journal.specs.declared.entry.Entry.TheVariants.{Edit}
 use Rattle.mediator_state.specs.declared.fault.Fault.{Fault}
 use Rattle.mediator_state.specs.declared.engine.Engine.{Engine}
 use Rattle.mediator_state.specs.Standing.{Stands, StandsSomewhere}
+use Rattle.mediator_state.specs.Seen.{IsUntouched}
 use Rattle.mediator_state.specs.Calls.{RefusesEdit}
-use Rattle.mediator_state.proofs.CallLaws.{accepts_one, err_gives, refused_edit, somewhere}
+use Rattle.mediator_state.proofs.CallLaws.{accepts_one, same_state, same_kept, err_gives, on_err, refused_edit, somewhere}
 use Rattle.mediator_state.proofs.state.State.edit.Goals as goal
+
+pub returns-in_err-policy-clause-same : goal.returns-in_err-policy-clause-same
+returns-in_err-policy-clause-same g c = on_err c.from_residual.result (same_state g.C.Chronicle.tells g.C.Chronicle.limits c.args.self.now)
+
+pub returns-in_err-in_force-clause-same : goal.returns-in_err-in_force-clause-same
+returns-in_err-in_force-clause-same g c = on_err c.from_residual-in_err-in_force.result (same_state g.C.Chronicle.tells g.C.Chronicle.limits c.args.self.now)
+
+pub returns-in_err-text-clause-same : goal.returns-in_err-text-clause-same
+returns-in_err-text-clause-same g c = on_err c.from_residual-in_err-text.result (same_state g.C.Chronicle.tells g.C.Chronicle.limits c.args.self.now)
+
+pub returns-in_err-make_room-clause-same : goal.returns-in_err-make_room-clause-same
+returns-in_err-make_room-clause-same g c = on_err c.from_residual-in_err-make_room.result (same_kept g.C.Chronicle.tells g.C.Chronicle.limits c.args.self.now c.make_room.new.self.chronicle c.make_room.new.self.engine c.make_room.ensures.tells c.make_room.ensures.engine c.make_room.ensures.limits)
 
 pub returns-in_err-make_room-clause-err : goal.returns-in_err-make_room-clause-err
 returns-in_err-make_room-clause-err g c =
@@ -20,14 +33,18 @@ returns-in_err-make_room-clause-err g c =
 pub returns-clause-ok : goal.returns-clause-ok
 returns-clause-ok g c =
     let spelled : policy_of c.args.text.now ≡ Ok c.in_ok-in_force.in_force.policy = c.in_ok-policy.ensures.ok ∙ ap (λ (f : InForce). Ok f.policy) (sym c.in_ok-in_force.ensures) in
-    λ h s. record {
-      policy = c.in_ok-policy.policy;
-      spelled = c.in_ok-policy.ensures.ok;
-      number = c.put_in_force-edits.ensures.value h (subst (λ e. Stands e h) (sym c.make_room.ensures.engine) s.stands);
-      accepts = accepts_one g.C.Chronicle.tells g.C.Chronicle.limits g.C.Chronicle.count g.C.Chronicle.octets c.args.self.now c.make_room.new.self c.push_reserved.new.self c.put_in_force-edits.new.self h (Edit c.in_ok-text.text) (Edit c.args.text.now)
-          s (g.met.C.Chronicle.counted c.args.self.now.chronicle h s.told) c.make_room.ensures.limits c.make_room.ensures.count c.make_room.ensures.octets c.in_ok-make_room.ensures.room
-          (ap (λ (n : List ℕ). Edit n) c.in_ok-text.ensures)
-          c.make_room.ensures.tells c.push_reserved.ensures.tells c.make_room.ensures.engine (λ f st. c.put_in_force-edits.ensures.stands f c.args.text.now st spelled);
+    record {
+      goes_on = λ h s. record {
+        policy = c.in_ok-policy.policy;
+        spelled = c.in_ok-policy.ensures.ok;
+        number = c.put_in_force-edits.ensures.value h (subst (λ e. Stands e h) (sym c.make_room.ensures.engine) s.stands);
+        accepts = accepts_one g.C.Chronicle.tells g.C.Chronicle.limits g.C.Chronicle.count g.C.Chronicle.octets c.args.self.now c.make_room.new.self c.push_reserved.new.self c.put_in_force-edits.new.self h (Edit c.in_ok-text.text) (Edit c.args.text.now)
+            s (g.met.C.Chronicle.counted c.args.self.now.chronicle h s.told) c.make_room.ensures.limits c.make_room.ensures.count c.make_room.ensures.octets c.in_ok-make_room.ensures.room
+            (ap (λ (n : List ℕ). Edit n) c.in_ok-text.ensures)
+            c.make_room.ensures.tells c.push_reserved.ensures.tells c.make_room.ensures.engine (λ f st. c.put_in_force-edits.ensures.stands f c.args.text.now st spelled);
+      };
+      untouched = subst (λ (e : Engine). IsUntouched e c.put_in_force-edits.new.self) c.make_room.ensures.engine c.put_in_force-edits.ensures.untouched;
+      journaled = c.push_reserved.ensures.limits ∙ c.make_room.ensures.limits;
     }
 
 pub put_in_force-edits-requires-clause-somewhere : goal.put_in_force-edits-requires-clause-somewhere

@@ -1,11 +1,23 @@
 use Rattle.std.proofs.Common.{List, ℕ, sym, ap, ◌∙◌, subst}
 use Rattle.event_journal.specs.declared.entry.Entry.TheVariants.{Subscribe}
 use Rattle.mediator_state.specs.declared.fault.Fault.{Fault}
-use Rattle.mediator_state.specs.Standing.{Stands}
+use Rattle.mediator_state.specs.declared.engine.Engine.{Engine}
+use Rattle.mediator_state.specs.Seen.{IsSameEngine, IsUntouched}
 use Rattle.mediator_state.specs.Calls.{RefusesSubscribe}
-use Rattle.mediator_state.proofs.CallLaws.{refused_memory, refused_subscribe, accepts_one, err_gives, on_err}
-use Rattle.mediator_state.proofs.SameLaws.{stands_same}
+use Rattle.mediator_state.proofs.CallLaws.{refused_memory, refused_subscribe, accepts_one, same_state, same_kept, same_roomed, err_gives, on_err}
 use Rattle.mediator_state.proofs.state.State.subscribe.Goals as goal
+
+pub returns-then-not-is_name-clause-same : goal.returns-then-not-is_name-clause-same
+returns-then-not-is_name-clause-same g c = same_state g.C.Chronicle.tells g.C.Chronicle.limits c.args.self.now
+
+pub returns-in-Some-clause-same : goal.returns-in-Some-clause-same
+returns-in-Some-clause-same g c = same_state g.C.Chronicle.tells g.C.Chronicle.limits c.args.self.now
+
+pub returns-in_err-copy-clause-same : goal.returns-in_err-copy-clause-same
+returns-in_err-copy-clause-same g c = on_err c.from_residual.result (same_state g.C.Chronicle.tells g.C.Chronicle.limits c.args.self.now)
+
+pub returns-in_err-make_room-clause-same : goal.returns-in_err-make_room-clause-same
+returns-in_err-make_room-clause-same g c = on_err c.from_residual-in_err-make_room.result (same_kept g.C.Chronicle.tells g.C.Chronicle.limits c.args.self.now c.make_room.new.self.chronicle c.make_room.new.self.engine c.make_room.ensures.tells c.make_room.ensures.engine c.make_room.ensures.limits)
 
 pub returns-in_err-copy-clause-err : goal.returns-in_err-copy-clause-err
 returns-in_err-copy-clause-err g c =
@@ -25,17 +37,22 @@ returns-in_err-subscribe-clause-err g c =
     (λ e is h s. refused_memory e (g.C.Chronicle.limits c.args.self.now.chronicle) h c.args.name.now is (sym c.is_name.ensures ∙ c.if-not-is_name.false) (c.in_default.ensures.none h s.stands))
 
 pub returns-clause-ok : goal.returns-clause-ok
-returns-clause-ok g c = λ h s. record {
-  named = sym c.is_name.ensures ∙ c.if-not-is_name.false;
-  free = c.in_default.ensures.none h s.stands;
-  number = c.next_subscription-sub.ensures.next h s.stands;
-  accepts = accepts_one g.C.Chronicle.tells g.C.Chronicle.limits g.C.Chronicle.count g.C.Chronicle.octets c.args.self.now c.make_room.new.self c.push_reserved.new.self c.subscribe.new.self h (Subscribe c.next_subscription-sub.result c.in_ok-copy.copy) (Subscribe c.next_subscription-sub.result c.args.name.now)
-      s (g.met.C.Chronicle.counted c.args.self.now.chronicle h s.told) c.make_room.ensures.limits c.make_room.ensures.count c.make_room.ensures.octets c.in_ok-make_room.ensures.room
-      (ap (λ (n : List ℕ). Subscribe c.next_subscription-sub.result n) (c.in_ok-copy.ensures ∙ c.as_bytes.ensures.value))
-      c.make_room.ensures.tells c.push_reserved.ensures.tells c.make_room.ensures.engine c.in_ok-subscribe.ensures.ok;
+returns-clause-ok g c = record {
+  goes_on = λ h s. record {
+    named = sym c.is_name.ensures ∙ c.if-not-is_name.false;
+    free = c.in_default.ensures.none h s.stands;
+    number = c.next_subscription-sub.ensures.next h s.stands;
+    accepts = accepts_one g.C.Chronicle.tells g.C.Chronicle.limits g.C.Chronicle.count g.C.Chronicle.octets c.args.self.now c.make_room.new.self c.push_reserved.new.self c.subscribe.new.self h (Subscribe c.next_subscription-sub.result c.in_ok-copy.copy) (Subscribe c.next_subscription-sub.result c.args.name.now)
+        s (g.met.C.Chronicle.counted c.args.self.now.chronicle h s.told) c.make_room.ensures.limits c.make_room.ensures.count c.make_room.ensures.octets c.in_ok-make_room.ensures.room
+        (ap (λ (n : List ℕ). Subscribe c.next_subscription-sub.result n) (c.in_ok-copy.ensures ∙ c.as_bytes.ensures.value))
+        c.make_room.ensures.tells c.push_reserved.ensures.tells c.make_room.ensures.engine c.in_ok-subscribe.ensures.ok;
+  };
+  untouched = subst (λ (e : Engine). IsUntouched e c.subscribe.new.self) c.make_room.ensures.engine c.subscribe.ensures.untouched;
+  journaled = c.push_reserved.ensures.limits ∙ c.make_room.ensures.limits;
 }
 
 pub returns-in_err-subscribe-clause-unchanged : goal.returns-in_err-subscribe-clause-unchanged
 returns-in_err-subscribe-clause-unchanged g c =
     on_err c.from_residual-in_err-subscribe.result
-    (λ h s. record { told = c.make_room.ensures.tells h s.told; stands = stands_same c.make_room.new.self.engine c.subscribe.new.self h c.in_err-subscribe.ensures.err (subst (λ e. Stands e h) (sym c.make_room.ensures.engine) s.stands) })
+    (same_roomed g.C.Chronicle.tells g.C.Chronicle.limits c.args.self.now c.make_room.new.self.chronicle c.subscribe.new.self c.make_room.ensures.tells
+    (subst (λ (e : Engine). IsSameEngine e c.subscribe.new.self) c.make_room.ensures.engine c.in_err-subscribe.ensures.err) c.make_room.ensures.limits)

@@ -1,7 +1,19 @@
 use Rattle.std.proofs.Common.{◌≡◌, ℕ, List, ◌∙◌, subst}
-use Rattle.mediator_state.specs.Calls.{RefusesReceive}
-use Rattle.mediator_state.proofs.CallLaws.{if_err_gives, refused_as_prepared}
+use Rattle.mediator_state.specs.Calls.{Proceeds, Receives, RefusesReceive}
+use Rattle.mediator_state.proofs.CallLaws.{if_ok_gives, if_err_gives, refused_as_prepared, same_state, on_err}
 use Rattle.mediator_state.proofs.state.State.take_prepared.Goals as goal
+
+pub returns-in_err-reading-clause-same : goal.returns-in_err-reading-clause-same
+returns-in_err-reading-clause-same g c = on_err c.from_residual.result (same_state g.C.Chronicle.tells g.C.Chronicle.limits c.args.self.now)
+
+pub returns-in_err-message-clause-same : goal.returns-in_err-message-clause-same
+returns-in_err-message-clause-same g c = on_err c.from_residual-in_err-message.result (same_state g.C.Chronicle.tells g.C.Chronicle.limits c.args.self.now)
+
+pub returns-clause-ok : goal.returns-clause-ok
+returns-clause-ok g c = if_ok_gives c.take_in.result c.take_in.ensures.ok
+    (λ r got.
+    let same : c.in_ok-message.message ≡ c.args.prepared.now.message = c.in_ok-message.ensures.cases ∙ c.message.ensures.value in
+    subst (λ (m : List ℕ). Proceeds g.C.Chronicle.tells g.C.Chronicle.limits c.args.self.now c.take_in.new.self (Receives c.args.self.now.engine c.args.session c.args.number m r)) same got)
 
 pub returns-clause-err : goal.returns-clause-err
 returns-clause-err g c = if_err_gives c.take_in.result c.take_in.ensures.err
