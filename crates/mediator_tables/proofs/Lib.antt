@@ -1,4 +1,4 @@
 pub mod GroupTableLaws
 pub mod AddingLaws
 pub mod NameLaws
-pub mod LiveLaws
+pub mod ShareLaws

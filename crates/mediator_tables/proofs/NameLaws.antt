@@ -1,16 +1,19 @@
 -- Names and numbers stay tied where a subscription comes or goes.
-use Rattle.std.proofs.Common.{◌≡◌, ◌≢◌, ℕ, Bool, true, false, cond, eqb, List, Option, Some, None, refl, sym, ap, ◌∙◌}
+use Rattle.std.proofs.Common.{◌≡◌, ◌≢◌, ℕ, Bool, true, false, cond, eqb, List, Option, Some, None, refl, sym, ap, ◌∙◌, subst}
 use Rattle.std.specs.Map.{update}
 use Rattle.std.specs.Str.{bytes_eq}
-use Rattle.std.proofs.lemmas.Bool.{eqb-true, eqb-false, eq-eqb}
+use Rattle.std.proofs.lemmas.Bool.{eqb-true, eqb-false, eq-eqb, ne_eqb}
 use Rattle.std.proofs.lemmas.Slice.Eq.{bytes_eq-Decides}
 use Rattle.std.proofs.lemmas.Option.{none-some, same_Some}
-use Rattle.std.specs.Prelude.{IfSome, IfNone, IsSomeAnd}
+use Rattle.std.specs.Prelude.{IsSome, IfSome, IfNone, IsSomeAnd}
+use Rattle.std.specs.Ordering.{nat_cmp}
+use Rattle.std.specs.Cmp.{unsigned_tied}
+use Rattle.std.specs.BTreeMap.{BTreeMap, WritesThrough, is_at}
 use Rattle.std.specs.Option.{option_map}
 use Rattle.ipfix_template.specs.DataRecord.{DataRecord}
 use Rattle.ipfix_session.specs.Keeping.{at_key}
 use Rattle.mediator_tables.specs.declared.subscription.Subscription.{Subscription}
-use Rattle.mediator_tables.specs.SubscriptionTable.{Seen, seen, SameLive, Related, TakesGiven, HasName, cut_off}
+use Rattle.mediator_tables.specs.SubscriptionTable.{Seen, seen, SameLive, Related, TakesGiven, HasName}
 use Rattle.mediator_tables.specs.Naming.{AreNamed, name_at}
 
 -- the same names
@@ -102,14 +105,6 @@ name_given more None (Some t) gives = absurd gives
 name_given more (Some s) None gives = absurd gives
 name_given more (Some s) (Some t) gives = ap (λ (n : List ℕ). Some n) gives.name
 
-name_cut : (here : Bool) (o : Option Subscription) → name_in (cond here (option_map cut_off o) o) ≡ name_in o
-name_cut true None = refl
-name_cut true (Some s) = refl
-name_cut false o = refl
-
-pub names_cut : (es es2 : List (ℕ × Subscription)) (sub : ℕ) → ((q : ℕ) → at_key q es2 ≡ cond (eqb q sub) (option_map cut_off (at_key q es)) (at_key q es)) → (q : ℕ) → name_at es2 q ≡ name_at es q
-names_cut es es2 sub cuts q = ap name_in (cuts q) ∙ name_cut (eqb q sub) (at_key q es)
-
 name_put : (here : Bool) (s : Subscription) (o : Option Subscription) → name_in (cond here (Some s) o) ≡ cond here (Some s.name) (name_in o)
 name_put true s o = refl
 name_put false s o = refl
@@ -122,8 +117,42 @@ name_out : (here : Bool) (o : Option Subscription) → name_in (cond here None o
 name_out true o = refl
 name_out false o = refl
 
-pub names_less : (es es2 : List (ℕ × Subscription)) (sub : ℕ) → ((q : ℕ) → at_key q es2 ≡ cond (eqb q sub) None (at_key q es)) → (q : ℕ) → name_at es2 q ≡ cond (eqb q sub) None (name_at es q)
-names_less es es2 sub takes q = ap name_in (takes q) ∙ name_out (eqb q sub) (at_key q es)
+turned : (a b : ℕ) → eqb a b ≡ eqb b a
+turned a b = by (eqb a b) refl
+  where
+    by : (here : Bool) → eqb a b ≡ here → here ≡ eqb b a
+    by true is = sym (eq-eqb b a (sym (eqb-true a b is)))
+    by false is = sym (ne_eqb b a (λ same. eqb-false a b is (sym same)))
+
+-- a look-up stops at the same number
+at_is : (sub q : ℕ) → is_at (nat_cmp sub) q ≡ eqb q sub
+at_is sub q =
+    let tied : is_at (nat_cmp sub) q ≡ eqb sub q = unsigned_tied sub q in
+    tied ∙ turned sub q
+
+pub names_less : (es es2 : List (ℕ × Subscription)) (sub : ℕ) → ((q : ℕ) → at_key q es2 ≡ cond (is_at (nat_cmp sub) q) None (at_key q es)) → (q : ℕ) → name_at es2 q ≡ cond (eqb q sub) None (name_at es q)
+names_less es es2 sub takes q = ap name_in (takes q) ∙ name_out (is_at (nat_cmp sub) q) (at_key q es) ∙ ap (λ (here : Bool). cond here None (name_at es q)) (at_is sub q)
+
+names_written : (es es2 : List (ℕ × Subscription)) (sub : ℕ) (s t : Subscription) → Some s ≡ at_key sub es → t.name ≡ s.name → ((q : ℕ) → at_key q es2 ≡ cond (is_at (nat_cmp sub) q) (Some t) (at_key q es))
+    → (q : ℕ) → name_at es2 q ≡ name_at es q
+names_written es es2 sub s t there same written q = ap name_in (written q) ∙ by (is_at (nat_cmp sub) q) refl
+  where
+    by : (here : Bool) → is_at (nat_cmp sub) q ≡ here → name_in (cond here (Some t) (at_key q es)) ≡ name_at es q
+    by true is =
+        let one : q ≡ sub = eqb-true q sub (sym (at_is sub q) ∙ is) in
+        ap (λ (n : List ℕ). Some n) same ∙ ap name_in there ∙ ap (λ (k : ℕ). name_at es k) (sym one)
+    by false is = refl
+
+-- the names stay tied where one is written over by one of the same name
+pub named_written : (numbers : List ℕ → Option ℕ) (m n : BTreeMap ℕ Subscription) (sub : ℕ) (s t : Subscription) → Some s ≡ at_key sub m.entries → t.name ≡ s.name → WritesThrough nat_cmp (nat_cmp sub) m t n
+    → AreNamed numbers (name_at m.entries) → AreNamed numbers (name_at n.entries)
+named_written numbers m n sub s t there same written so =
+    let found : IsSome (at_key sub m.entries) = subst (λ (o : Option Subscription). IsSome o) there refl in
+    named_same numbers numbers (name_at m.entries) (name_at n.entries) (λ k. refl) (names_written m.entries n.entries sub s t there same (written.3 found).0) so
+
+-- so they do where nothing was lent
+pub named_unwritten : (numbers : List ℕ → Option ℕ) (m n : BTreeMap ℕ Subscription) → n ≡ m → AreNamed numbers (name_at m.entries) → AreNamed numbers (name_at n.entries)
+named_unwritten numbers m n same so = subst (λ (k : BTreeMap ℕ Subscription). AreNamed numbers (name_at k.entries)) (sym same) so
 
 pub name_free : (name : List ℕ) (o : Option Subscription) → IfSome o (λ s. s.name ≢ name) → name_in o ≡ Some name → ⊥
 name_free name None free is = none-some name is

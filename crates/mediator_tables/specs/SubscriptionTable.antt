@@ -60,11 +60,8 @@ abbrev pub told : Served → ℕ × List ℕ
 told who = (who.sub, who.name.now)
 
 -- the number and the name of a subscription, which is empty where none has the number
-abbrev pub told_among : List (ℕ × Subscription) → ℕ → ℕ × List ℕ
-told_among live sub = (sub, option_map_or (λ s. s.name) (at_key sub live) [])
-
 abbrev pub told_in : Table → ℕ → ℕ × List ℕ
-told_in t sub = told_among t.live sub
+told_in t sub = (sub, option_map_or (λ s. s.name) (at t sub) [])
 
 -- ---- room
 
@@ -74,11 +71,8 @@ lacks_room k more =
     nat_lt 0 (length more) && (nat_lt k.limits.queue (queued k.standing + length more) || nat_lt k.limits.shapes (length (shapes_after k.standing.shapes more)))
 
 -- the same of a share, and false where its subscription isn't live
-abbrev pub lacks_room_among : List (ℕ × Subscription) → ℕ × List DataRecord → Bool
-lacks_room_among live share = option_map_or (λ s. lacks_room s.stream share.1) (at_key share.0 live) false
-
 abbrev pub lacks_room_at : Table → ℕ × List DataRecord → Bool
-lacks_room_at t share = lacks_room_among t.live share
+lacks_room_at t share = option_map_or (λ s. lacks_room s.stream share.1) (at t share.0) false
 
 -- room is reserved for a share, where its subscription is live
 abbrev pub HasSpare : List (ℕ × Subscription) → ℕ × List DataRecord → Type 0

@@ -27,7 +27,7 @@
 //! - `subscription`: [`Subscription`], a live subscription with its stream.
 //! - `subscriptions`: [`Subscriptions`], the table of them.
 //! - `served`: [`Served`], one that is served, with its subscriber's name; `share`: [`Share`], what one is given.
-//! - `live`, `names`: its two parts, the subscriptions under their numbers, and the number under each name.
+//! - `names`: the numbers under the subscribers' names, which are a part of that table.
 //!
 //! Proved: `get` answers the subscription of a number, and `named` the number that has a name, or that none has it. `served`
 //! answers those that are served, in their order, and `lacks_room` whether the limits of one leave no room for what it is
@@ -37,7 +37,6 @@
 #![tactic(auto)]
 
 mod groups;
-mod live;
 mod names;
 mod open_session;
 mod served;

@@ -6,7 +6,6 @@ ghost use Rattle.policy_text.specs.Naming.{is_name};
 ghost use Rattle.mediator_tables.specs.SubscriptionTable.{shown};
 ghost use Rattle.mediator_tables.specs.SubscriptionTable.{at, SameTable, HasName, Related, AreReady, TakesGiven, PullsOne, given_to, lacks_room_at, told, told_in, cut_off};
 
-use crate::live::Live;
 use crate::names::Names;
 use crate::served::Served;
 use crate::share::Share;
@@ -14,6 +13,7 @@ use crate::subscription::Subscription;
 use bytes::Bytes;
 use policy_text::Name;
 use std::alloc::{AllocError, Global};
+use std::collections::BTreeMap;
 use std::marker::Model;
 use subscriber_stream::{PullError, Stream};
 
@@ -21,8 +21,11 @@ use subscriber_stream::{PullError, Stream};
 /// many there are. What goes over those that are served doesn't go over those that are cut.
 pub struct Subscriptions {
     alloc: Global,
-    live: Live,
+    /// The live ones by their numbers.
+    by_number: BTreeMap<u64, Subscription>,
+    /// Their numbers by their subscribers' names.
     names: Names,
+    /// The numbers of those that are served, in the order in which they began.
     served: Vec<u64>,
 }
 
@@ -31,7 +34,7 @@ impl Drop for Subscriptions {
     fn drop(self) {
         let Subscriptions {
             alloc: _,
-            live: _,
+            by_number: _,
             names: _,
             served: _,
         } = self;
@@ -45,9 +48,9 @@ impl Model for Subscriptions {
 
     ghost use Rattle.mediator_tables.specs.Naming.{AreNamed, number_of, name_at};
 
-    ghost view = { λ s. record { live = s.live.by_number.entries; served = s.served.items } };
+    ghost view = { λ s. record { live = s.by_number.entries; served = s.served.items } };
 
-    ghost invariant = { λ s. AreNamed (number_of s.names) (name_at s.live.by_number.entries) };
+    ghost invariant = { λ s. AreNamed (number_of s.names) (name_at s.by_number.entries) };
 }
 
 impl Subscriptions {
@@ -57,7 +60,7 @@ impl Subscriptions {
     {
         Subscriptions {
             alloc,
-            live: Live::new(alloc),
+            by_number: BTreeMap::new(alloc),
             names: Names::new(alloc),
             served: Vec::new(alloc),
         }
@@ -67,7 +70,7 @@ impl Subscriptions {
     pub fn get(&self, sub: u64) -> Option<&Subscription>
         ensures { option_copied result ≡ at self.now sub }
     {
-        self.live.get(sub)
+        self.by_number.get(&sub)
     }
 
     /// The number of the live subscription whose subscriber has this `name`, or `None`.
@@ -86,7 +89,15 @@ impl Subscriptions {
     pub fn served(&self) -> Result<Vec<Served<'_>>, AllocError>
         ensures { IfOk result (λ v. map told v.items ≡ map (told_in self.now) self.now.served) }
     {
-        self.live.served(self.alloc, &self.served)
+        let mut found = Vec::new(self.alloc);
+        'served: for sub in &self.served {
+            let name = match self.get(*sub) {
+                Some(kept) => kept.name.as_str(),
+                None => "",
+            };
+            found.push(Served { sub: *sub, name })?;
+        }
+        Ok(found)
     }
 
     /// Whether the limits of the subscription that `share` names leave no room for the records of `share`, of which
@@ -94,13 +105,19 @@ impl Subscriptions {
     pub fn lacks_room(&self, share: &Share) -> bool
         ensures { result ≡ lacks_room_at self.now (shown share.now) }
     {
-        self.live.lacks_room(share)
+        match self.get(share.sub) {
+            Some(kept) => !share.given.is_empty() && !kept.stream.room(&share.given),
+            None => false,
+        }
     }
 
     /// Whether the queue of the subscription that `share` names, which isn't cut, has no room for the records of
     /// `share` until some of what waits is pulled, and has room then. It takes no memory.
     pub fn is_held_up(&self, share: &Share) -> bool {
-        self.live.is_held_up(share)
+        match self.get(share.sub) {
+            Some(kept) => !kept.is_cut && kept.stream.is_held_up(&share.given),
+            None => false,
+        }
     }
 
     /// Makes room in the stream of each subscription that `shares` name for the records of its share, so that
@@ -113,7 +130,10 @@ impl Subscriptions {
         ensures ok { OnOk result (AllByRecursion (λ s. IfSome (at self.new s.0)
             (λ x. length s.1 ≤ x.stream.spare)) (map shown shares.now)) }
     {
-        self.live.reserve(shares)
+        'shares: for share in shares {
+            reserve_one(&mut self.by_number, share)?;
+        }
+        Ok(())
     }
 
     /// Hands each subscription that `shares` name the records of its share, behind what waits for it. The caller has
@@ -124,7 +144,9 @@ impl Subscriptions {
             (at self.old sub) (at self.new sub) }
         ensures served { self.new.served ≡ self.old.served }
     {
-        self.live.give(shares);
+        'shares: for share in shares {
+            give_one(&mut self.by_number, share);
+        }
     }
 
     /// Cuts the subscription with the number `sub`, if there is one: it is served no more, and keeps what waits. It
@@ -134,7 +156,9 @@ impl Subscriptions {
             ≡ (if q == sub then option_map cut_off (at self.old q) else at self.old q) }
         ensures served { self.new.served ≡ filter (λ q. not (q == sub)) self.old.served }
     {
-        self.live.cut(sub);
+        if let Some(kept) = self.by_number.get_mut(&sub) {
+            kept.is_cut = true;
+        }
         take_out(&mut self.served, sub);
     }
 
@@ -161,7 +185,7 @@ impl Subscriptions {
             stream,
         };
         self.names.insert(self.alloc, name, sub)?;
-        if let Err(refused) = self.live.insert(sub, added) {
+        if let Err(refused) = put(&mut self.by_number, sub, added) {
             self.names.remove(name);
             return Err(refused);
         }
@@ -175,7 +199,7 @@ impl Subscriptions {
         ensures served { self.new.served ≡ filter (λ q. not (q == sub)) self.old.served }
     {
         take_out(&mut self.served, sub);
-        if let Some(gone) = self.live.remove(sub) {
+        if let Some(gone) = self.by_number.remove(&sub) {
             self.names.remove(gone.name.as_str());
         }
     }
@@ -196,8 +220,66 @@ impl Subscriptions {
             Related (PullsOne now target m) (at self.old sub) (at self.new sub)) }
         ensures err { OnErr result (SameTable self.old self.new) }
     {
-        self.live.pull(sub, now, target)
+        match self.by_number.get_mut(&sub) {
+            Some(kept) => kept.stream.pull(now, target),
+            None => unreachable!(),
+        }
     }
+}
+
+ghost use Rattle.ipfix_session.specs.Keeping.{at_key};
+ghost use Rattle.mediator_tables.specs.SubscriptionTable.{SameLive, HasSpare, IsReady};
+ghost use Rattle.mediator_tables.specs.Naming.{KeepsSpare};
+
+/// Makes room in the stream of the subscription that `share` names, if it is one of `live`, for the records of `share`.
+///
+/// # Errors
+/// Want of memory. Whatever the answer, only reserved room has changed.
+fn reserve_one(live: &mut BTreeMap<u64, Subscription>, share: &Share) -> Result<(), AllocError>
+    ensures unchanged { SameLive live.old.entries live.new.entries }
+    ensures kept { KeepsSpare live.old.entries live.new.entries }
+    ensures ok { OnOk result (HasSpare live.new.entries (shown share.now)) }
+{
+    match live.get_mut(&share.sub) {
+        Some(kept) => kept.stream.reserve(&share.given),
+        None => Ok(()),
+    }
+}
+
+/// Hands the subscription that `share` names, if it is one of `live`, the records of `share`, in room that was reserved.
+/// It takes no memory.
+fn give_one(live: &mut BTreeMap<u64, Subscription>, share: Share)
+    requires ready { IfSome (at_key share.sub live.old.entries)
+        (λ x. IsReady x.stream share.given) }
+    ensures each { (q : ℕ) → Related (TakesGiven (given_to q (shown share ∷ [])))
+        (at_key q live.old.entries) (at_key q live.new.entries) }
+    ensures others { (q : ℕ) → q ≢ share.sub
+        → at_key q live.new.entries ≡ at_key q live.old.entries }
+{
+    let Share { sub, given } = share;
+    if given.is_empty() {
+        return;
+    }
+    if let Some(kept) = live.get_mut(&sub) {
+        kept.stream.push_reserved(given);
+    }
+}
+
+/// Puts the subscription `added` under the number `sub` into `live`.
+///
+/// # Errors
+/// Want of memory, and then nothing has changed.
+fn put(
+    live: &mut BTreeMap<u64, Subscription>,
+    sub: u64,
+    added: Subscription,
+) -> Result<(), AllocError>
+    ensures ok { OnOk result ((q : ℕ) → at_key q live.new.entries
+        ≡ (if q == sub then Some added else at_key q live.old.entries)) }
+    ensures err { OnErr result (live.new.entries ≡ live.old.entries) }
+{
+    live.insert(sub, added)?;
+    Ok(())
 }
 
 /// Takes the number `sub` out of the list `numbers`.

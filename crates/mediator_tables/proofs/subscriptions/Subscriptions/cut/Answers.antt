@@ -1,10 +1,16 @@
 use Rattle.std.proofs.Common.{refl}
-use Rattle.mediator_tables.specs.Naming.{number_of, name_at}
-use Rattle.mediator_tables.proofs.NameLaws.{named_same, names_cut}
+use Rattle.mediator_tables.specs.SubscriptionTable.{cut_off}
+use Rattle.mediator_tables.specs.Naming.{number_of}
+use Rattle.mediator_tables.proofs.NameLaws.{named_written, named_unwritten}
+use Rattle.mediator_tables.proofs.subscriptions.Subscriptions.cut.Goals.{in-Some, in_default}
 use Rattle.mediator_tables.proofs.subscriptions.Subscriptions.cut.Goals as goal
 
 pub invariant_of-self : goal.invariant_of-self
 invariant_of-self c =
     let s = c.self.inside in
-    named_same (number_of s.names) (number_of s.names) (name_at s.live.by_number.entries) (name_at c.cut.new.self.by_number.entries) (λ n. refl)
-    (names_cut s.live.by_number.entries c.cut.new.self.by_number.entries c.args.sub c.cut.ensures) c.self.invariant
+    elim c.match-get_mut.branch [
+      | in-Some w ↦ rw w.self-inside-is
+          (named_written (number_of s.names) s.by_number (c.get_mut.follows.lender (cut_off w.in-Some.kept.now)) c.args.sub w.in-Some.kept.now (cut_off w.in-Some.kept.now)
+          w.in-Some.ensures.value refl (c.get_mut.follows.holds (cut_off w.in-Some.kept.now)) c.self.invariant)
+      | in_default w ↦ rw w.self-inside-is (named_unwritten (number_of s.names) s.by_number c.get_mut.follows.lender-at-none c.get_mut.follows.holds-at-none c.self.invariant)
+    ]

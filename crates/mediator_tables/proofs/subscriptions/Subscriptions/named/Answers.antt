@@ -9,10 +9,10 @@ pub returns-clause-found : goal.returns-clause-found
 returns-clause-found c =
     let s = c.self.inside in
     subst (λ (t : Table). IfSome c.get.result (λ sub. IsSomeAnd (at t sub) (HasName c.args.name.now))) c.self.view_is
-    (named_found (number_of s.names) s.live.by_number.entries c.args.name.now c.get.result c.get.ensures c.self.invariant)
+    (named_found (number_of s.names) s.by_number.entries c.args.name.now c.get.result c.get.ensures c.self.invariant)
 
 pub returns-clause-none : goal.returns-clause-none
 returns-clause-none c =
     let s = c.self.inside in
     subst (λ (t : Table). IfNone c.get.result ((sub : ℕ) → IfSome (at t sub) (λ x. x.name ≢ c.args.name.now))) c.self.view_is
-    (named_none (number_of s.names) s.live.by_number.entries c.args.name.now c.get.result c.get.ensures c.self.invariant)
+    (named_none (number_of s.names) s.by_number.entries c.args.name.now c.get.result c.get.ensures c.self.invariant)

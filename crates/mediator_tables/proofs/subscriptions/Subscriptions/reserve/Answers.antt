@@ -1,10 +1,33 @@
-use Rattle.std.proofs.Common.{refl}
+use Rattle.std.proofs.Common.{◌∙◌, refl, ap, arith}
+use Rattle.std.specs.Option.{option_map}
+use Rattle.mediator_tables.specs.SubscriptionTable.{Table, at, shown, seen}
 use Rattle.mediator_tables.specs.Naming.{number_of, name_at}
 use Rattle.mediator_tables.proofs.NameLaws.{named_same, names_seen}
+use Rattle.mediator_tables.proofs.ShareLaws.{spare_more}
 use Rattle.mediator_tables.proofs.subscriptions.Subscriptions.reserve.Goals as goal
 
-pub invariant_of-self : goal.invariant_of-self
-invariant_of-self c =
-    let s = c.self.inside in
-    named_same (number_of s.names) (number_of s.names) (name_at s.live.by_number.entries) (name_at c.reserve.new.self.by_number.entries) (λ n. refl)
-    (names_seen s.live.by_number.entries c.reserve.new.self.by_number.entries c.reserve.ensures.unchanged) c.self.invariant
+pub shares-init : goal.shares-init
+shares-init c = record {
+  named = c.self.invariant;
+  same = λ q. ap (λ (t : Table). option_map seen (at t q)) c.self.view_is;
+  served = ap (λ (t : Table). t.served) c.self.view_is;
+  spare = tt;
+}
+
+pub invariant_of-self-in_err-reserve_one : goal.invariant_of-self-in_err-reserve_one
+invariant_of-self-in_err-reserve_one c =
+    let s = c.shares.self-inside in
+    named_same (number_of s.names) (number_of s.names) (name_at s.by_number.entries) (name_at c.reserve_one.new.live.entries) (λ n. refl)
+    (names_seen s.by_number.entries c.reserve_one.new.live.entries c.reserve_one.ensures.unchanged) c.shares.invariant.named
+
+pub shares-preserved : goal.shares-preserved
+shares-preserved c =
+    let s = c.shares.self-inside in
+    record {
+      named = named_same (number_of s.names) (number_of s.names) (name_at s.by_number.entries) (name_at c.reserve_one.new.live.entries) (λ n. refl)
+          (names_seen s.by_number.entries c.reserve_one.new.live.entries c.reserve_one.ensures.unchanged) c.shares.invariant.named;
+      same = λ q. c.reserve_one.ensures.unchanged q ∙ c.shares.invariant.same q;
+      served = c.shares.invariant.served;
+      spare = spare_more shown s.by_number.entries c.reserve_one.new.live.entries c.args.shares.now c.shares.share-index c.share-item.result _ (omega (arith, c.shares-test.true)) c.share-item.is
+          c.reserve_one.ensures.kept c.in_ok-reserve_one.ensures.ok c.shares.invariant.spare;
+    }

@@ -1,5 +1,5 @@
--- Loops over shares and over numbers.
-use Rattle.std.proofs.Common.{◌≡◌, ◌≢◌, ◌≤◌, ◌<◌, ◌+◌, ℕ, cond, eqb, List, [], ◌∷◌, ◌++◌, length, map, take, Option, Some, None, sym, ap, ◌∙◌, subst, arith, append_assoc}
+-- Loops over shares: what is given, and room that is reserved.
+use Rattle.std.proofs.Common.{◌≡◌, ◌≢◌, ◌≤◌, ◌<◌, ◌+◌, ℕ, cond, eqb, List, [], ◌∷◌, ◌++◌, length, map, take, Option, Some, None, refl, sym, ap, ◌∙◌, subst, arith, append_assoc, append-nil}
 use Rattle.std.specs.Prelude.{get_or, IfSome}
 use Rattle.std.specs.List.{AllByRecursion}
 use Rattle.std.proofs.lemmas.Grind.{flat_map-append}
@@ -29,6 +29,18 @@ related_both a b (Some s) None r f g = absurd f
 related_both a b (Some s) (Some t) None f g = g
 related_both a b (Some s) (Some t) (Some u) f g = both_given a b s t u f g
 
+given_nothing : (s : Subscription) → TakesGiven [] s s
+given_nothing s = record {
+  name = refl;
+  is_cut = refl;
+  limits = refl;
+  takes = record { stands = λ records p at. subst (λ (l : List DataRecord). StandsAt s.stream.standing l p) (sym (append-nil records)) at };
+}
+
+related_nothing : (o : Option Subscription) → Related (TakesGiven []) o o
+related_nothing None = tt
+related_nothing (Some s) = given_nothing s
+
 ready_stays : (sub : ℕ) (es es2 : List (ℕ × Subscription)) (ss : List (ℕ × List DataRecord)) → ((q : ℕ) → q ≢ sub → at_key q es2 ≡ at_key q es)
     → AllByRecursion (λ o. o.0 ≢ sub) ss → AreReadyAmong es ss → AreReadyAmong es2 ss
 ready_stays sub es es2 [] others apart ready = tt
@@ -42,6 +54,20 @@ pub record IsGiving (old now : List (ℕ × Subscription)) (all rest : List (ℕ
   pub each : (q : ℕ) → Related (TakesGiven (given_to q done)) (at_key q old) (at_key q now)
   pub ready : AreReadyAmong now rest
 
+pub giving_start : (table es : List (ℕ × Subscription)) (all rest : List (ℕ × List DataRecord)) → es ≡ table → all ≡ rest → AreReadyAmong table all → IsGiving table es all rest
+giving_start table es all rest same is ready = record {
+  done = [];
+  split = is;
+  each = λ q. subst (λ (now : List (ℕ × Subscription)). Related (TakesGiven []) (at_key q table) (at_key q now)) (sym same) (related_nothing (at_key q table));
+  ready = subst (λ (now : List (ℕ × Subscription)). AreReadyAmong now rest) (sym same) (subst (AreReadyAmong table) is ready);
+}
+
+pub giving_ready : (old now : List (ℕ × Subscription)) (all rest rest2 : List (ℕ × List DataRecord)) (s : ℕ × List DataRecord) → rest ≡ s ∷ rest2 → IsGiving old now all rest
+    → IfSome (at_key s.0 now) (λ x. IsReady x.stream s.1)
+giving_ready old now all rest rest2 s is so =
+    let ready : AreReadyAmong now (s ∷ rest2) = subst (AreReadyAmong now) is so.ready in
+    ready.0
+
 pub giving_next : (old now now2 : List (ℕ × Subscription)) (all rest rest2 : List (ℕ × List DataRecord)) (s : ℕ × List DataRecord) → rest ≡ s ∷ rest2
     → ((q : ℕ) → Related (TakesGiven (given_to q (s ∷ []))) (at_key q now) (at_key q now2)) → ((q : ℕ) → q ≢ s.0 → at_key q now2 ≡ at_key q now)
     → IsGiving old now all rest → IsGiving old now2 all rest2
@@ -54,6 +80,12 @@ giving_next old now now2 all rest rest2 s is gives others so =
           (related_both (given_to q so.done) (given_to q (s ∷ [])) (at_key q old) (at_key q now) (at_key q now2) (so.each q) (gives q));
       ready = ready_stays s.0 now now2 rest2 others ready.1 ready.2;
     }
+
+pub giving_end : (old now : List (ℕ × Subscription)) (all rest : List (ℕ × List DataRecord)) → IsGiving old now all rest → rest ≡ []
+    → (q : ℕ) → Related (TakesGiven (given_to q all)) (at_key q old) (at_key q now)
+giving_end old now all rest so none q =
+    subst (λ (l : List (ℕ × List DataRecord)). Related (TakesGiven (given_to q l)) (at_key q old) (at_key q now))
+    (sym (so.split ∙ ap (λ (l : List (ℕ × List DataRecord)). so.done ++ l) none ∙ append-nil so.done)) (so.each q)
 
 -- ---- room that is reserved
 
