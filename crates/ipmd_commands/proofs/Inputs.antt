@@ -5,7 +5,8 @@ use Rattle.std.specs.Io.KnownBytes.{Appends, Keeps}
 use Rattle.ipfix_message.specs.Framing.{IsFramed}
 use Rattle.mediator_offline.proofs.Framed.{meant_are_cut}
 use Rattle.mediator_offline.specs.Offline.{disclosed_by}
-use Rattle.mediator_offline.specs.Filtering.{Ports, unfailed, FiltersAll, FailsToFilter}
+use Rattle.mediator_offline.specs.Ports.{Ports, unfailed}
+use Rattle.mediator_offline.specs.Filtering.{FiltersAll, FailsToFilter}
 use Rattle.mediator_offline.specs.declared.job.OfflineFault.{OfflineFault}
 use Rattle.std.specs.Prelude.{IfErr, IfOk, IfSome, is_some, Result, Ok, Err}
 use Rattle.mediator_offline.specs.declared.job.OfflineJob.{OfflineJob}
@@ -23,7 +24,7 @@ due_lines : (job : OfflineJob) (report : OfflineReport) (octets stream : List �
 due_lines job report octets stream held holds audit_held audit_holds done lines =
     subst (λ ms. Appends held holds (lines_of ms))
     (meant_are_cut done.filters.done.written lines.messages (disclosed_by job done.filters.messages) lines.cut.0 lines.cut.1 done.filters.done.filters.means
-    (subst (λ s. IsFramed s lines.messages lines.cut.0 lines.cut.1) (joined done.after.written done.filters.done.writes.stream done.flushed) lines.cut.2))
+    (subst (λ s. IsFramed s lines.messages lines.cut.0 lines.cut.1) (joined done.after.outputs.written done.filters.done.writes.stream done.flushed) lines.cut.2))
     lines.written
   where
     joined : (written : Option (List ℕ)) → Appends (Some []) written (concat done.filters.done.written) → Keeps written (Some stream) → stream ≡ concat done.filters.done.written
@@ -59,7 +60,7 @@ fails_spelled (Some text) held holds audit_held audit_holds octets job e spelled
 pub ran : (job : OfflineJob) (r : Result OfflineReport OfflineFault) (given held holds audit_held audit_holds : Option (List ℕ)) (after : Ports)
     → IfOk r (λ report. FiltersAll job report (unfailed given held audit_held) after)
     → IfErr r (λ fault. FailsToFilter fault job (unfailed given held audit_held) after)
-    → Keeps after.written holds → Keeps after.audited audit_holds → EndsOn job given held holds audit_held audit_holds
+    → Keeps after.outputs.written holds → Keeps after.outputs.audited audit_holds → EndsOn job given held holds audit_held audit_holds
 ran job (Ok report) given held holds audit_held audit_holds after filters fails flushed audit_flushed =
     inl (report, record { after = after; filters = filters; flushed = flushed; audit_flushed = audit_flushed })
 ran job (Err fault) given held holds audit_held audit_holds after filters fails flushed audit_flushed =

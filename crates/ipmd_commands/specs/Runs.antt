@@ -11,7 +11,8 @@ use Rattle.policy_text.specs.Parsing.{policy_of}
 use Rattle.mediator_offline.specs.declared.job.OfflineJob.{OfflineJob}
 use Rattle.mediator_offline.specs.declared.job.OfflineReport.{OfflineReport}
 use Rattle.mediator_offline.specs.declared.job.OfflineFault.{OfflineFault}
-use Rattle.mediator_offline.specs.Filtering.{Ports, unfailed, FiltersAll, FailsToFilter}
+use Rattle.mediator_offline.specs.Ports.{Ports, unfailed}
+use Rattle.mediator_offline.specs.Filtering.{FiltersAll, FailsToFilter}
 use Rattle.ipmd_command_line.specs.declared.command_line.TheConstants.{KIT, VERSION}
 use Rattle.ipmd_command_line.specs.declared.task.OfflineOptions.{OfflineOptions}
 use Rattle.ipmd_command_line.specs.declared.task.PolicySource.{PolicySource}
@@ -123,8 +124,8 @@ pub record Asked (options : OfflineOptions) : Type 0 where
 pub record FinishesOn (job : OfflineJob) (report : OfflineReport) (given held holds audit_held audit_holds : Option (List ℕ)) : Type 0 where
   pub after : Ports
   pub filters : FiltersAll job report (unfailed given held audit_held) after
-  pub flushed : Keeps after.written holds
-  pub audit_flushed : Keeps after.audited audit_holds
+  pub flushed : Keeps after.outputs.written holds
+  pub audit_flushed : Keeps after.outputs.audited audit_holds
 
 -- the same, and each message that is due was written as a line
 pub record FinishesLines (job : OfflineJob) (report : OfflineReport) (octets : List ℕ) (held holds audit_held audit_holds : Option (List ℕ)) : Type 0 where
@@ -155,8 +156,8 @@ Filters options report given held holds = (asked : Asked options) × FinishesWit
 pub record StopsBy (fault : OfflineFault) (job : OfflineJob) (given held holds audit_held audit_holds : Option (List ℕ)) : Type 0 where
   pub after : Ports
   pub fails : FailsToFilter fault job (unfailed given held audit_held) after
-  pub flushed : Keeps after.written holds
-  pub audit_flushed : Keeps after.audited audit_holds
+  pub flushed : Keeps after.outputs.written holds
+  pub audit_flushed : Keeps after.outputs.audited audit_holds
 
 -- the same, and this is what the program makes of it
 pub record StopsOn (e : ProgramFault) (job : OfflineJob) (given held holds audit_held audit_holds : Option (List ℕ)) : Type 0 where

@@ -14,8 +14,7 @@ use Rattle.mediator_offline.specs.Offline.{cuts_by, next_message as next_entry, 
 use Rattle.mediator_offline.specs.HandsOut.{HandsOut}
 use Rattle.mediator_offline.specs.Due.{end_by, AreDue}
 use Rattle.mediator_offline.proofs.Delivering.{at_end}
-use Rattle.mediator_offline.proofs.InHand.{history_more, handed_all}
-use Rattle.mediator_offline.proofs.Ends.{parts_none}
+use Rattle.mediator_offline.proofs.OneMore.{history_more, parts_none, handed_all}
 
 -- ---- one pull
 

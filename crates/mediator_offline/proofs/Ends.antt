@@ -8,38 +8,31 @@ use Rattle.ipfix_message.specs.declared.frame_error.FrameError.{FrameError}
 use Rattle.ipfix_message.specs.declared.frame_error.FrameError.TheVariants as frame
 use Rattle.ipfix_reader.specs.declared.fault.IntakeFault.{IntakeFault}
 use Rattle.ipfix_reader.specs.declared.fault.IntakeFault.TheVariants as intake
+use Rattle.ipfix_reader.specs.declared.fault.FramingFault.TheVariants as framing
 use Rattle.ipfix_reader.specs.Intake.{IntakeState, nothing_read, Takes, Ends, Stops, HasFault, reader_after as intake_reader}
-use Rattle.stream_meaning.specs.Means.{Means}
 use Rattle.event_journal.specs.declared.entry.Entry.{Entry}
 use Rattle.mediator_history.specs.Disclosed.{disclosed}
-use Rattle.mediator_offline.specs.Faults.{intake_refusal}
-use Rattle.mediator_offline.specs.Failing.{FailsOnly}
 use Rattle.subscriber_stream.specs.Parts.{parts, records_in}
 use Rattle.subscriber_stream.proofs.CallLaws.{parts_bring}
 use Rattle.stream_meaning.specs.HandedOut.{AreHandedOut}
 use Rattle.stream_meaning.proofs.Handing.{none_handed_out}
 use Rattle.mediator_offline.specs.declared.job.OfflineJob.{OfflineJob}
 use Rattle.mediator_offline.specs.declared.job.OfflineReport.{OfflineReport}
-use Rattle.ipfix_reader.specs.declared.fault.FramingFault.TheVariants as framing
 use Rattle.mediator_offline.specs.declared.job.OfflineFault.{OfflineFault}
 use Rattle.mediator_offline.specs.declared.job.OfflineFault.TheVariants.{Write, Core, Cut, AuditWrite}
 use Rattle.mediator_offline.specs.declared.run.Run.{Run}
-use Rattle.mediator_offline.specs.Offline.{started, history_of, disclosed_by, due, after_message, next_message as next_entry}
-use Rattle.mediator_offline.specs.Runs.{IsServing, Stands}
-use Rattle.mediator_offline.specs.Offline.{end_of}
+use Rattle.mediator_offline.specs.Ports.{Outputs, Ports, holding, with_left, unfailed}
+use Rattle.mediator_offline.specs.Faults.{intake_refusal}
+use Rattle.mediator_offline.specs.Failing.{FailsOnly}
+use Rattle.mediator_offline.specs.Offline.{started, history_of, disclosed_by, due, after_message, next_message as next_entry, end_of}
 use Rattle.mediator_offline.specs.Accepting.{AreAccepted}
-use Rattle.mediator_offline.specs.Stopping.{StopsAt}
+use Rattle.mediator_offline.specs.Filtering.{AreRead, Filters, IsFiltered, FiltersAll, StopsAtMessage, StopsAtOne, StopsHere, StopsSomewhere}
+use Rattle.mediator_offline.specs.Runs.{IsServing, Stands}
 use Rattle.mediator_offline.specs.Running.{IsOpened, IsRunning, Runs}
-use Rattle.mediator_offline.specs.Filtering.{AreRead}
-use Rattle.mediator_offline.specs.Reading.{IsDone, StopsInHand, StopsAfter, StopsReading, Finishes}
 use Rattle.mediator_offline.specs.Reaching.{HandlesAll, StopsAmong, IsAfter, ReachesEnd}
 use Rattle.mediator_offline.proofs.Lines.{lines_for-none}
-use Rattle.mediator_offline.proofs.Streams.{done_of, emptied}
-use Rattle.mediator_offline.proofs.InHand.{fold-snoc}
-
-pub parts_none : length (parts []) ≡ 0
-unfolding parts
-parts_none = refl
+use Rattle.mediator_offline.proofs.OneMore.{fold-snoc, parts_none}
+use Rattle.mediator_offline.proofs.Streams.{filtered_of, emptied}
 
 nothing_framed : IsFramed [] [] None []
 nothing_framed = record {
@@ -50,8 +43,8 @@ nothing_framed = record {
 }
 
 -- a run that was opened runs over no message yet
-pub running_starts : (d : Run) (job : OfflineJob) (held aheld : Option (List ℕ)) → IsOpened d job → IsRunning d job [] held held aheld aheld
-running_starts d job held aheld o = record {
+pub running_starts : (d : Run) (job : OfflineJob) (before : Outputs) → IsOpened d job → IsRunning d job [] before before
+running_starts d job before o = record {
   job_is = o.job_is;
   job_accepted = o.job_accepted;
   stands = subst (Stands d (started job)) (sym parts_none) o.stands;
@@ -59,75 +52,78 @@ running_starts d job held aheld o = record {
   quiet = o.quiet;
   sent = o.sent;
   few = omega (arith, o.sent);
-  written = Appends-nil held;
-  audited = subst (Appends aheld aheld) (sym (lines_for-none job.audit)) (Appends-nil aheld);
+  writes = record {
+    stream = Appends-nil before.written;
+    audit = subst (Appends before.audited before.audited) (sym (lines_for-none job.audit)) (Appends-nil before.audited);
+  };
   accepted = tt;
   handed = subst (AreHandedOut [] []) (sym parts_none) none_handed_out;
 }
 
-pub reading_starts : (d : Run) (i : IntakeState) (job : OfflineJob) (given held aheld : Option (List ℕ)) → IsOpened d job → i ≡ nothing_read job.turns → IsAfter d i job given given held held aheld aheld
-reading_starts d i job given held aheld o new = record {
+pub reading_starts : (d : Run) (i : IntakeState) (job : OfflineJob) (before : Ports) → IsOpened d job → i ≡ nothing_read job.turns → IsAfter d i job before before
+reading_starts d i job before o new = record {
   octets = [];
   messages = [];
-  taken = Consumes-nil given;
-  running = running_starts d job held aheld o;
+  taken = Consumes-nil before.left;
+  running = running_starts d job before.outputs o;
   framed = subst (λ x. IsFramed [] [] x.framing.fault x.framing.pending) (sym new) nothing_framed;
   many = omega (arith, ap (λ x. x.turns) new);
   few = omega (arith, ap (λ x. x.turns) new);
 }
 
 -- a piece was read, and the messages that it made whole were handled
-pub reads_on : (d e : Run) (i k : IntakeState) (job : OfflineJob) (given mid left held holds writes aheld aholds awrites : Option (List ℕ)) (out : List (List ℕ)) → IsAfter d i job given mid held holds aheld aholds
-    → Takes i mid left out k → HandlesAll d e out holds writes aholds awrites → IsAfter e k job given left held writes aheld awrites
-reads_on d e i k job given mid left held holds writes aheld aholds awrites out so takes handles = record {
+pub reads_on : (d e : Run) (i k : IntakeState) (job : OfflineJob) (before mid after : Ports) (out : List (List ℕ)) → IsAfter d i job before mid
+    → Takes i mid.left after.left out k → HandlesAll d e out mid.outputs after.outputs → IsAfter e k job before after
+reads_on d e i k job before mid after out so takes handles = record {
   octets = so.octets ++ takes.piece;
   messages = so.messages ++ out;
-  taken = Consumes-trans given mid left so.octets takes.piece so.taken takes.is_piece.read;
-  running = handles.after job so.messages held aheld so.running;
+  taken = Consumes-trans before.left mid.left after.left so.octets takes.piece so.taken takes.is_piece.read;
+  running = handles.running job so.messages before.outputs so.running;
   framed = takes.goes_on.after so.octets so.messages so.framed;
   many = omega (arith, so.many, takes.is_piece.some, takes.turn, length-append so.octets takes.piece);
   few = omega (arith, so.few, takes.is_piece.few, takes.turn, length-append so.octets takes.piece);
 }
 
-pub runs_after : (d : Run) (i : IntakeState) (job : OfflineJob) (given left held holds aheld aholds : Option (List ℕ)) → IsAfter d i job given left held holds aheld aholds → Runs d holds aholds
-runs_after d i job given left held holds aheld aholds so = record { job = job; messages = so.messages; held = held; aheld = aheld; running = so.running }
+pub runs_after : (d : Run) (i : IntakeState) (job : OfflineJob) (before after : Ports) → IsAfter d i job before after → Runs d after.outputs
+runs_after d i job before after so = record { job = job; messages = so.messages; before = before.outputs; running = so.running }
 
 -- one of these messages stops the run
-pub message_stops : (e : OfflineFault) (d : Run) (i k : IntakeState) (job : OfflineJob) (given mid left held holds writes aheld aholds awrites : Option (List ℕ)) (out : List (List ℕ)) (rfailed failed afailed : Bool) → IsAfter d i job given mid held holds aheld aholds
-    → Takes i mid left out k → StopsAmong e d out holds writes aholds awrites failed afailed → StopsReading e job given left held writes aheld awrites rfailed failed afailed
-message_stops e d i k job given mid left held holds writes aheld aholds awrites out rfailed failed afailed so takes stop = by e here
+pub message_stops : (e : OfflineFault) (d : Run) (i k : IntakeState) (job : OfflineJob) (before mid after : Ports) (out : List (List ℕ)) → IsAfter d i job before mid
+    → Takes i mid.left after.left out k → StopsAmong e d out mid.outputs after.outputs → StopsSomewhere e job before after
+message_stops e d i k job before mid after out so takes stop = record { octets = octets; taken = taken; stops = by e here }
   where
     octets : List ℕ
     octets = so.octets ++ takes.piece
 
-    taken : Consumes given left octets
-    taken = Consumes-trans given mid left so.octets takes.piece so.taken takes.is_piece.read
+    taken : Consumes before.left after.left octets
+    taken = Consumes-trans before.left mid.left after.left so.octets takes.piece so.taken takes.is_piece.read
 
     few : AreRead job.turns octets
     few = omega (arith, so.few, takes.is_piece.few, takes.turn, length-append so.octets takes.piece)
 
-    there : AreAccepted job [] (so.messages ++ stop.before) × Means (due job (so.messages ++ stop.before)) (disclosed_by job (so.messages ++ stop.before)) × StopsAt e job (so.messages ++ stop.before) stop.message held writes aheld awrites failed afailed
-    there = stop.after job so.messages held aheld so.running
+    there : Filters job (so.messages ++ stop.done) (due job (so.messages ++ stop.done))
+        × StopsAtMessage e job (so.messages ++ stop.done) (due job (so.messages ++ stop.done)) stop.message before.outputs after.outputs
+    there = stop.stops job so.messages before.outputs so.running
 
-    here : StopsInHand e job octets held writes aheld awrites failed afailed
+    here : StopsAtOne e job octets before.outputs after.outputs
     here = record {
-      before = so.messages ++ stop.before;
+      messages = so.messages ++ stop.done;
       message = stop.message;
       later = stop.later;
-      frame_fault = k.framing.fault;
+      fault = k.framing.fault;
       pending = k.framing.pending;
       job_accepted = so.running.job_accepted;
-      framed = subst (λ ms. IsFramed octets ms k.framing.fault k.framing.pending) (ap (λ t. so.messages ++ t) stop.parts ∙ sym (append_assoc so.messages stop.before (stop.message ∷ stop.later))) (takes.goes_on.after so.octets so.messages so.framed);
-      all = there.0;
-      means = there.1;
-      stops = there.2;
+      framed = subst (λ ms. IsFramed octets ms k.framing.fault k.framing.pending) (ap (λ t. so.messages ++ t) stop.parts ∙ sym (append_assoc so.messages stop.done (stop.message ∷ stop.later))) (takes.goes_on.after so.octets so.messages so.framed);
+      written = due job (so.messages ++ stop.done);
+      filters = there.0;
+      stops = there.1;
     }
 
-    by : (x : OfflineFault) → StopsInHand x job octets held writes aheld awrites failed afailed → StopsReading x job given left held writes aheld awrites rfailed failed afailed
-    by (Core f) s = record { octets = octets; taken = taken; stops = (few, inl s) }
-    by (Write sent) s = record { octets = octets; taken = taken; stops = (few, s) }
-    by Cut s = record { octets = octets; taken = taken; stops = (few, s) }
-    by AuditWrite s = record { octets = octets; taken = taken; stops = (few, s) }
+    by : (x : OfflineFault) → StopsAtOne x job octets before.outputs after.outputs → StopsHere x job octets before after
+    by (Core f) s = (inl s, few)
+    by (Write sent) s = (s, few)
+    by Cut s = (s, few)
+    by AuditWrite s = (s, few)
     by _ s = absurd s.stops
 
 -- ---- where the intake hands out nothing more
@@ -136,74 +132,76 @@ message_stops e d i k job given mid left held holds writes aheld aholds awrites 
 same_read : (given mid left : Option (List ℕ)) (octets : List ℕ) → Consumes given mid octets → Consumes mid left [] → Consumes given left octets
 same_read given mid left octets taken none = subst (Consumes given left) (append-nil octets) (Consumes-trans given mid left octets [] taken none)
 
-done_after : (d : Run) (i : IntakeState) (job : OfflineJob) (given left held holds aheld aholds : Option (List ℕ)) → (so : IsAfter d i job given left held holds aheld aholds) → i.framing.fault ≡ None
-    → IsDone job so.octets so.messages None i.framing.pending held holds aheld aholds
-done_after d i job given left held holds aheld aholds so sound =
-    done_of d job so.octets so.messages None i.framing.pending held holds aheld aholds so.running (subst (λ x. IsFramed so.octets so.messages x i.framing.pending) sound so.framed)
+done_after : (d : Run) (i : IntakeState) (job : OfflineJob) (before after : Ports) → (so : IsAfter d i job before after) → i.framing.fault ≡ None
+    → IsFiltered job so.octets so.messages None i.framing.pending before.outputs after.outputs
+done_after d i job before after so sound =
+    filtered_of d job so.octets so.messages None i.framing.pending before.outputs after.outputs so.running (subst (λ x. IsFramed so.octets so.messages x i.framing.pending) sound so.framed)
 
-faulty : (w : FrameError) (d : Run) (i k : IntakeState) (job : OfflineJob) (given mid left held holds aheld aholds : Option (List ℕ)) → IsAfter d i job given mid held holds aheld aholds → HasFault w i mid left k
-    → StopsAfter (λ octets. AreRead job.turns octets × ((messages : List (List ℕ)) × IsDone job octets messages (Some w) [] held holds aheld aholds)) given left
-faulty w d i k job given mid left held holds aheld aholds so (inl was) = record {
+-- these octets were read, of which a message is faulty, and those before it were filtered
+record ReadsFault (w : FrameError) (job : OfflineJob) (before : Ports) (left : Option (List ℕ)) (after : Outputs) : Type 0 where
+  octets : List ℕ
+  messages : List (List ℕ)
+  taken : Consumes before.left left octets
+  few : AreRead job.turns octets
+  done : IsFiltered job octets messages (Some w) [] before.outputs after
+
+faulty : (w : FrameError) (d : Run) (i k : IntakeState) (job : OfflineJob) (before mid : Ports) (left : Option (List ℕ)) → IsAfter d i job before mid → HasFault w i mid.left left k
+    → ReadsFault w job before left mid.outputs
+faulty w d i k job before mid left so (inl was) = record {
   octets = so.octets;
-  taken = same_read given mid left so.octets so.taken was.1.read;
-  stops = (
-    omega (arith, so.few),
-    (so.messages, done_of d job so.octets so.messages (Some w) [] held holds aheld aholds so.running (emptied w so.octets so.messages i.framing.pending (subst (λ x. IsFramed so.octets so.messages x i.framing.pending) was.0 so.framed))),
-  );
+  messages = so.messages;
+  taken = same_read before.left mid.left left so.octets so.taken was.1.read;
+  few = omega (arith, so.few);
+  done = filtered_of d job so.octets so.messages (Some w) [] before.outputs mid.outputs so.running
+      (emptied w so.octets so.messages i.framing.pending (subst (λ x. IsFramed so.octets so.messages x i.framing.pending) was.0 so.framed));
 }
-faulty w d i k job given mid left held holds aheld aholds so (inr now) = record {
+faulty w d i k job before mid left so (inr now) = record {
   octets = so.octets ++ now.piece;
-  taken = Consumes-trans given mid left so.octets now.piece so.taken now.is_piece.read;
-  stops = (
-    omega (arith, so.few, now.is_piece.few, now.turn, length-append so.octets now.piece),
-    (
-      so.messages ++ [],
-      done_of d job (so.octets ++ now.piece) (so.messages ++ []) (Some w) [] held holds aheld aholds (subst (λ ms. IsRunning d job ms held holds aheld aholds) (sym (append-nil so.messages)) so.running)
-          (emptied w (so.octets ++ now.piece) (so.messages ++ []) k.framing.pending (subst (λ x. IsFramed (so.octets ++ now.piece) (so.messages ++ []) x k.framing.pending) now.fault_is (now.goes_on.after so.octets so.messages so.framed))),
-    ),
-  );
+  messages = so.messages ++ [];
+  taken = Consumes-trans before.left mid.left left so.octets now.piece so.taken now.is_piece.read;
+  few = omega (arith, so.few, now.is_piece.few, now.turn, length-append so.octets now.piece);
+  done = filtered_of d job (so.octets ++ now.piece) (so.messages ++ []) (Some w) [] before.outputs mid.outputs
+      (subst (λ ms. IsRunning d job ms before.outputs mid.outputs) (sym (append-nil so.messages)) so.running)
+      (emptied w (so.octets ++ now.piece) (so.messages ++ []) k.framing.pending (subst (λ x. IsFramed (so.octets ++ now.piece) (so.messages ++ []) x k.framing.pending) now.fault_is (now.goes_on.after so.octets so.messages so.framed)));
 }
 
-pub intake_stops : (w : IntakeFault) (d : Run) (i k : IntakeState) (job : OfflineJob) (given mid left held holds aheld aholds : Option (List ℕ)) (rfailed failed afailed : Bool) → IsAfter d i job given mid held holds aheld aholds
-    → Stops w i mid left k → rfailed ≡ intake_reader w false → StopsReading (intake_refusal w) job given left held holds aheld aholds rfailed failed afailed
-intake_stops intake.Read d i k job given mid left held holds aheld aholds rfailed failed afailed so stops fails = (
-  record {
-    octets = so.octets;
-    taken = same_read given mid left so.octets so.taken stops.read;
-    stops = (so.messages, i.framing.pending, done_after d i job given mid held holds aheld aholds so stops.sound, omega (arith, so.few, stops.turn));
-  },
-  fails,
-)
-intake_stops (intake.Framing framing.BadVersion) d i k job given mid left held holds aheld aholds rfailed failed afailed so stops fails = faulty frame.BadVersion d i k job given mid left held holds aheld aholds so stops
-intake_stops (intake.Framing framing.BadLength) d i k job given mid left held holds aheld aholds rfailed failed afailed so stops fails = faulty frame.BadLength d i k job given mid left held holds aheld aholds so stops
-intake_stops (intake.Framing framing.CutOff) d i k job given mid left held holds aheld aholds rfailed failed afailed so stops fails = (
-  record {
-    octets = so.octets;
-    taken = same_read given mid left so.octets so.taken stops.read;
-    stops = (so.messages, i.framing.pending, done_after d i job given mid held holds aheld aholds so stops.sound, stops.pending, omega (arith, so.few, stops.turn));
-  },
-  stops.end,
-)
-intake_stops intake.Turns d i k job given mid left held holds aheld aholds rfailed failed afailed so stops fails = record {
+-- the reader has this left then, and has failed or not; the outputs are as they were
+pub intake_stops : (w : IntakeFault) (d : Run) (i k : IntakeState) (job : OfflineJob) (before mid : Ports) (left : Option (List ℕ)) (failed : Bool) → IsAfter d i job before mid
+    → Stops w i mid.left left k → failed ≡ intake_reader w false → StopsSomewhere (intake_refusal w) job before (with_left left failed mid.outputs)
+intake_stops intake.Read d i k job before mid left failed so stops fails = record {
   octets = so.octets;
-  taken = same_read given mid left so.octets so.taken stops.2.read;
-  stops = (so.messages, i.framing.pending, done_after d i job given mid held holds aheld aholds so stops.0, omega (arith, so.many, stops.1), omega (arith, so.few, stops.1));
+  taken = same_read before.left mid.left left so.octets so.taken stops.read;
+  stops = ((so.messages, i.framing.pending, done_after d i job before mid so stops.sound), omega (arith, so.few, stops.turn), fails);
 }
-intake_stops intake.OutOfMemory d i k job given mid left held holds aheld aholds rfailed failed afailed so stops fails = record {
+intake_stops (intake.Framing framing.BadVersion) d i k job before mid left failed so stops fails =
+    let f = faulty frame.BadVersion d i k job before mid left so stops in record { octets = f.octets; taken = f.taken; stops = ((f.messages, f.done), f.few) }
+intake_stops (intake.Framing framing.BadLength) d i k job before mid left failed so stops fails =
+    let f = faulty frame.BadLength d i k job before mid left so stops in record { octets = f.octets; taken = f.taken; stops = ((f.messages, f.done), f.few) }
+intake_stops (intake.Framing framing.CutOff) d i k job before mid left failed so stops fails = record {
+  octets = so.octets;
+  taken = same_read before.left mid.left left so.octets so.taken stops.read;
+  stops = ((so.messages, i.framing.pending, done_after d i job before mid so stops.sound, stops.pending), omega (arith, so.few, stops.turn), stops.end);
+}
+intake_stops intake.Turns d i k job before mid left failed so stops fails = record {
+  octets = so.octets;
+  taken = same_read before.left mid.left left so.octets so.taken stops.2.read;
+  stops = ((so.messages, i.framing.pending, done_after d i job before mid so stops.0), omega (arith, so.many, stops.1), omega (arith, so.few, stops.1));
+}
+intake_stops intake.OutOfMemory d i k job before mid left failed so stops fails = record {
   octets = so.octets ++ stops.piece;
-  taken = Consumes-trans given mid left so.octets stops.piece so.taken stops.is_piece.read;
+  taken = Consumes-trans before.left mid.left left so.octets stops.piece so.taken stops.is_piece.read;
   stops = (
-    omega (arith, so.few, stops.is_piece.few, stops.turn, length-append so.octets stops.piece),
     inr (record {
       memory = refl;
       fed = so.octets;
-      more = stops.piece;
+      piece = stops.piece;
       parts = refl;
-      piece = stops.is_piece.few;
+      few = stops.is_piece.few;
       messages = so.messages;
       pending = i.framing.pending;
-      done = done_after d i job given mid held holds aheld aholds so stops.sound;
+      done = done_after d i job before mid so stops.sound;
     }),
+    omega (arith, so.few, stops.is_piece.few, stops.turn, length-append so.octets stops.piece),
   );
 }
 
@@ -214,11 +212,12 @@ intake_only (intake.Framing why) e had failed audit_had afailed rfailed is fails
 intake_only intake.Turns e had failed audit_had afailed rfailed is fails same audit_same = rw is (record { reader = fails; writer = same; audit = audit_same })
 intake_only intake.OutOfMemory e had failed audit_had afailed rfailed is fails same audit_same = rw is (record { reader = fails; writer = same; audit = audit_same })
 
-pub stream_ends : (d : Run) (i k : IntakeState) (job : OfflineJob) (given mid left held holds aheld aholds : Option (List ℕ)) → IsAfter d i job given mid held holds aheld aholds → Ends i mid left k → ReachesEnd d job given left held holds aheld aholds
-stream_ends d i k job given mid left held holds aheld aholds so ends = record {
+pub stream_ends : (d : Run) (i k : IntakeState) (job : OfflineJob) (before mid : Ports) (left : Option (List ℕ)) (failed : Bool) → IsAfter d i job before mid → Ends i mid.left left k
+    → ReachesEnd d job before (with_left left failed mid.outputs)
+stream_ends d i k job before mid left failed so ends = record {
   octets = so.octets;
   messages = so.messages;
-  taken = same_read given mid left so.octets so.taken ends.read;
+  taken = same_read before.left mid.left left so.octets so.taken ends.read;
   end = ends.end;
   framed = subst (λ x. IsFramed so.octets so.messages x.fault x.pending) ends.whole so.framed;
   turns = omega (arith, so.few, ends.turn);
@@ -240,20 +239,30 @@ history_length job before (m ∷ messages) so =
     one = ap length (fold-snoc after_message (started job) before m ∙ ap (λ cuts. history_of job before ++ (cuts ++ next_entry (history_of job before) m ∷ [])) so.0.1)
         ∙ length-append (history_of job before) (next_entry (history_of job before) m ∷ [])
 
-pub finishes : (d : Run) (job : OfflineJob) (report : OfflineReport) (given left held holds aheld aholds : Option (List ℕ)) → ReachesEnd d job given left held holds aheld aholds
-    → report.messages ≡ d.messages → report.records ≡ d.records → ((h : List Entry) (p : ℕ) → Stands d h p → report.disclosed ≡ length (records_in (take p (parts (disclosed 1 h))))) → Finishes job report given left held holds aheld aholds
-finishes d job report given left held holds aheld aholds r entries records handed = record {
+pub finishes : (d : Run) (job : OfflineJob) (report : OfflineReport) (before after : Ports) → ReachesEnd d job before after
+    → report.messages ≡ d.messages → report.records ≡ d.records → ((h : List Entry) (p : ℕ) → Stands d h p → report.disclosed ≡ length (records_in (take p (parts (disclosed 1 h))))) → FiltersAll job report before after
+finishes d job report before after r entries records handed = record {
   octets = r.octets;
   messages = r.messages;
   taken = r.taken;
   end = r.end;
   turns = r.turns;
-  done = done_of d job r.octets r.messages None [] held holds aheld aholds r.running r.framed;
+  done = filtered_of d job r.octets r.messages None [] before.outputs after.outputs r.running r.framed;
   counted = omega (arith, entries, r.running.stands.messages, r.running.stands.counted, history_length job [] r.messages r.running.accepted);
   recorded = records ∙ r.running.stands.records;
   disclosed = handed (history_of job r.messages) (end_of (history_of job r.messages)) r.running.stands
       ∙ ap (λ ps. length (records_in ps)) (take_all (end_of (history_of job r.messages)) (parts (disclosed_by job r.messages)) (omega arith)) ∙ ap length (parts_bring (disclosed_by job r.messages));
 }
 
-pub end_serves : (d : Run) (job : OfflineJob) (given left held holds aheld aholds : Option (List ℕ)) → ReachesEnd d job given left held holds aheld aholds → IsServing d
-end_serves d job given left held holds aheld aholds r = record { history = history_of job r.messages; place = end_of (history_of job r.messages); stands = r.running.stands }
+pub end_serves : (d : Run) (job : OfflineJob) (before after : Ports) → ReachesEnd d job before after → IsServing d
+end_serves d job before after r = record { history = history_of job r.messages; place = end_of (history_of job r.messages); stands = r.running.stands }
+
+-- ---- ports of which none had failed
+
+-- what holds of ports that have failed or not holds of those that haven't, where they haven't
+pub where_unfailed : (P : Ports → Type 0) (left written audited : Option (List ℕ)) (reader writer audit : Bool) → reader ≡ false → writer ≡ false → audit ≡ false
+    → P (with_left left reader (holding written audited writer audit)) → P (unfailed left written audited)
+where_unfailed P left written audited reader writer audit r w a so =
+    subst (λ x. P (with_left left x (holding written audited false false))) r
+    (subst (λ x. P (with_left left reader (holding written audited x false))) w
+    (subst (λ x. P (with_left left reader (holding written audited writer x))) a so))

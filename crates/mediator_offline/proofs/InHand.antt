@@ -1,17 +1,13 @@
 -- A message that is handled, in a run over messages.
-use Rattle.std.proofs.Common.{◌≡◌, ℕ, zero, suc, ◌+◌, ◌*◌, ◌≤◌, ◌<◌, ◌^◌, Bool, true, false, List, [], ◌∷◌, ◌++◌, length, take, Option, Some, None, refl, sym, ap, ◌∙◌, subst, arith, append-nil, append_assoc, length-append}
-use Rattle.std.specs.Prelude.{fold}
+use Rattle.std.proofs.Common.{◌≡◌, ℕ, ◌+◌, ◌*◌, ◌≤◌, ◌<◌, ◌^◌, Bool, true, false, List, [], ◌∷◌, ◌++◌, length, take, Option, Some, refl, sym, ap, ◌∙◌, subst, arith, append-nil, append_assoc, length-append}
 use Rattle.std.specs.List.{concat}
 use Rattle.std.specs.Io.KnownBytes.{Appends}
 use Rattle.std.proofs.KnownBytes.{Appends-trans, Appends-nil}
-use Rattle.std.proofs.lemmas.List.{drop_all, take-append-le}
+use Rattle.std.proofs.lemmas.List.{take-append-le}
 use Rattle.std.proofs.lemmas.List.Folds.{concat-append}
-use Rattle.sequences.specs.Before.{each_after}
-use Rattle.sequences.proofs.BeforeLaws.{each_with_before-append, each_with_before-push}
 use Rattle.ipfix_template.specs.DataRecord.{DataRecord}
 use Rattle.subscriber_stream.specs.Parts.{parts}
-use Rattle.subscriber_stream.specs.Message.{built, place_after, next_message}
-use Rattle.stream_meaning.specs.Served.{AreStreamable}
+use Rattle.subscriber_stream.specs.Message.{place_after}
 use Rattle.stream_meaning.specs.HandedOut.{AreHandedOut}
 use Rattle.stream_meaning.proofs.Handing.{handed_given, handed_answer}
 use Rattle.octet_io.specs.Written.{WritesFront}
@@ -22,59 +18,40 @@ use Rattle.event_journal.specs.declared.entry.Entry.TheVariants.{Cut as CutEntry
 use Rattle.mediator_history.specs.Disclosed.{given_at, disclosed}
 use Rattle.mediator_history.proofs.HistoryLaws.{disclosed-push}
 use Rattle.mediator_history.proofs.SinceLaws.{cut_is_served_no_more, unserved_get_nothing}
-use Rattle.mediator_history.specs.Auditing.{audit_at, audit_list}
+use Rattle.mediator_history.specs.Auditing.{audit_list}
 use Rattle.mediator_state.specs.Calls.{StandsFor}
+use Rattle.mediator_state.specs.declared.fault.Fault.{Fault}
+use Rattle.mediator_state.specs.declared.fault.Fault.TheVariants as fault
 use Rattle.sequences.proofs.ListLaws.{take-add-append}
 use Rattle.mediator_offline.specs.declared.run.Run.{Run}
 use Rattle.mediator_offline.specs.declared.job.OfflineJob.{OfflineJob}
-use Rattle.mediator_offline.specs.Lines.{lines_for, WritesSome, WritesOn}
-use Rattle.mediator_offline.specs.Recording.{Records, StopsLines}
-use Rattle.mediator_offline.specs.Offline.{started, after_message, history_of, disclosed_by, and_then, pulled as pulled_list, pulled_to_end, due_by, due, audit_due, cuts_by, next_message as next_entry}
-use Rattle.mediator_offline.specs.Runs.{tells, audit_waiting, HasHistory, Stands, Small}
-use Rattle.mediator_offline.specs.Offline.{end_of}
-use Rattle.mediator_offline.specs.Steps.{HasDelivered, Receives}
-use Rattle.mediator_offline.specs.Accepting.{Accepts, RefusesMessage, AreAccepted}
-use Rattle.mediator_offline.specs.HandsOut.{HandsOut}
-use Rattle.mediator_offline.specs.Pulling.{IsDelivering, Delivers, StopsDelivery, FailsDelivery}
-use Rattle.mediator_offline.specs.Stopping.{WritesInHand, StopsAt}
-use Rattle.mediator_offline.specs.Running.{IsRunning, Runs}
-use Rattle.mediator_state.specs.declared.fault.Fault.{Fault}
-use Rattle.mediator_state.specs.declared.fault.Fault.TheVariants as fault
 use Rattle.mediator_offline.specs.declared.job.OfflineFault.{OfflineFault}
 use Rattle.mediator_offline.specs.declared.job.OfflineFault.TheVariants.{Write, Core, Cut, AuditWrite}
-use Rattle.mediator_offline.proofs.Lines.{lines_for-append}
-use Rattle.mediator_offline.proofs.Delivering.{pulled, streamable_of, stands_on}
+use Rattle.mediator_offline.specs.Ports.{Outputs, holding}
+use Rattle.mediator_offline.specs.Lines.{lines_for, WritesSome, WritesOn}
+use Rattle.mediator_offline.specs.Recording.{Records, StopsLines}
+use Rattle.mediator_offline.specs.Offline.{after_message, history_of, disclosed_by, pulled_to_end, due_by, due, audit_due, cuts_by, next_message as next_entry, end_of}
+use Rattle.mediator_offline.specs.Due.{AreDue}
+use Rattle.mediator_offline.specs.Runs.{tells, audit_waiting, HasHistory, Stands, Small}
+use Rattle.mediator_offline.specs.Steps.{Receives}
+use Rattle.mediator_offline.specs.Accepting.{Accepts, RefusesMessage, AreAccepted}
+use Rattle.mediator_offline.specs.HandsOut.{HandsOut}
+use Rattle.mediator_offline.specs.Pulling.{Delivers, StopsDelivery, FailsDelivery}
+use Rattle.mediator_offline.specs.Filtering.{WritesPart, StopsAtMessage}
+use Rattle.mediator_offline.specs.Running.{IsRunning, Runs}
+use Rattle.mediator_offline.proofs.Delivering.{streamable_of, stands_on}
 use Rattle.mediator_offline.proofs.Receiving.{waits_added, within_end}
+use Rattle.mediator_offline.proofs.OneMore.{history_more, due_more, audit_more, lines_more, ended, pulled-ended, handed_front, handed_all, handed_few}
+use Rattle.mediator_offline.proofs.DueLaws.{due_found}
 
--- ---- one message more
+-- ---- what is written for one message more
 
-pub fold-snoc : {S A : Type 0} (f : S → A → S) (s : S) (xs : List A) (x : A) → fold f s (xs ++ x ∷ []) ≡ f (fold f s xs) x
-fold-snoc f s [] x = refl
-fold-snoc f s (y ∷ xs) x = fold-snoc f (f s y) xs x
-
-pub history_more : (job : OfflineJob) (messages : List (List ℕ)) (octets : List ℕ) → history_of job (messages ++ octets ∷ []) ≡ after_message (history_of job messages) octets
-history_more job messages octets = fold-snoc after_message (started job) messages octets
-
-pub due_more : (job : OfflineJob) (messages : List (List ℕ)) (octets : List ℕ) → due job (messages ++ octets ∷ []) ≡ due job messages ++ due_by job messages octets
-due_more job messages octets = each_with_before-push (due_by job) messages octets
-
--- what a message adds to the audit
-pub audit_more : (job : OfflineJob) (messages : List (List ℕ)) (octets : List ℕ) → (added : List AuditEntry) × (audit_list (history_of job (messages ++ octets ∷ [])) ≡ audit_list (history_of job messages) ++ added)
-audit_more job messages octets = (
-  each_after audit_at (history_of job messages) (cuts_by (history_of job messages) octets ++ next_entry (history_of job messages) octets ∷ []),
-  ap audit_list (history_more job messages octets) ∙ each_with_before-append audit_at (history_of job messages) (cuts_by (history_of job messages) octets ++ next_entry (history_of job messages) octets ∷ []),
-)
-
-pub lines_more : (job : OfflineJob) (messages : List (List ℕ)) (octets : List ℕ) (added : List AuditEntry) → audit_list (history_of job (messages ++ octets ∷ [])) ≡ audit_list (history_of job messages) ++ added
-    → audit_due job (messages ++ octets ∷ []) ≡ audit_due job messages ++ lines_for job.audit added
-lines_more job messages octets added is = ap (lines_for job.audit) is ∙ lines_for-append job.audit (audit_list (history_of job messages)) added
-
--- the lines that it adds were written, which waited
-lines_added : (job : OfflineJob) (messages : List (List ℕ)) (octets : List ℕ) (added waiting : List AuditEntry) (aheld aholds awrites : Option (List ℕ))
+-- the lines that it adds to the audit were written, which waited
+lines_added : (job : OfflineJob) (messages : List (List ℕ)) (octets : List ℕ) (added waiting : List AuditEntry) (a b c : Option (List ℕ))
     → audit_list (history_of job (messages ++ octets ∷ [])) ≡ audit_list (history_of job messages) ++ added → waiting ≡ added
-    → Appends aheld aholds (audit_due job messages) → Appends aholds awrites (lines_for job.audit waiting) → Appends aheld awrites (audit_due job (messages ++ octets ∷ []))
-lines_added job messages octets added waiting aheld aholds awrites adds waits so lines = subst (Appends aheld awrites) (sym (lines_more job messages octets added adds))
-    (Appends-trans aheld aholds awrites (audit_due job messages) (lines_for job.audit added) so (subst (λ l. Appends aholds awrites (lines_for job.audit l)) waits lines))
+    → Appends a b (audit_due job messages) → Appends b c (lines_for job.audit waiting) → Appends a c (audit_due job (messages ++ octets ∷ []))
+lines_added job messages octets added waiting a b c adds waits so lines = subst (Appends a c) (sym (lines_more job messages octets added adds))
+    (Appends-trans a b c (audit_due job messages) (lines_for job.audit added) so (subst (λ l. Appends b c (lines_for job.audit l)) waits lines))
 
 some_after : (a b c : Option (List ℕ)) (xs ys : List ℕ) → Appends a b xs → WritesSome b c ys → WritesOn a c xs (xs ++ ys)
 some_after a b c xs ys so some = record {
@@ -85,48 +62,17 @@ some_after a b c xs ys so some = record {
 }
 
 -- a front of them
-lines_begun : (job : OfflineJob) (messages : List (List ℕ)) (octets : List ℕ) (added waiting : List AuditEntry) (aheld aholds awrites : Option (List ℕ))
+lines_begun : (job : OfflineJob) (messages : List (List ℕ)) (octets : List ℕ) (added waiting : List AuditEntry) (a b c : Option (List ℕ))
     → audit_list (history_of job (messages ++ octets ∷ [])) ≡ audit_list (history_of job messages) ++ added → waiting ≡ added
-    → Appends aheld aholds (audit_due job messages) → WritesSome aholds awrites (lines_for job.audit waiting) → WritesOn aheld awrites (audit_due job messages) (audit_due job (messages ++ octets ∷ []))
-lines_begun job messages octets added waiting aheld aholds awrites adds waits so some = subst (WritesOn aheld awrites (audit_due job messages)) (sym (lines_more job messages octets added adds))
-    (some_after aheld aholds awrites (audit_due job messages) (lines_for job.audit added) so (subst (λ l. WritesSome aholds awrites (lines_for job.audit l)) waits some))
+    → Appends a b (audit_due job messages) → WritesSome b c (lines_for job.audit waiting) → WritesOn a c (audit_due job messages) (audit_due job (messages ++ octets ∷ []))
+lines_begun job messages octets added waiting a b c adds waits so some = subst (WritesOn a c (audit_due job messages)) (sym (lines_more job messages octets added adds))
+    (some_after a b c (audit_due job messages) (lines_for job.audit added) so (subst (λ l. WritesSome b c (lines_for job.audit l)) waits some))
 
--- ---- messages that were handed out are those that pulls give
-
-pub ended : (records : List DataRecord) (now target : ℕ) → built records (length (parts records)) now target ≡ None
-unfolding next_message
-ended records now target = ap (next_message now target _) (drop_all (length (parts records)) (parts records) (omega arith))
-
-pulled-ended : (n : ℕ) (records : List DataRecord) (p now target : ℕ) → built records p now target ≡ None → pulled_list n records p now target ≡ []
-pulled-ended zero records p now target is = refl
-pulled-ended (suc n) records p now target is = ap (λ m. and_then m (pulled_list n records (place_after records p target) now target)) is
-
--- a front of them
-pub handed_front : (n : ℕ) (records : List DataRecord) (now target p q : ℕ) (messages : List (List ℕ)) → HandsOut records now target p messages q → length messages ≤ n
-    → (others : List (List ℕ)) × (pulled_list n records p now target ≡ messages ++ others)
-handed_front n records now target p q [] hands few = (pulled_list n records p now target, refl)
-handed_front zero records now target p q (m ∷ messages) hands few = absurd (omega arith)
-handed_front (suc n) records now target p q (m ∷ messages) hands few =
-    let rest = handed_front n records now target (place_after records p target) q messages hands.1 (omega arith) in
-    (rest.0, ap (λ x. and_then x (pulled_list n records (place_after records p target) now target)) hands.0 ∙ ap (λ t. m ∷ t) rest.1)
-
--- all of them
-pub handed_all : (n : ℕ) (records : List DataRecord) (now target p : ℕ) (messages : List (List ℕ)) → HandsOut records now target p messages (length (parts records)) → length messages ≤ n
-    → pulled_list n records p now target ≡ messages
-handed_all n records now target p [] hands few = pulled-ended n records p now target (subst (λ x. built records x now target ≡ None) (sym hands) (ended records now target))
-handed_all zero records now target p (m ∷ messages) hands few = absurd (omega arith)
-handed_all (suc n) records now target p (m ∷ messages) hands few =
-    ap (λ x. and_then x (pulled_list n records (place_after records p target) now target)) hands.0
-    ∙ ap (λ t. m ∷ t) (handed_all n records now target (place_after records p target) messages hands.1 (omega arith))
-
--- no more messages than parts
-pub handed_few : (records : List DataRecord) (now target p q : ℕ) (messages : List (List ℕ)) → AreStreamable records → target < 2 ^ 16 → p ≤ length (parts records) → HandsOut records now target p messages q
-    → p + length messages ≤ length (parts records)
-handed_few records now target p q [] streamable below within hands = omega arith
-handed_few records now target p q (m ∷ messages) streamable below within hands =
-    let one = pulled records now target p m streamable below hands.0 in
-    let more = handed_few records now target (place_after records p target) q messages streamable below (one.within within) hands.1 in
-    omega (arith, one.goes_on, more)
+-- whole messages of what it adds are due behind the others
+due_in_hand : (job : OfflineJob) (messages : List (List ℕ)) (octets : List ℕ) (handed others : List (List ℕ)) → due_by job messages octets ≡ handed ++ others
+    → AreDue job [] 0 (messages ++ octets ∷ []) (due job messages ++ (handed ++ others))
+due_in_hand job messages octets handed others front =
+    subst (AreDue job [] 0 (messages ++ octets ∷ [])) (due_more job messages octets ∙ ap (λ ms. due job messages ++ ms) front) (due_found job (messages ++ octets ∷ []))
 
 -- the holder of the stream keeps what they mean
 handed_run : (so_far : List (List ℕ)) (records : List DataRecord) (now target p q : ℕ) (messages : List (List ℕ)) → now < 2 ^ 32 → target < 2 ^ 16
@@ -155,9 +101,9 @@ pub record Received (d : Run) (job : OfflineJob) (messages : List (List ℕ)) (o
   pub stands : Stands d (history_of job (messages ++ octets ∷ [])) (end_of (history_of job messages))
   pub small : Small (history_of job (messages ++ octets ∷ []))
 
-received : (d1 d2 : Run) (job : OfflineJob) (messages : List (List ℕ)) (octets : List ℕ) (held holds aheld aholds : Option (List ℕ)) → IsRunning d1 job messages held holds aheld aholds
+received : (d1 d2 : Run) (job : OfflineJob) (messages : List (List ℕ)) (octets : List ℕ) {before after : Outputs} → IsRunning d1 job messages before after
     → Receives d1 octets false d2 → Received d2 job messages octets
-received d1 d2 job messages octets held holds aheld aholds r receives =
+received d1 d2 job messages octets r receives =
     let on = receives.goes_on (history_of job messages) r.stands r.small refl in
     record {
       uncut = on.0;
@@ -197,9 +143,9 @@ pub record Delivered (d1 d3 : Run) (job : OfflineJob) (messages : List (List ℕ
   pub waits : (audit_waiting d3) ≡ added
   pub handed : AreHandedOut (due job (messages ++ octets ∷ [])) (disclosed_by job (messages ++ octets ∷ [])) (end_of (history_of job (messages ++ octets ∷ [])))
 
-pub delivered : (d1 d2 d3 : Run) (job : OfflineJob) (messages : List (List ℕ)) (octets : List ℕ) (held holds writes aheld aholds : Option (List ℕ)) → IsDelivered d1 d2 d3 octets holds writes
-    → IsRunning d1 job messages held holds aheld aholds → Delivered d1 d3 job messages octets held writes
-delivered d1 d2 d3 job messages octets held holds writes aheld aholds k r = record {
+pub delivered : (d1 d2 d3 : Run) (job : OfflineJob) (messages : List (List ℕ)) (octets : List ℕ) (writes : Option (List ℕ)) {before after : Outputs} → IsRunning d1 job messages before after
+    → IsDelivered d1 d2 d3 octets after.written writes → Delivered d1 d3 job messages octets before.written writes
+delivered d1 d2 d3 job messages octets writes {before} {after} r k = record {
   accepts = k.receives.accepts h r.stands r.small;
   uncut = on.uncut;
   stands = del.1;
@@ -207,7 +153,7 @@ delivered d1 d2 d3 job messages octets held holds writes aheld aholds k r = reco
   job_is = k.delivers.job ∙ same_job;
   sent = omega (arith, k.delivers.sent, k.sent, r.sent, ap length whole, length-append (concat (due job messages)) (concat k.delivers.messages));
   few = k.delivers.few (end_of h) (omega (arith, k.sent, r.few)) (history_of job (messages ++ octets ∷ [])) on.stands on.small;
-  written = subst (Appends held writes) (sym whole) (Appends-trans held holds writes (concat (due job messages)) (concat k.delivers.messages) r.written k.delivers.written);
+  written = subst (Appends before.written writes) (sym whole) (Appends-trans before.written after.written writes (concat (due job messages)) (concat k.delivers.messages) r.writes.stream k.delivers.written);
   added = more.0;
   adds = more.1;
   waits = waits_added d1 d3 (audit_list h) more.0 r.stands.state.stands.audit r.quiet (k.delivers.audit.drained ∙ k.receives.drained)
@@ -227,7 +173,7 @@ delivered d1 d2 d3 job messages octets held holds writes aheld aholds k r = reco
     last = end_of (history_of job (messages ++ octets ∷ []))
 
     on : Received d2 job messages octets
-    on = received d1 d2 job messages octets held holds aheld aholds r k.receives
+    on = received d1 d2 job messages octets r k.receives
 
     listed : shown ≡ disclosed 1 h ++ given_at 1 h (next_entry h octets)
     listed = ap (disclosed 1) (history_more job messages octets) ∙ ap (λ c. disclosed 1 (h ++ (c ++ next_entry h octets ∷ []))) on.uncut ∙ disclosed-push 1 h (next_entry h octets)
@@ -257,10 +203,10 @@ delivered d1 d2 d3 job messages octets held holds writes aheld aholds k r = reco
     whole = ap concat (due_more job messages octets ∙ ap (λ ms. due job messages ++ ms) by) ∙ concat-append (due job messages) k.delivers.messages
 
 -- then recorded: the run goes on
-pub handled : (d1 d3 d4 : Run) (job : OfflineJob) (messages : List (List ℕ)) (octets : List ℕ) (held holds writes aheld aholds awrites : Option (List ℕ)) → IsRunning d1 job messages held holds aheld aholds
-    → Delivered d1 d3 job messages octets held writes → Records d3 d4 → Appends aholds awrites (lines_for d3.job.audit (audit_waiting d3))
-    → IsRunning d4 job (messages ++ octets ∷ []) held writes aheld awrites
-handled d1 d3 d4 job messages octets held holds writes aheld aholds awrites r k records lines = record {
+pub handled : (d1 d3 d4 : Run) (job : OfflineJob) (messages : List (List ℕ)) (octets : List ℕ) {before mid after : Outputs} → IsRunning d1 job messages before mid
+    → Delivered d1 d3 job messages octets before.written after.written → Records d3 d4 → Appends mid.audited after.audited (lines_for d3.job.audit (audit_waiting d3))
+    → IsRunning d4 job (messages ++ octets ∷ []) before after
+handled d1 d3 d4 job messages octets {before} {mid} {after} r k records lines = record {
   job_is = records.same.job ∙ k.job_is;
   job_accepted = r.job_accepted;
   stands = recorded_on d3 d4 (history_of job (messages ++ octets ∷ [])) (end_of (history_of job (messages ++ octets ∷ []))) k.stands records;
@@ -268,8 +214,11 @@ handled d1 d3 d4 job messages octets held holds writes aheld aholds awrites r k 
   quiet = records.quiet;
   sent = records.sent ∙ k.sent;
   few = omega (arith, records.sent, k.few);
-  written = k.written;
-  audited = lines_added job messages octets k.added (audit_waiting d3) aheld aholds awrites k.adds k.waits r.audited (subst (λ j. Appends aholds awrites (lines_for j.audit (audit_waiting d3))) k.job_is lines);
+  writes = record {
+    stream = k.written;
+    audit = lines_added job messages octets k.added (audit_waiting d3) before.audited mid.audited after.audited k.adds k.waits r.writes.audit
+        (subst (λ j. Appends mid.audited after.audited (lines_for j.audit (audit_waiting d3))) k.job_is lines);
+  };
   accepted = accepted_more job [] messages octets r.accepted (k.accepts, k.uncut);
   handed = k.handed;
 }
@@ -280,26 +229,26 @@ none_more : (messages : List (List ℕ)) → concat (messages ++ []) ≡ concat 
 none_more messages = ap concat (append-nil messages)
 
 -- nothing of the message in hand was written
-pub nothing_in_hand : (d : Run) (job : OfflineJob) (messages : List (List ℕ)) (octets : List ℕ) (held holds aheld aholds : Option (List ℕ)) → IsRunning d job messages held holds aheld aholds
-    → WritesInHand job messages octets held holds aheld aholds
-nothing_in_hand d job messages octets held holds aheld aholds r =
+pub nothing_in_hand : (d : Run) (job : OfflineJob) (messages : List (List ℕ)) (octets : List ℕ) {before after : Outputs} → IsRunning d job messages before after
+    → WritesPart job messages (due job messages) octets before after
+nothing_in_hand d job messages octets {before} {after} r =
     let more = audit_more job messages octets in
     record {
       handed = [];
       others = due_by job messages octets;
-      front = refl;
-      written = subst (Appends held holds) (sym (none_more (due job messages))) r.written;
-      audited = subst (WritesOn aheld aholds (audit_due job messages)) (sym (lines_more job messages octets more.0 more.1))
-          (some_after aheld aholds aholds (audit_due job messages) (lines_for job.audit more.0) r.audited (record { count = 0; within = omega arith; written = Appends-nil aholds }));
+      due = due_in_hand job messages octets [] (due_by job messages octets) refl;
+      stream = subst (Appends before.written after.written) (sym (none_more (due job messages))) r.writes.stream;
+      audit = subst (WritesOn before.audited after.audited (audit_due job messages)) (sym (lines_more job messages octets more.0 more.1))
+          (some_after before.audited after.audited after.audited (audit_due job messages) (lines_for job.audit more.0) r.writes.audit (record { count = 0; within = omega arith; written = Appends-nil after.audited }));
     }
 
-pub stops_refused : (f : Fault) (d : Run) (job : OfflineJob) (messages : List (List ℕ)) (octets : List ℕ) (held holds aheld aholds : Option (List ℕ)) (failed afailed : Bool) → IsRunning d job messages held holds aheld aholds
-    → RefusesMessage f (history_of job messages) octets → StopsAt (Core f) job messages octets held holds aheld aholds failed afailed
-stops_refused fault.OutOfMemory d job messages octets held holds aheld aholds failed afailed r refuses = nothing_in_hand d job messages octets held holds aheld aholds r
-stops_refused (fault.Malformed why) d job messages octets held holds aheld aholds failed afailed r refuses = (refuses, record { written = r.written; audited = r.audited })
-stops_refused fault.JournalFull d job messages octets held holds aheld aholds failed afailed r refuses = (refuses, record { written = r.written; audited = r.audited })
-stops_refused (fault.AuditFull need room) d job messages octets held holds aheld aholds failed afailed r refuses = (refuses, record { written = r.written; audited = r.audited })
-stops_refused _ d job messages octets held holds aheld aholds failed afailed r refuses = absurd refuses
+pub stops_refused : (f : Fault) (d : Run) (job : OfflineJob) (messages : List (List ℕ)) (octets : List ℕ) (before after : Outputs) → IsRunning d job messages before after
+    → RefusesMessage f (history_of job messages) octets → StopsAtMessage (Core f) job messages (due job messages) octets before after
+stops_refused fault.OutOfMemory d job messages octets before after r refuses = nothing_in_hand d job messages octets r
+stops_refused (fault.Malformed why) d job messages octets before after r refuses = (refuses, r.writes)
+stops_refused fault.JournalFull d job messages octets before after r refuses = (refuses, r.writes)
+stops_refused (fault.AuditFull need room) d job messages octets before after r refuses = (refuses, r.writes)
+stops_refused _ d job messages octets before after r refuses = absurd refuses
 
 -- lines stop where the audit fails, or for want of memory
 by_lines : (P : OfflineFault → Type 0) (failed : Bool) → (failed ≡ true → P AuditWrite) → P (Core fault.OutOfMemory) → (e : OfflineFault) → StopsLines e failed → P e
@@ -308,35 +257,37 @@ by_lines P failed audit memory (Core fault.OutOfMemory) cause = memory
 by_lines P failed audit memory _ cause = absurd cause
 
 -- the message was delivered, and its lines stop
-pub stops_recording : (f : OfflineFault) (d1 d3 : Run) (job : OfflineJob) (messages : List (List ℕ)) (octets : List ℕ) (held holds writes aheld aholds awrites : Option (List ℕ)) (failed afailed : Bool)
-    → IsRunning d1 job messages held holds aheld aholds → Delivered d1 d3 job messages octets held writes → StopsLines f afailed → WritesSome aholds awrites (lines_for d3.job.audit (audit_waiting d3))
-    → StopsAt f job messages octets held writes aheld awrites failed afailed
-stops_recording f d1 d3 job messages octets held holds writes aheld aholds awrites failed afailed r k cause some =
-    by_lines (λ e. StopsAt e job messages octets held writes aheld awrites failed afailed) afailed (λ cause. (k.accepts, k.written, lines, cause)) memory f cause
+pub stops_recording : (f : OfflineFault) (d1 d3 : Run) (job : OfflineJob) (messages : List (List ℕ)) (octets : List ℕ) (before mid after : Outputs) → IsRunning d1 job messages before mid
+    → Delivered d1 d3 job messages octets before.written after.written → StopsLines f after.audit_failed → WritesSome mid.audited after.audited (lines_for d3.job.audit (audit_waiting d3))
+    → StopsAtMessage f job messages (due job messages) octets before after
+stops_recording f d1 d3 job messages octets before mid after r k cause some =
+    by_lines (λ e. StopsAtMessage e job messages (due job messages) octets before after) after.audit_failed
+    (λ cause. (k.accepts, (due job (messages ++ octets ∷ []), due_found job (messages ++ octets ∷ []), k.written), lines, cause)) memory f cause
   where
-    lines : WritesOn aheld awrites (audit_due job messages) (audit_due job (messages ++ octets ∷ []))
-    lines = lines_begun job messages octets k.added (audit_waiting d3) aheld aholds awrites k.adds k.waits r.audited (subst (λ j. WritesSome aholds awrites (lines_for j.audit (audit_waiting d3))) k.job_is some)
+    lines : WritesOn before.audited after.audited (audit_due job messages) (audit_due job (messages ++ octets ∷ []))
+    lines = lines_begun job messages octets k.added (audit_waiting d3) before.audited mid.audited after.audited k.adds k.waits r.writes.audit
+        (subst (λ j. WritesSome mid.audited after.audited (lines_for j.audit (audit_waiting d3))) k.job_is some)
 
-    memory : WritesInHand job messages octets held writes aheld awrites
+    memory : WritesPart job messages (due job messages) octets before after
     memory = record {
       handed = due_by job messages octets;
       others = [];
-      front = sym (append-nil (due_by job messages octets));
-      written = subst (λ ms. Appends held writes (concat ms)) (due_more job messages octets) k.written;
-      audited = lines;
+      due = due_in_hand job messages octets (due_by job messages octets) [] (sym (append-nil (due_by job messages octets)));
+      stream = subst (λ ms. Appends before.written after.written (concat ms)) (due_more job messages octets) k.written;
+      audit = lines;
     }
 
--- the message was accepted, and its delivery stops
-pub stops_delivering : (f : OfflineFault) (d1 d2 : Run) (job : OfflineJob) (messages : List (List ℕ)) (octets : List ℕ) (held holds writes aheld aholds : Option (List ℕ)) (failed afailed : Bool)
-    → IsRunning d1 job messages held holds aheld aholds → Receives d1 octets false d2 → d2.job ≡ d1.job → d2.sent ≡ d1.sent → d2.job.target < 2 ^ 16 → FailsDelivery f d2 holds writes failed
-    → StopsAt f job messages octets held writes aheld aholds failed afailed
-stops_delivering f d1 d2 job messages octets held holds writes aheld aholds failed afailed r receives same sent_same low fails = by f fails.stops
+-- the message was accepted, and its delivery stops; the audit is as it was
+pub stops_delivering : (f : OfflineFault) (d1 d2 : Run) (job : OfflineJob) (messages : List (List ℕ)) (octets : List ℕ) (before mid : Outputs) (writes : Option (List ℕ)) (failed afailed : Bool)
+    → IsRunning d1 job messages before mid → Receives d1 octets false d2 → d2.job ≡ d1.job → d2.sent ≡ d1.sent → d2.job.target < 2 ^ 16 → FailsDelivery f d2 mid.written writes failed
+    → StopsAtMessage f job messages (due job messages) octets before (holding writes mid.audited failed afailed)
+stops_delivering f d1 d2 job messages octets before mid writes failed afailed r receives same sent_same low fails = by f fails.stops
   where
     begin : ℕ
     begin = end_of (history_of job messages)
 
     on : Received d2 job messages octets
-    on = received d1 d2 job messages octets held holds aheld aholds r receives
+    on = received d1 d2 job messages octets r receives
 
     del : (q : ℕ) × HandsOut (disclosed_by job (messages ++ octets ∷ [])) d2.job.now d2.job.target begin fails.messages q
     del = fails.handed (history_of job (messages ++ octets ∷ [])) begin on.stands on.small
@@ -351,10 +302,11 @@ stops_delivering f d1 d2 job messages octets held holds writes aheld aholds fail
     whole : concat (due job (messages ++ octets ∷ [])) ≡ concat (due job messages) ++ (concat fails.messages ++ concat front.0)
     whole = ap concat (due_more job messages octets ∙ ap (λ ms. due job messages ++ ms) front.1) ∙ concat-append (due job messages) (fails.messages ++ front.0) ∙ ap (λ t. concat (due job messages) ++ t) (concat-append fails.messages front.0)
 
-    writes_front : (n : ℕ) (sent : ℕ) → sent ≡ d2.sent + n → WritesFront holds writes (concat fails.messages) n failed → WritesFront held writes (concat (due job (messages ++ octets ∷ []))) sent failed
+    writes_front : (n : ℕ) (sent : ℕ) → sent ≡ d2.sent + n → WritesFront mid.written writes (concat fails.messages) n failed
+        → WritesFront before.written writes (concat (due job (messages ++ octets ∷ []))) sent failed
     writes_front n sent is w = record {
       short = omega (arith, is, sent_same, r.sent, w.short, ap length whole, length-append (concat (due job messages)) (concat fails.messages ++ concat front.0), length-append (concat fails.messages) (concat front.0));
-      written = subst (Appends held writes) (sym taken) (Appends-trans held holds writes (concat (due job messages)) (take n (concat fails.messages)) r.written w.written);
+      written = subst (Appends before.written writes) (sym taken) (Appends-trans before.written mid.written writes (concat (due job messages)) (take n (concat fails.messages)) r.writes.stream w.written);
       failed = w.failed;
     }
       where
@@ -363,19 +315,24 @@ stops_delivering f d1 d2 job messages octets held holds writes aheld aholds fail
             ∙ take-add-append (concat (due job messages)) (concat fails.messages ++ concat front.0) n
             ∙ ap (λ t. concat (due job messages) ++ t) (take-append-le n (concat fails.messages) (concat front.0) (omega (arith, w.short)))
 
-    memory : Appends holds writes (concat fails.messages) → WritesInHand job messages octets held writes aheld aholds
+    memory : Appends mid.written writes (concat fails.messages) → WritesPart job messages (due job messages) octets before (holding writes mid.audited failed afailed)
     memory so =
-        let none = nothing_in_hand d1 job messages octets held holds aheld aholds r in
+        let none = nothing_in_hand d1 job messages octets r in
         record {
           handed = fails.messages;
           others = front.0;
-          front = front.1;
-          written = subst (Appends held writes) (sym (concat-append (due job messages) fails.messages)) (Appends-trans held holds writes (concat (due job messages)) (concat fails.messages) r.written so);
-          audited = none.audited;
+          due = due_in_hand job messages octets fails.messages front.0 front.1;
+          stream = subst (Appends before.written writes) (sym (concat-append (due job messages) fails.messages))
+              (Appends-trans before.written mid.written writes (concat (due job messages)) (concat fails.messages) r.writes.stream so);
+          audit = none.audit;
         }
 
-    by : (g : OfflineFault) → StopsDelivery g d2 holds writes failed fails.messages → StopsAt g job messages octets held writes aheld aholds failed afailed
-    by (Write sent) s = (receives.accepts (history_of job messages) r.stands r.small, writes_front s.0 sent s.1 s.2, r.audited)
+    by : (g : OfflineFault) → StopsDelivery g d2 mid.written writes failed fails.messages → StopsAtMessage g job messages (due job messages) octets before (holding writes mid.audited failed afailed)
+    by (Write sent) s = (
+      receives.accepts (history_of job messages) r.stands r.small,
+      (due job (messages ++ octets ∷ []), due_found job (messages ++ octets ∷ []), writes_front s.0 sent s.1 s.2),
+      r.writes.audit,
+    )
     by (Core fault.OutOfMemory) s = memory s
     by _ s = absurd s
 
@@ -402,9 +359,9 @@ pub record WasCut (d1 d2 : Run) (job : OfflineJob) (messages : List (List ℕ)) 
   pub waits : (audit_waiting d2) ≡ added
   pub job_is : d2.job ≡ job
 
-pub was_cut_at : (d1 d2 : Run) (job : OfflineJob) (messages : List (List ℕ)) (octets : List ℕ) (held holds aheld aholds : Option (List ℕ)) → IsRunning d1 job messages held holds aheld aholds
+pub was_cut_at : (d1 d2 : Run) (job : OfflineJob) (messages : List (List ℕ)) (octets : List ℕ) {before after : Outputs} → IsRunning d1 job messages before after
     → Receives d1 octets true d2 → d2.job ≡ d1.job → WasCut d1 d2 job messages octets
-was_cut_at d1 d2 job messages octets held holds aheld aholds r receives same = record {
+was_cut_at d1 d2 job messages octets r receives same = record {
   accepts = receives.accepts h r.stands r.small;
   cut = on.0;
   no_more = due_more job messages octets ∙ ap (λ ms. due job messages ++ ms) by ∙ append-nil (due job messages);
@@ -430,52 +387,49 @@ was_cut_at d1 d2 job messages octets held holds aheld aholds r receives same = r
     by = ap (λ l. pulled_to_end l (end_of h) job.now job.target) (ap (disclosed 1) e ∙ disclosed_cut h octets on.0)
         ∙ pulled-ended (length (parts (disclosed 1 h))) (disclosed 1 h) (end_of h) job.now job.target (ended (disclosed 1 h) job.now job.target)
 
-pub stops_cut : (d1 d2 : Run) (job : OfflineJob) (messages : List (List ℕ)) (octets : List ℕ) (held holds aheld aholds awrites : Option (List ℕ)) (failed afailed : Bool) → IsRunning d1 job messages held holds aheld aholds
-    → WasCut d1 d2 job messages octets → Appends aholds awrites (lines_for d2.job.audit (audit_waiting d2)) → StopsAt Cut job messages octets held holds aheld awrites failed afailed
-stops_cut d1 d2 job messages octets held holds aheld aholds awrites failed afailed r k lines = (
+pub stops_cut : (d1 d2 : Run) (job : OfflineJob) (messages : List (List ℕ)) (octets : List ℕ) (before mid : Outputs) (awrites : Option (List ℕ)) (failed afailed : Bool) → IsRunning d1 job messages before mid
+    → WasCut d1 d2 job messages octets → Appends mid.audited awrites (lines_for d2.job.audit (audit_waiting d2))
+    → StopsAtMessage Cut job messages (due job messages) octets before (holding mid.written awrites failed afailed)
+stops_cut d1 d2 job messages octets before mid awrites failed afailed r k lines = (
   k.accepts,
   k.cut,
-  r.written,
-  lines_added job messages octets k.added (audit_waiting d2) aheld aholds awrites k.adds k.waits r.audited (subst (λ j. Appends aholds awrites (lines_for j.audit (audit_waiting d2))) k.job_is lines),
+  record {
+    stream = r.writes.stream;
+    audit = lines_added job messages octets k.added (audit_waiting d2) before.audited mid.audited awrites k.adds k.waits r.writes.audit
+        (subst (λ j. Appends mid.audited awrites (lines_for j.audit (audit_waiting d2))) k.job_is lines);
+  },
 )
 
-pub stops_cut_recording : (f : OfflineFault) (d1 d2 : Run) (job : OfflineJob) (messages : List (List ℕ)) (octets : List ℕ) (held holds aheld aholds awrites : Option (List ℕ)) (failed afailed : Bool)
-    → IsRunning d1 job messages held holds aheld aholds → WasCut d1 d2 job messages octets → StopsLines f afailed → WritesSome aholds awrites (lines_for d2.job.audit (audit_waiting d2))
-    → StopsAt f job messages octets held holds aheld awrites failed afailed
-stops_cut_recording f d1 d2 job messages octets held holds aheld aholds awrites failed afailed r k cause some =
-    by_lines (λ e. StopsAt e job messages octets held holds aheld awrites failed afailed) afailed
-    (λ cause. (k.accepts, subst (λ ms. Appends held holds (concat ms)) (sym k.no_more) r.written, lines, cause)) memory f cause
+pub stops_cut_recording : (f : OfflineFault) (d1 d2 : Run) (job : OfflineJob) (messages : List (List ℕ)) (octets : List ℕ) (before mid : Outputs) (awrites : Option (List ℕ)) (failed afailed : Bool)
+    → IsRunning d1 job messages before mid → WasCut d1 d2 job messages octets → StopsLines f afailed → WritesSome mid.audited awrites (lines_for d2.job.audit (audit_waiting d2))
+    → StopsAtMessage f job messages (due job messages) octets before (holding mid.written awrites failed afailed)
+stops_cut_recording f d1 d2 job messages octets before mid awrites failed afailed r k cause some =
+    by_lines (λ e. StopsAtMessage e job messages (due job messages) octets before (holding mid.written awrites failed afailed)) afailed
+    (λ cause. (
+      k.accepts,
+      (due job (messages ++ octets ∷ []), due_found job (messages ++ octets ∷ []), subst (λ ms. Appends before.written mid.written (concat ms)) (sym k.no_more) r.writes.stream),
+      lines,
+      cause,
+    ))
+    memory f cause
   where
-    lines : WritesOn aheld awrites (audit_due job messages) (audit_due job (messages ++ octets ∷ []))
-    lines = lines_begun job messages octets k.added (audit_waiting d2) aheld aholds awrites k.adds k.waits r.audited (subst (λ j. WritesSome aholds awrites (lines_for j.audit (audit_waiting d2))) k.job_is some)
+    lines : WritesOn before.audited awrites (audit_due job messages) (audit_due job (messages ++ octets ∷ []))
+    lines = lines_begun job messages octets k.added (audit_waiting d2) before.audited mid.audited awrites k.adds k.waits r.writes.audit
+        (subst (λ j. WritesSome mid.audited awrites (lines_for j.audit (audit_waiting d2))) k.job_is some)
 
-    memory : WritesInHand job messages octets held holds aheld awrites
-    memory = record { handed = []; others = due_by job messages octets; front = refl; written = subst (Appends held holds) (sym (none_more (due job messages))) r.written; audited = lines }
+    memory : WritesPart job messages (due job messages) octets before (holding mid.written awrites failed afailed)
+    memory = record {
+      handed = [];
+      others = due_by job messages octets;
+      due = due_in_hand job messages octets [] (due_by job messages octets) refl;
+      stream = subst (Appends before.written mid.written) (sym (none_more (due job messages))) r.writes.stream;
+      audit = lines;
+    }
 
 -- ---- where the steps of a message stand
 
-pub ready : (d : Run) (holds aholds : Option (List ℕ)) → Runs d holds aholds → HasDelivered d
-ready d holds aholds r = record { history = history_of r.job r.messages; stands = r.running.stands; small = r.running.small; quiet = r.running.quiet }
-
-pub cut_history : (d1 d2 : Run) (octets : List ℕ) (holds aholds : Option (List ℕ)) → Runs d1 holds aholds → Receives d1 octets true d2 → HasHistory d2
-cut_history d1 d2 octets holds aholds r receives = record {
-  history = after_message (history_of r.job r.messages) octets;
-  state = (receives.cuts (history_of r.job r.messages) r.running.stands r.running.small refl).1;
-}
-
-pub delivering : (d1 d2 : Run) (octets : List ℕ) (holds aholds : Option (List ℕ)) → Runs d1 holds aholds → Receives d1 octets false d2 → d2.sent ≡ d1.sent → IsDelivering d2
-delivering d1 d2 octets holds aholds r receives same =
-    let on = receives.goes_on (history_of r.job r.messages) r.running.stands r.running.small refl in
-    record {
-      history = after_message (history_of r.job r.messages) octets;
-      place = end_of (history_of r.job r.messages);
-      stands = on.1;
-      small = on.2;
-      sent = omega (arith, same, r.running.few);
-    }
-
-pub delivered_history : (d1 d2 d3 : Run) (octets : List ℕ) (holds writes aholds : Option (List ℕ)) → Runs d1 holds aholds → Receives d1 octets false d2 → Delivers d2 d3 holds writes → HasHistory d3
-delivered_history d1 d2 d3 octets holds writes aholds r receives delivers =
+pub delivered_history : (d1 d2 d3 : Run) (octets : List ℕ) (holds writes : Option (List ℕ)) {after : Outputs} → Runs d1 after → Receives d1 octets false d2 → Delivers d2 d3 holds writes → HasHistory d3
+delivered_history d1 d2 d3 octets holds writes r receives delivers =
     let on = receives.goes_on (history_of r.job r.messages) r.running.stands r.running.small refl in
     record {
       history = after_message (history_of r.job r.messages) octets;

@@ -3,12 +3,12 @@ pub mod Receiving
 pub mod Delivering
 pub mod Lines
 pub mod Blaming
+pub mod OneMore
+pub mod DueLaws
 pub mod InHand
 pub mod Streams
 pub mod Ends
 pub mod Opened
-pub mod DueLaws
-pub mod Restated
 pub mod PlainLaws
 pub mod UnclosedLaws
 pub mod Framed

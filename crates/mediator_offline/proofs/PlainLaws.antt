@@ -9,7 +9,7 @@ use Rattle.mediator_offline.specs.declared.job.OfflineJob.{OfflineJob}
 use Rattle.mediator_offline.specs.Offline.{started, next_message, history_of}
 use Rattle.mediator_offline.specs.Accepting.{AreAccepted}
 use Rattle.mediator_offline.specs.PlainHistory.{entries_from, plain_history}
-use Rattle.mediator_offline.proofs.InHand.{history_more}
+use Rattle.mediator_offline.proofs.OneMore.{history_more}
 
 -- one message more has the number of those before it
 entries_from-push : (n : ℕ) (messages : List (List ℕ)) (m : List ℕ) → entries_from n (messages ++ m ∷ []) ≡ entries_from n messages ++ Message 1 (n + length messages) m ∷ []

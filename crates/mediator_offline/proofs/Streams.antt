@@ -1,77 +1,85 @@
 -- Messages of a stream that are handled one after another.
-use Rattle.std.proofs.Common.{◌≡◌, ℕ, Bool, List, [], ◌∷◌, ◌++◌, Option, Some, sym, ap, ◌∙◌, subst, append-nil, append_assoc, arith}
+use Rattle.std.proofs.Common.{◌≡◌, ℕ, List, [], ◌∷◌, ◌++◌, Option, Some, sym, ap, ◌∙◌, subst, append-nil, append_assoc, arith}
 use Rattle.std.proofs.lemmas.List.{take_all}
 use Rattle.ipfix_message.specs.declared.frame_error.FrameError.{FrameError}
 use Rattle.ipfix_message.specs.Framing.{IsFramed}
-use Rattle.mediator_offline.specs.declared.job.OfflineJob.{OfflineJob}
-use Rattle.mediator_offline.specs.declared.job.OfflineFault.{OfflineFault}
-use Rattle.mediator_offline.specs.declared.run.Run.{Run}
 use Rattle.subscriber_stream.specs.Parts.{parts, records_in}
 use Rattle.subscriber_stream.proofs.CallLaws.{parts_bring}
 use Rattle.stream_meaning.specs.Means.{Means}
 use Rattle.stream_meaning.proofs.Handing.{handed_means}
-use Rattle.mediator_offline.specs.Offline.{history_of, disclosed_by, due}
-use Rattle.mediator_offline.specs.Offline.{end_of}
-use Rattle.mediator_offline.proofs.Delivering.{streamable_of}
+use Rattle.mediator_offline.specs.declared.job.OfflineJob.{OfflineJob}
+use Rattle.mediator_offline.specs.declared.job.OfflineFault.{OfflineFault}
+use Rattle.mediator_offline.specs.declared.run.Run.{Run}
+use Rattle.mediator_offline.specs.Ports.{Outputs}
+use Rattle.mediator_offline.specs.Offline.{history_of, disclosed_by, due, end_of}
+use Rattle.mediator_offline.specs.Filtering.{Filters, IsFiltered}
 use Rattle.mediator_offline.specs.Running.{IsRunning, Runs, HandlesOn, StopsOn}
-use Rattle.mediator_offline.specs.Reading.{IsDone}
 use Rattle.mediator_offline.specs.Reaching.{HandlesAll, StopsAmong}
+use Rattle.mediator_offline.proofs.Delivering.{streamable_of}
+use Rattle.mediator_offline.proofs.DueLaws.{due_found}
 
 -- ---- messages in a row
 
 -- these messages of a list were handled, and the rest is left
-pub record IsHandling (old d : Run) (all rest : List (List ℕ)) (holds writes aholds awrites : Option (List ℕ)) : Type 0 where
+pub record IsHandling (old d : Run) (all rest : List (List ℕ)) (before after : Outputs) : Type 0 where
   pub done : List (List ℕ)
   pub parts : all ≡ done ++ rest
-  pub handled : HandlesAll old d done holds writes aholds awrites
+  pub handled : HandlesAll old d done before after
 
-pub none_handled : (d : Run) (all rest : List (List ℕ)) (holds aholds : Option (List ℕ)) → rest ≡ all → IsHandling d d all rest holds holds aholds aholds
-none_handled d all rest holds aholds is = record {
+pub none_handled : (d : Run) (all rest : List (List ℕ)) (before : Outputs) → rest ≡ all → IsHandling d d all rest before before
+none_handled d all rest before is = record {
   done = [];
   parts = sym is;
-  handled = record { after = λ job messages held aheld r. subst (λ ms. IsRunning d job ms held holds aheld aholds) (sym (append-nil messages)) r };
+  handled = record { running = λ job messages first r. subst (λ ms. IsRunning d job ms first before) (sym (append-nil messages)) r };
 }
 
-pub one_handled : (old d e : Run) (all more rest : List (List ℕ)) (m : List ℕ) (holds mid writes aholds amid awrites : Option (List ℕ)) → more ≡ m ∷ rest
-    → IsHandling old d all more holds mid aholds amid → HandlesOn d e m mid writes amid awrites → IsHandling old e all rest holds writes aholds awrites
-one_handled old d e all more rest m holds mid writes aholds amid awrites is so next = record {
+pub one_handled : (old d e : Run) (all more rest : List (List ℕ)) (m : List ℕ) (before mid after : Outputs) → more ≡ m ∷ rest
+    → IsHandling old d all more before mid → HandlesOn d e m mid after → IsHandling old e all rest before after
+one_handled old d e all more rest m before mid after is so next = record {
   done = so.done ++ m ∷ [];
   parts = so.parts ∙ ap (λ t. so.done ++ t) is ∙ sym (append_assoc so.done (m ∷ []) rest);
   handled = record {
-    after = λ job messages held aheld r.
-        subst (λ ms. IsRunning e job ms held writes aheld awrites) (append_assoc messages so.done (m ∷ []))
-        (next.after job (messages ++ so.done) held aheld (so.handled.after job messages held aheld r));
+    running = λ job messages first r.
+        subst (λ ms. IsRunning e job ms first after) (append_assoc messages so.done (m ∷ []))
+        (next.running job (messages ++ so.done) first (so.handled.running job messages first r));
   };
 }
 
-pub all_handled : (old d : Run) (all rest : List (List ℕ)) (holds writes aholds awrites : Option (List ℕ)) → rest ≡ [] → IsHandling old d all rest holds writes aholds awrites → HandlesAll old d all holds writes aholds awrites
-all_handled old d all rest holds writes aholds awrites none so = subst (λ ms. HandlesAll old d ms holds writes aholds awrites) (sym (so.parts ∙ ap (λ t. so.done ++ t) none ∙ append-nil so.done)) so.handled
-
-pub runs_on : (old d : Run) (more : List (List ℕ)) (holds mid aholds amid : Option (List ℕ)) → Runs old holds aholds → HandlesAll old d more holds mid aholds amid → Runs d mid amid
-runs_on old d more holds mid aholds amid r so = record { job = r.job; messages = r.messages ++ more; held = r.held; aheld = r.aheld; running = so.after r.job r.messages r.held r.aheld r.running }
+pub runs_on : (old d : Run) (more : List (List ℕ)) (before after : Outputs) → Runs old before → HandlesAll old d more before after → Runs d after
+runs_on old d more before after r so = record { job = r.job; messages = r.messages ++ more; before = r.before; running = so.running r.job r.messages r.before r.running }
 
 -- what was written for a run means what its messages disclose
-pub means_of : (d : Run) (job : OfflineJob) (messages : List (List ℕ)) (held holds aheld aholds : Option (List ℕ)) → IsRunning d job messages held holds aheld aholds → Means (due job messages) (disclosed_by job messages)
-means_of d job messages held holds aheld aholds r =
+means_of : (d : Run) (job : OfflineJob) (messages : List (List ℕ)) (before after : Outputs) → IsRunning d job messages before after → Means (due job messages) (disclosed_by job messages)
+means_of d job messages before after r =
     subst (Means (due job messages)) (ap records_in (take_all (end_of (history_of job messages)) (parts (disclosed_by job messages)) (omega arith)) ∙ parts_bring (disclosed_by job messages))
     (handed_means (due job messages) (disclosed_by job messages) (end_of (history_of job messages)) r.handed (streamable_of (history_of job messages) r.small))
 
-pub one_stops : (e : OfflineFault) (old d : Run) (all more rest : List (List ℕ)) (m : List ℕ) (holds mid writes aholds amid awrites : Option (List ℕ)) (failed afailed : Bool) → more ≡ m ∷ rest
-    → IsHandling old d all more holds mid aholds amid → StopsOn e d m mid writes amid awrites failed afailed → StopsAmong e old all holds writes aholds awrites failed afailed
-one_stops e old d all more rest m holds mid writes aholds amid awrites failed afailed is so stop = record {
-  before = so.done;
+-- so its messages were filtered
+filters_of : (d : Run) (job : OfflineJob) (messages : List (List ℕ)) (before after : Outputs) → IsRunning d job messages before after → Filters job messages (due job messages)
+filters_of d job messages before after r = record { accepted = r.accepted; due = due_found job messages; means = means_of d job messages before after r }
+
+pub one_stops : (e : OfflineFault) (old d : Run) (all more rest : List (List ℕ)) (m : List ℕ) (before mid after : Outputs) → more ≡ m ∷ rest
+    → IsHandling old d all more before mid → StopsOn e d m mid after → StopsAmong e old all before after
+one_stops e old d all more rest m before mid after is so stop = record {
+  done = so.done;
   message = m;
   later = rest;
   parts = so.parts ∙ ap (λ t. so.done ++ t) is;
-  after = λ job messages held aheld r.
-      let there = so.handled.after job messages held aheld r in
-      (there.accepted, means_of d job (messages ++ so.done) held mid aheld amid there, stop.after job (messages ++ so.done) held aheld there);
+  stops = λ job messages first r.
+      let there = so.handled.running job messages first r in
+      (filters_of d job (messages ++ so.done) first mid there, stop.stops job (messages ++ so.done) first there);
 }
 
 -- all messages of a run that goes on
-pub done_of : (d : Run) (job : OfflineJob) (octets : List ℕ) (messages : List (List ℕ)) (fault : Option FrameError) (pending : List ℕ) (held holds aheld aholds : Option (List ℕ)) → IsRunning d job messages held holds aheld aholds
-    → IsFramed octets messages fault pending → IsDone job octets messages fault pending held holds aheld aholds
-done_of d job octets messages fault pending held holds aheld aholds r framed = record { job_accepted = r.job_accepted; framed = framed; all = r.accepted; written = r.written; means = means_of d job messages held holds aheld aholds r; audited = r.audited }
+pub filtered_of : (d : Run) (job : OfflineJob) (octets : List ℕ) (messages : List (List ℕ)) (fault : Option FrameError) (pending : List ℕ) (before after : Outputs) → IsRunning d job messages before after
+    → IsFramed octets messages fault pending → IsFiltered job octets messages fault pending before after
+filtered_of d job octets messages fault pending before after r framed = record {
+  job_accepted = r.job_accepted;
+  framed = framed;
+  written = due job messages;
+  filters = filters_of d job messages before after r;
+  writes = r.writes;
+}
 
 pub emptied : (w : FrameError) (octets : List ℕ) (messages : List (List ℕ)) (pending : List ℕ) → IsFramed octets messages (Some w) pending → IsFramed octets messages (Some w) []
 emptied w octets messages pending framed = subst (IsFramed octets messages (Some w)) framed.ends.0 framed

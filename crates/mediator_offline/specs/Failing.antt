@@ -16,7 +16,7 @@ audit_after AuditWrite was = true
 audit_after _ was = was
 
 -- the reader had not failed, and the writers had or not; so a device that fails is the one that is named
-pub record FailsOnly (e : OfflineFault) (had audit_had rfailed failed afailed : Bool) : Type 0 where
-  pub reader : rfailed ≡ reader_after e false
-  pub writer : failed ≡ writer_after e had
-  pub audit : afailed ≡ audit_after e audit_had
+pub record FailsOnly (e : OfflineFault) (writer_had audit_had reader_failed writer_failed audit_failed : Bool) : Type 0 where
+  pub reader : reader_failed ≡ reader_after e false
+  pub writer : writer_failed ≡ writer_after e writer_had
+  pub audit : audit_failed ≡ audit_after e audit_had

@@ -1,5 +1,5 @@
 -- What `offline` does with its ports: what it read, what it wrote, and where it stops.
-use Rattle.std.specs.Prelude.{◌≡◌, ◌⊎◌, ℕ, ◌+◌, ◌*◌, ◌<◌, ◌≤◌, Bool, true, false, List, [], ◌∷◌, ◌++◌, length, Option, Some, None}
+use Rattle.std.specs.Prelude.{◌≡◌, ◌⊎◌, ℕ, ◌+◌, ◌*◌, ◌<◌, ◌≤◌, true, List, [], ◌∷◌, ◌++◌, length, Option, Some, None}
 use Rattle.std.specs.List.{concat}
 use Rattle.std.specs.Io.KnownBytes.{Appends, Consumes, IsAtEnd}
 use Rattle.octet_io.specs.Written.{WritesFront}
@@ -16,24 +16,12 @@ use Rattle.mediator_offline.specs.declared.job.OfflineJob.{OfflineJob}
 use Rattle.mediator_offline.specs.declared.job.OfflineReport.{OfflineReport}
 use Rattle.mediator_offline.specs.declared.job.OfflineFault.{OfflineFault}
 use Rattle.mediator_offline.specs.declared.job.OfflineFault.TheVariants.{Read, Write, Framing, Turns, Core, Cut, AuditWrite}
+use Rattle.mediator_offline.specs.Ports.{Outputs, Ports}
 use Rattle.mediator_offline.specs.Lines.{WritesOn}
 use Rattle.mediator_offline.specs.Offline.{cuts_by, history_of, disclosed_by, audit_due}
 use Rattle.mediator_offline.specs.Due.{AreDue}
 use Rattle.mediator_offline.specs.Opening.{IsAcceptedJob, RefusesJob}
 use Rattle.mediator_offline.specs.Accepting.{Accepts, RefusesMessage, AreAccepted}
-
--- what is seen of a run's ports: what the reader has left, what writer and audit hold, and whether each has failed
-pub record Ports : Type 0 where
-  pub left : Option (List ℕ)
-  pub written : Option (List ℕ)
-  pub audited : Option (List ℕ)
-  pub reader_failed : Bool
-  pub writer_failed : Bool
-  pub audit_failed : Bool
-
--- ports of which none has failed
-abbrev pub unfailed : Option (List ℕ) → Option (List ℕ) → Option (List ℕ) → Ports
-unfailed left written audited = record { left = left; written = written; audited = audited; reader_failed = false; writer_failed = false; audit_failed = false }
 
 -- so many reads, each of at most 65,536 octets, may have given these
 abbrev pub AreRead : ℕ → List ℕ → Type 0
@@ -50,13 +38,13 @@ pub record Filters (job : OfflineJob) (messages written : List (List ℕ)) : Typ
   pub means : Means written (disclosed_by job messages)
 
 -- these messages were written, and these lines
-pub record Writes (before after : Ports) (messages : List (List ℕ)) (lines : List ℕ) : Type 0 where
+pub record Writes (before after : Outputs) (messages : List (List ℕ)) (lines : List ℕ) : Type 0 where
   pub stream : Appends before.written after.written (concat messages)
   pub audit : Appends before.audited after.audited lines
 
 -- the job is accepted, these octets are these messages, and then this fault or these octets that are pending; all messages
 -- were filtered, and what is due was written
-pub record IsFiltered (job : OfflineJob) (octets : List ℕ) (messages : List (List ℕ)) (fault : Option FrameError) (pending : List ℕ) (before after : Ports) : Type 0 where
+pub record IsFiltered (job : OfflineJob) (octets : List ℕ) (messages : List (List ℕ)) (fault : Option FrameError) (pending : List ℕ) (before after : Outputs) : Type 0 where
   pub job_accepted : IsAcceptedJob job
   pub framed : IsFramed octets messages fault pending
   pub written : List (List ℕ)
@@ -70,7 +58,7 @@ pub record FiltersAll (job : OfflineJob) (report : OfflineReport) (before after 
   pub taken : Consumes before.left after.left octets
   pub end : IsAtEnd after.left
   pub turns : AreReadBut job.turns octets
-  pub done : IsFiltered job octets messages None [] before after
+  pub done : IsFiltered job octets messages None [] before.outputs after.outputs
   pub counted : report.messages ≡ length messages
   pub recorded : report.records ≡ length (accepted (history_of job messages))
   pub disclosed : report.disclosed ≡ length (disclosed_by job messages)
@@ -78,7 +66,7 @@ pub record FiltersAll (job : OfflineJob) (report : OfflineReport) (before after 
 -- ---- where it stops
 
 -- of what is due for the message in hand, whole messages were written, and a front of the lines
-pub record WritesPart (job : OfflineJob) (messages written : List (List ℕ)) (octets : List ℕ) (before after : Ports) : Type 0 where
+pub record WritesPart (job : OfflineJob) (messages written : List (List ℕ)) (octets : List ℕ) (before after : Outputs) : Type 0 where
   pub handed : List (List ℕ)
   pub others : List (List ℕ)
   pub due : AreDue job [] 0 (messages ++ octets ∷ []) (written ++ (handed ++ others))
@@ -87,7 +75,7 @@ pub record WritesPart (job : OfflineJob) (messages written : List (List ℕ)) (o
 
 -- the run stops at the message in hand: it is refused; or it is accepted, and then cuts the subscription, or a device fails, or
 -- memory runs out. These were due for the messages before it, and were written
-abbrev pub StopsAtMessage : OfflineFault → OfflineJob → List (List ℕ) → List (List ℕ) → List ℕ → Ports → Ports → Type 0
+abbrev pub StopsAtMessage : OfflineFault → OfflineJob → List (List ℕ) → List (List ℕ) → List ℕ → Outputs → Outputs → Type 0
 StopsAtMessage (Core fault.OutOfMemory) job messages written octets before after = WritesPart job messages written octets before after
 StopsAtMessage (Core why) job messages written octets before after = RefusesMessage why (history_of job messages) octets × Writes before after written (audit_due job messages)
 StopsAtMessage (Write sent) job messages written octets before after =
@@ -103,7 +91,7 @@ StopsAtMessage AuditWrite job messages written octets before after =
 StopsAtMessage _ job messages written octets before after = ⊥
 
 -- the job and the messages before the one in hand are accepted, and the run stops there
-pub record StopsAtOne (e : OfflineFault) (job : OfflineJob) (octets : List ℕ) (before after : Ports) : Type 0 where
+pub record StopsAtOne (e : OfflineFault) (job : OfflineJob) (octets : List ℕ) (before after : Outputs) : Type 0 where
   pub messages : List (List ℕ)
   pub message : List ℕ
   pub later : List (List ℕ)
@@ -116,7 +104,7 @@ pub record StopsAtOne (e : OfflineFault) (job : OfflineJob) (octets : List ℕ) 
   pub stops : StopsAtMessage e job messages written message before after
 
 -- a piece that was read last found no memory; the octets before it were filtered
-pub record LosesPiece (why : Fault) (job : OfflineJob) (octets : List ℕ) (before after : Ports) : Type 0 where
+pub record LosesPiece (why : Fault) (job : OfflineJob) (octets : List ℕ) (before after : Outputs) : Type 0 where
   pub memory : why ≡ fault.OutOfMemory
   pub fed : List ℕ
   pub piece : List ℕ
@@ -129,15 +117,15 @@ pub record LosesPiece (why : Fault) (job : OfflineJob) (octets : List ℕ) (befo
 -- where a run stops that has read these octets, and by what cause
 abbrev pub StopsHere : OfflineFault → OfflineJob → List ℕ → Ports → Ports → Type 0
 StopsHere Read job octets before after =
-    ((messages : List (List ℕ)) × (pending : List ℕ) × IsFiltered job octets messages None pending before after) × AreReadBut job.turns octets × (after.reader_failed ≡ true)
+    ((messages : List (List ℕ)) × (pending : List ℕ) × IsFiltered job octets messages None pending before.outputs after.outputs) × AreReadBut job.turns octets × (after.reader_failed ≡ true)
 StopsHere Turns job octets before after =
-    ((messages : List (List ℕ)) × (pending : List ℕ) × IsFiltered job octets messages None pending before after) × (job.turns ≤ length octets) × AreRead job.turns octets
+    ((messages : List (List ℕ)) × (pending : List ℕ) × IsFiltered job octets messages None pending before.outputs after.outputs) × (job.turns ≤ length octets) × AreRead job.turns octets
 StopsHere (Framing framing.CutOff) job octets before after =
-    ((messages : List (List ℕ)) × (pending : List ℕ) × IsFiltered job octets messages None pending before after × (0 < length pending)) × AreReadBut job.turns octets × IsAtEnd after.left
-StopsHere (Framing framing.BadVersion) job octets before after = ((messages : List (List ℕ)) × IsFiltered job octets messages (Some frame.BadVersion) [] before after) × AreRead job.turns octets
-StopsHere (Framing framing.BadLength) job octets before after = ((messages : List (List ℕ)) × IsFiltered job octets messages (Some frame.BadLength) [] before after) × AreRead job.turns octets
-StopsHere (Core why) job octets before after = (StopsAtOne (Core why) job octets before after ⊎ LosesPiece why job octets before after) × AreRead job.turns octets
-StopsHere e job octets before after = StopsAtOne e job octets before after × AreRead job.turns octets
+    ((messages : List (List ℕ)) × (pending : List ℕ) × IsFiltered job octets messages None pending before.outputs after.outputs × (0 < length pending)) × AreReadBut job.turns octets × IsAtEnd after.left
+StopsHere (Framing framing.BadVersion) job octets before after = ((messages : List (List ℕ)) × IsFiltered job octets messages (Some frame.BadVersion) [] before.outputs after.outputs) × AreRead job.turns octets
+StopsHere (Framing framing.BadLength) job octets before after = ((messages : List (List ℕ)) × IsFiltered job octets messages (Some frame.BadLength) [] before.outputs after.outputs) × AreRead job.turns octets
+StopsHere (Core why) job octets before after = (StopsAtOne (Core why) job octets before.outputs after.outputs ⊎ LosesPiece why job octets before.outputs after.outputs) × AreRead job.turns octets
+StopsHere e job octets before after = StopsAtOne e job octets before.outputs after.outputs × AreRead job.turns octets
 
 -- the job is refused, and nothing was read or written
 pub record RefusesAll (e : OfflineFault) (job : OfflineJob) (before after : Ports) : Type 0 where
@@ -145,7 +133,7 @@ pub record RefusesAll (e : OfflineFault) (job : OfflineJob) (before after : Port
   pub is : e ≡ Core why
   pub refuses : RefusesJob why job
   pub taken : Consumes before.left after.left []
-  pub writes : Writes before after [] []
+  pub writes : Writes before.outputs after.outputs [] []
 
 -- octets were read, and the run stops so
 pub record StopsSomewhere (e : OfflineFault) (job : OfflineJob) (before after : Ports) : Type 0 where

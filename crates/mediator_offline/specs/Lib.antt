@@ -6,6 +6,7 @@ pub use Rattle.mediator_history.specs.Accepted
 pub use Rattle.mediator_history.specs.Disclosed
 pub use Rattle.mediator_history.specs.Auditing
 pub use Rattle.mediator_history.specs.Cuts
+pub mod Ports
 pub mod Faults
 pub mod FaultTexts
 pub mod Failing
@@ -19,8 +20,6 @@ pub mod Opening
 pub mod Accepting
 pub mod Filtering
 -- what follows no public clause cites: how far a run has come
-pub mod Stopping
-pub mod Reading
 pub mod Runs
 pub mod Steps
 pub mod Recording

@@ -1,18 +1,17 @@
 -- A run over messages: what was written for those that were handled, and where it stops at one.
-use Rattle.std.specs.Prelude.{◌≡◌, ℕ, ◌*◌, ◌≤◌, Bool, List, [], ◌∷◌, ◌++◌, length, Option}
+use Rattle.std.specs.Prelude.{◌≡◌, ℕ, ◌*◌, ◌≤◌, List, [], ◌∷◌, ◌++◌, length}
 use Rattle.std.specs.List.{concat}
-use Rattle.std.specs.Io.KnownBytes.{Appends}
 use Rattle.ipfix_octets.specs.MessageFormat.{longest_message}
 use Rattle.stream_meaning.specs.HandedOut.{AreHandedOut}
 use Rattle.mediator_offline.specs.declared.job.OfflineJob.{OfflineJob}
 use Rattle.mediator_offline.specs.declared.job.OfflineFault.{OfflineFault}
 use Rattle.mediator_offline.specs.declared.run.Run.{Run}
-use Rattle.mediator_offline.specs.Offline.{started, history_of, disclosed_by, due, audit_due}
+use Rattle.mediator_offline.specs.Ports.{Outputs}
+use Rattle.mediator_offline.specs.Offline.{started, history_of, disclosed_by, due, audit_due, end_of}
 use Rattle.mediator_offline.specs.Opening.{IsAcceptedJob}
-use Rattle.mediator_offline.specs.Runs.{audit_waiting, Stands, Small}
-use Rattle.mediator_offline.specs.Offline.{end_of}
 use Rattle.mediator_offline.specs.Accepting.{AreAccepted}
-use Rattle.mediator_offline.specs.Stopping.{StopsAt}
+use Rattle.mediator_offline.specs.Filtering.{Writes, StopsAtMessage}
+use Rattle.mediator_offline.specs.Runs.{audit_waiting, Stands, Small}
 
 -- a run before the first message
 pub record IsOpened (d : Run) (job : OfflineJob) : Type 0 where
@@ -24,7 +23,7 @@ pub record IsOpened (d : Run) (job : OfflineJob) : Type 0 where
   pub sent : d.sent ≡ 0
 
 -- these messages were handled, and what is due for them was written
-pub record IsRunning (d : Run) (job : OfflineJob) (messages : List (List ℕ)) (held holds aheld aholds : Option (List ℕ)) : Type 0 where
+pub record IsRunning (d : Run) (job : OfflineJob) (messages : List (List ℕ)) (before after : Outputs) : Type 0 where
   pub job_is : d.job ≡ job
   pub job_accepted : IsAcceptedJob job
   pub stands : Stands d (history_of job messages) (end_of (history_of job messages))
@@ -32,24 +31,23 @@ pub record IsRunning (d : Run) (job : OfflineJob) (messages : List (List ℕ)) (
   pub quiet : audit_waiting d ≡ []
   pub sent : d.sent ≡ length (concat (due job messages))
   pub few : d.sent ≤ longest_message * end_of (history_of job messages)
-  pub written : Appends held holds (concat (due job messages))
-  pub audited : Appends aheld aholds (audit_due job messages)
+  pub writes : Writes before after (due job messages) (audit_due job messages)
   pub accepted : AreAccepted job [] messages
   pub handed : AreHandedOut (due job messages) (disclosed_by job messages) (end_of (history_of job messages))
 
--- a run that runs somewhere
-pub record Runs (d : Run) (holds aholds : Option (List ℕ)) : Type 0 where
+-- a run that runs somewhere, with these outputs
+pub record Runs (d : Run) (after : Outputs) : Type 0 where
   pub job : OfflineJob
   pub messages : List (List ℕ)
-  pub held : Option (List ℕ)
-  pub aheld : Option (List ℕ)
-  pub running : IsRunning d job messages held holds aheld aholds
+  pub before : Outputs
+  pub running : IsRunning d job messages before after
 
--- a message more was handled
-pub record HandlesOn (old new : Run) (octets : List ℕ) (holds writes aholds awrites : Option (List ℕ)) : Type 0 where
-  pub after : (job : OfflineJob) (messages : List (List ℕ)) (held aheld : Option (List ℕ)) → IsRunning old job messages held holds aheld aholds
-      → IsRunning new job (messages ++ octets ∷ []) held writes aheld awrites
+-- a message more was handled, whatever was before it
+pub record HandlesOn (old new : Run) (octets : List ℕ) (before after : Outputs) : Type 0 where
+  pub running : (job : OfflineJob) (messages : List (List ℕ)) (first : Outputs) → IsRunning old job messages first before
+      → IsRunning new job (messages ++ octets ∷ []) first after
 
-pub record StopsOn (e : OfflineFault) (old : Run) (octets : List ℕ) (holds writes aholds awrites : Option (List ℕ)) (failed afailed : Bool) : Type 0 where
-  pub after : (job : OfflineJob) (messages : List (List ℕ)) (held aheld : Option (List ℕ)) → IsRunning old job messages held holds aheld aholds
-      → StopsAt e job messages octets held writes aheld awrites failed afailed
+-- the run stops at this message, whatever was before it
+pub record StopsOn (e : OfflineFault) (old : Run) (octets : List ℕ) (before after : Outputs) : Type 0 where
+  pub stops : (job : OfflineJob) (messages : List (List ℕ)) (first : Outputs) → IsRunning old job messages first before
+      → StopsAtMessage e job messages (due job messages) octets first after

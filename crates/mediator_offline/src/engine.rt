@@ -1,9 +1,9 @@
 //! Reads a whole stream, and handles each of its messages.
-ghost use Rattle.std.specs.Prelude.{◌≡◌, ◌<◌, ◌≤◌, false, None, length, IfOk, IfErr, OnOk};
-ghost use Rattle.mediator_offline.specs.Reaching.{HandlesAll, StopsAmong};
-ghost use Rattle.mediator_offline.specs.Reading.{Finishes, Halts};
+ghost use Rattle.std.specs.Prelude.{◌≡◌, false, IfOk, IfErr, OnOk};
+ghost use Rattle.mediator_offline.specs.Ports.{holding, with_left};
 ghost use Rattle.mediator_offline.specs.Failing.{FailsOnly};
 ghost use Rattle.mediator_offline.specs.Running.{Runs};
+ghost use Rattle.mediator_offline.specs.Reaching.{HandlesAll, StopsAmong};
 
 use crate::job::{OfflineFault, OfflineJob, OfflineReport};
 use crate::run::{Run, SUBSCRIPTION};
@@ -24,11 +24,15 @@ impl<'a> Run<'a> {
         writer: &mut W,
         audit_writer: &mut A,
     ) -> Result<(), OfflineFault>
-        requires running { Runs self.old (W.contents writer.old) (A.contents audit_writer.old) }
+        requires running { Runs self.old
+            (holding (W.contents writer.old) (A.contents audit_writer.old)
+            (W.has_failed writer.old) (A.has_failed audit_writer.old)) }
         // Each message was handled.
         ensures ok { OnOk result (HandlesAll self.old self.new messages.items
-            (W.contents writer.old) (W.contents writer.new)
-            (A.contents audit_writer.old) (A.contents audit_writer.new)) }
+            (holding (W.contents writer.old) (A.contents audit_writer.old)
+            (W.has_failed writer.old) (A.has_failed audit_writer.old))
+            (holding (W.contents writer.new) (A.contents audit_writer.new)
+            (W.has_failed writer.new) (A.has_failed audit_writer.new))) }
         ensures stays { OnOk result (W.has_failed writer.new ≡ W.has_failed writer.old) }
         ensures audit_stays { OnOk result (A.has_failed audit_writer.new
             ≡ A.has_failed audit_writer.old) }
@@ -37,9 +41,11 @@ impl<'a> Run<'a> {
             FailsOnly e (W.has_failed writer.old) (A.has_failed audit_writer.old) false
             (W.has_failed writer.new) (A.has_failed audit_writer.new)) }
         ensures err { IfErr result (λ e.
-            StopsAmong e self.old messages.items (W.contents writer.old) (W.contents writer.new)
-            (A.contents audit_writer.old) (A.contents audit_writer.new)
-            (W.has_failed writer.new) (A.has_failed audit_writer.new)) }
+            StopsAmong e self.old messages.items
+            (holding (W.contents writer.old) (A.contents audit_writer.old)
+            (W.has_failed writer.old) (A.has_failed audit_writer.old))
+            (holding (W.contents writer.new) (A.contents audit_writer.new)
+            (W.has_failed writer.new) (A.has_failed audit_writer.new))) }
     {
         'messages: for message in messages {
             self.handle(message, writer, audit_writer)?;
@@ -51,7 +57,7 @@ impl<'a> Run<'a> {
 ghost use Rattle.ipfix_reader.specs.Intake.{nothing_read};
 ghost use Rattle.mediator_offline.specs.Running.{IsOpened};
 ghost use Rattle.mediator_offline.specs.Reaching.{ReachesEnd};
-ghost use Rattle.mediator_offline.specs.Reading.{StopsReading};
+ghost use Rattle.mediator_offline.specs.Filtering.{StopsSomewhere};
 
 impl<'a> Run<'a> {
     /// Reads the stream to its end by `intake`, and handles its messages.
@@ -71,9 +77,12 @@ impl<'a> Run<'a> {
         requires reader { R.has_failed reader.old ≡ false }
         // The stream was read to its end, and each message was handled.
         ensures ok { OnOk result (ReachesEnd self.new self.old.job
-            (R.remaining reader.old) (R.remaining reader.new)
-            (W.contents writer.old) (W.contents writer.new)
-            (A.contents audit_writer.old) (A.contents audit_writer.new)) }
+            (with_left (R.remaining reader.old) (R.has_failed reader.old)
+            (holding (W.contents writer.old) (A.contents audit_writer.old)
+            (W.has_failed writer.old) (A.has_failed audit_writer.old)))
+            (with_left (R.remaining reader.new) (R.has_failed reader.new)
+            (holding (W.contents writer.new) (A.contents audit_writer.new)
+            (W.has_failed writer.new) (A.has_failed audit_writer.new)))) }
         ensures reads { OnOk result (R.has_failed reader.new ≡ false) }
         ensures stays { OnOk result (W.has_failed writer.new ≡ W.has_failed writer.old) }
         ensures audit_stays { OnOk result (A.has_failed audit_writer.new
@@ -83,10 +92,13 @@ impl<'a> Run<'a> {
             FailsOnly e (W.has_failed writer.old) (A.has_failed audit_writer.old)
             (R.has_failed reader.new) (W.has_failed writer.new) (A.has_failed audit_writer.new)) }
         ensures err { IfErr result (λ e.
-            StopsReading e self.old.job (R.remaining reader.old) (R.remaining reader.new)
-            (W.contents writer.old) (W.contents writer.new)
-            (A.contents audit_writer.old) (A.contents audit_writer.new)
-            (R.has_failed reader.new) (W.has_failed writer.new) (A.has_failed audit_writer.new)) }
+            StopsSomewhere e self.old.job
+            (with_left (R.remaining reader.old) (R.has_failed reader.old)
+            (holding (W.contents writer.old) (A.contents audit_writer.old)
+            (W.has_failed writer.old) (A.has_failed audit_writer.old)))
+            (with_left (R.remaining reader.new) (R.has_failed reader.new)
+            (holding (W.contents writer.new) (A.contents audit_writer.new)
+            (W.has_failed writer.new) (A.has_failed audit_writer.new)))) }
     {
         'reads: loop {
             let Some(messages) = intake.next(reader)? else {
@@ -124,45 +136,8 @@ impl<'a> Run<'a> {
     }
 }
 
-/// Runs the job from its start to its end.
-///
-/// # Errors
-/// Those of [`offline`].
-fn run_through<R: Source, W: Sink, A: Sink>(
-    alloc: Global,
-    job: &OfflineJob<'_>,
-    reader: &mut R,
-    writer: &mut W,
-    audit_writer: &mut A,
-) -> Result<OfflineReport, OfflineFault>
-    requires reader { R.has_failed reader.old ≡ false }
-    requires writer { W.has_failed writer.old ≡ false }
-    requires audit { A.has_failed audit_writer.old ≡ false }
-    // All was read and accepted, and what is due was written.
-    ensures ok { IfOk result (λ report.
-        Finishes job.entry.now report (R.remaining reader.old) (R.remaining reader.new)
-        (W.contents writer.old) (W.contents writer.new)
-        (A.contents audit_writer.old) (A.contents audit_writer.new)) }
-    ensures sound { OnOk result ((R.has_failed reader.new ≡ false)
-        × (W.has_failed writer.new ≡ false) × (A.has_failed audit_writer.new ≡ false)) }
-    // Which device has failed; and what was read and written by then.
-    ensures fails { IfErr result (λ e. FailsOnly e false false
-        (R.has_failed reader.new) (W.has_failed writer.new) (A.has_failed audit_writer.new)) }
-    ensures err { IfErr result (λ e.
-        Halts e job.entry.now (R.remaining reader.old) (R.remaining reader.new)
-        (W.contents writer.old) (W.contents writer.new)
-        (A.contents audit_writer.old) (A.contents audit_writer.new)
-        (R.has_failed reader.new) (W.has_failed writer.new) (A.has_failed audit_writer.new)) }
-{
-    let mut run = Run::open(alloc, *job)?;
-    let Ok(mut intake) = Intake::new(alloc, job.turns) else {
-        return Err(OfflineFault::Core(Fault::OutOfMemory));
-    };
-    run.read_stream(&mut intake, reader, writer, audit_writer)?;
-    Ok(run.report())
-}
-
-ghost use Rattle.mediator_offline.specs.Filtering.{unfailed, FiltersAll, FailsToFilter};
+ghost use Rattle.mediator_offline.specs.Ports.{unfailed};
+ghost use Rattle.mediator_offline.specs.Filtering.{FiltersAll, FailsToFilter};
 
 /// Filters one stream for one subscriber, and answers how much was read, accepted and written. It reads the messages of an
 /// exporter from `reader`, to the end of the stream. Message by message, it writes what `job` discloses to the subscriber to
@@ -193,22 +168,26 @@ pub fn offline<R: Source, W: Sink, A: Sink>(
         (unfailed (R.remaining reader.old) (W.contents writer.old) (A.contents audit_writer.old))
         (record {
           left = R.remaining reader.new;
-          written = W.contents writer.new;
-          audited = A.contents audit_writer.new;
           reader_failed = R.has_failed reader.new;
-          writer_failed = W.has_failed writer.new;
-          audit_failed = A.has_failed audit_writer.new;
+          outputs = record {
+            written = W.contents writer.new;
+            audited = A.contents audit_writer.new;
+            writer_failed = W.has_failed writer.new;
+            audit_failed = A.has_failed audit_writer.new;
+          };
         })) }
     // Where it stopped, by what cause, and what was written by then.
     ensures stops { IfErr result (λ e. FailsToFilter e job.entry.now
         (unfailed (R.remaining reader.old) (W.contents writer.old) (A.contents audit_writer.old))
         (record {
           left = R.remaining reader.new;
-          written = W.contents writer.new;
-          audited = A.contents audit_writer.new;
           reader_failed = R.has_failed reader.new;
-          writer_failed = W.has_failed writer.new;
-          audit_failed = A.has_failed audit_writer.new;
+          outputs = record {
+            written = W.contents writer.new;
+            audited = A.contents audit_writer.new;
+            writer_failed = W.has_failed writer.new;
+            audit_failed = A.has_failed audit_writer.new;
+          };
         })) }
     // No device has failed, but the one that the fault names.
     ensures sound { OnOk result ((R.has_failed reader.new ≡ false)
@@ -216,5 +195,10 @@ pub fn offline<R: Source, W: Sink, A: Sink>(
     ensures fails { IfErr result (λ e. FailsOnly e false false
         (R.has_failed reader.new) (W.has_failed writer.new) (A.has_failed audit_writer.new)) }
 {
-    run_through(alloc, job, reader, writer, audit_writer)
+    let mut run = Run::open(alloc, *job)?;
+    let Ok(mut intake) = Intake::new(alloc, job.turns) else {
+        return Err(OfflineFault::Core(Fault::OutOfMemory));
+    };
+    run.read_stream(&mut intake, reader, writer, audit_writer)?;
+    Ok(run.report())
 }

@@ -1,5 +1,6 @@
 //! Handles a message: accepts it, delivers what it discloses, and records what was kept back.
 ghost use Rattle.std.specs.Prelude.{◌≡◌, false, IfErr, OnOk};
+ghost use Rattle.mediator_offline.specs.Ports.{holding};
 ghost use Rattle.mediator_offline.specs.Failing.{FailsOnly};
 ghost use Rattle.mediator_offline.specs.Running.{Runs, HandlesOn, StopsOn};
 
@@ -19,11 +20,15 @@ impl<'a> Run<'a> {
         writer: &mut W,
         audit_writer: &mut A,
     ) -> Result<(), OfflineFault>
-        requires running { Runs self.old (W.contents writer.old) (A.contents audit_writer.old) }
+        requires running { Runs self.old
+            (holding (W.contents writer.old) (A.contents audit_writer.old)
+            (W.has_failed writer.old) (A.has_failed audit_writer.old)) }
         // The message was accepted, and what is due for it was written.
         ensures ok { OnOk result (HandlesOn self.old self.new message
-            (W.contents writer.old) (W.contents writer.new)
-            (A.contents audit_writer.old) (A.contents audit_writer.new)) }
+            (holding (W.contents writer.old) (A.contents audit_writer.old)
+            (W.has_failed writer.old) (A.has_failed audit_writer.old))
+            (holding (W.contents writer.new) (A.contents audit_writer.new)
+            (W.has_failed writer.new) (A.has_failed audit_writer.new))) }
         ensures stays { OnOk result (W.has_failed writer.new ≡ W.has_failed writer.old) }
         ensures audit_stays { OnOk result (A.has_failed audit_writer.new
             ≡ A.has_failed audit_writer.old) }
@@ -32,9 +37,11 @@ impl<'a> Run<'a> {
             FailsOnly e (W.has_failed writer.old) (A.has_failed audit_writer.old) false
             (W.has_failed writer.new) (A.has_failed audit_writer.new)) }
         ensures err { IfErr result (λ e.
-            StopsOn e self.old message (W.contents writer.old) (W.contents writer.new)
-            (A.contents audit_writer.old) (A.contents audit_writer.new)
-            (W.has_failed writer.new) (A.has_failed audit_writer.new)) }
+            StopsOn e self.old message
+            (holding (W.contents writer.old) (A.contents audit_writer.old)
+            (W.has_failed writer.old) (A.has_failed audit_writer.old))
+            (holding (W.contents writer.new) (A.contents audit_writer.new)
+            (W.has_failed writer.new) (A.has_failed audit_writer.new))) }
     {
         if self.receive(message)? {
             self.record(audit_writer)?;

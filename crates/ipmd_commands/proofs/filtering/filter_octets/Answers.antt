@@ -16,11 +16,13 @@ returns-then-is_err-clause-err g c =
           (ran c.args.job.now c.offline-report.result (g.I.Read.remaining (device_inner c.new-reader.result)) held holds audit_held audit_holds
           (record {
             left = g.I.Read.remaining (device_inner c.offline-report.new.reader);
-            written = g.O.Write.contents (device_inner c.offline-report.new.writer);
-            audited = g.A.Write.contents (device_inner c.offline-report.new.audit_writer);
             reader_failed = device_failed c.offline-report.new.reader;
-            writer_failed = device_failed c.offline-report.new.writer;
-            audit_failed = device_failed c.offline-report.new.audit_writer;
+            outputs = record {
+              written = g.O.Write.contents (device_inner c.offline-report.new.writer);
+              audited = g.A.Write.contents (device_inner c.offline-report.new.audit_writer);
+              writer_failed = device_failed c.offline-report.new.writer;
+              audit_failed = device_failed c.offline-report.new.audit_writer;
+            };
           })
           c.offline-report.ensures.filters c.offline-report.ensures.stops c.flush.ensures.octets c.flush-2.ensures.octets)),
     )
