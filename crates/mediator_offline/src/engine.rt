@@ -109,7 +109,7 @@ impl<'a> Run<'a> {
     }
 }
 
-ghost use Rattle.std.specs.Prelude.{ℕ, List, take};
+ghost use Rattle.std.specs.Prelude.{ℕ, List, length, take};
 ghost use Rattle.subscriber_stream.specs.Parts.{parts, records_in};
 ghost use Rattle.event_journal.specs.declared.entry.Entry.{Entry};
 ghost use Rattle.mediator_history.specs.Disclosed.{disclosed};

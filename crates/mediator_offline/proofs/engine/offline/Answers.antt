@@ -46,7 +46,7 @@ returns-in_err-read_stream-clause-stops g c =
     with_left (g.R.Source.remaining c.read_stream.new.reader) (g.R.Source.has_failed c.read_stream.new.reader)
     (holding (g.W.Sink.contents c.read_stream.new.writer) (g.A.Sink.contents c.read_stream.new.audit_writer) (g.W.Sink.has_failed c.read_stream.new.writer) (g.A.Sink.has_failed c.read_stream.new.audit_writer)) in
     where_unfailed (λ b. FailsToFilter e c.args.job.now b after) (g.R.Source.remaining c.args.reader.now) (g.W.Sink.contents c.args.writer.now) (g.A.Sink.contents c.args.audit_writer.now) (g.R.Source.has_failed c.args.reader.now) (g.W.Sink.has_failed c.args.writer.now) (g.A.Sink.has_failed c.args.audit_writer.now) c.requires.reader c.requires.writer c.requires.audit
-    (inr (subst (λ j. StopsSomewhere e j before after) c.in_ok-run.ensures.ok.job_is (subst (λ x. StopsSomewhere x _ before after) (sym is) c.in_err-read_stream.ensures.err))))
+    (inr (subst (λ x. StopsSomewhere x c.args.job.now before after) (sym is) (subst (λ j. StopsSomewhere c.in_err-read_stream.field-0.0 j before after) c.in_ok-run.ensures.ok.job_is c.in_err-read_stream.ensures.err))))
 
 pub returns-clause-sound : goal.returns-clause-sound
 returns-clause-sound g c = (c.in_ok-read_stream.ensures.reads, c.in_ok-read_stream.ensures.stays ∙ c.requires.writer, c.in_ok-read_stream.ensures.audit_stays ∙ c.requires.audit)
