@@ -1,6 +1,7 @@
 -- How a run failed, and what the stream for errors has of it.
 use Rattle.std.proofs.Common.{◌≡◌, ℕ, List, Bool, Option, inl, inr, ap, subst}
 use Rattle.std.specs.Borrow.{Bor}
+use Rattle.octet_io.specs.Moments.{writer_of}
 use Rattle.ipmd_command_line.specs.CommandLine.{AsksFor}
 use Rattle.ipmd_command_line.specs.declared.task.OfflineOptions.{OfflineOptions}
 use Rattle.ipmd_command_line.specs.declared.task.VerifyOptions.{VerifyOptions}
@@ -38,7 +39,7 @@ unexplained words options e given held holds before after same asks refuses = in
 -- it was a fault, and then that was said
 pub blamed : {D : Type 0} (holds_of : D → Option (List ℕ)) (words : List (List ℕ)) (e : ProgramFault) (given held holds : Option (List ℕ)) (before after : D) (has_failed : Bool) (tells : Option (List ℕ))
     → FailsFor words e given held holds before after → Blames e has_failed (holds_of after) tells
-    → IsFault words e given held holds has_failed (holds_of before) tells
+    → IsFault words e given (writer_of held holds) (writer_of (holds_of before) tells) has_failed
 blamed holds_of words e given held holds before after has_failed tells (inl (same, fails)) told =
     inl (fails, subst (λ o. Blames e has_failed o tells) (ap holds_of same) told)
 blamed holds_of words e given held holds before after has_failed tells (inr fails) told = inr (fails, (holds_of after, told))

@@ -2,6 +2,7 @@
 use Rattle.std.specs.Prelude.{◌≡◌, ◌⊎◌, ℕ, Bool, List, Option, Some, None}
 use Rattle.std.specs.Borrow.{Bor}
 use Rattle.std.specs.Io.KnownBytes.{Keeps}
+use Rattle.octet_io.specs.Moments.{Writer}
 use Rattle.clap.specs.Words.{kind_of}
 use Rattle.clap.specs.declared.error.Error.{Error}
 use Rattle.mediator_offline.specs.declared.job.OfflineReport.{OfflineReport}
@@ -75,12 +76,13 @@ Reports (Some report) has_failed held holds = Tells (Some (line_of_report report
 Reports None has_failed held holds = Keeps held holds
 
 -- what the words ask for was done, and was reported; a server's notes aren't told
-abbrev pub IsDone : List (List ℕ) → Option (List ℕ) → Option (List ℕ) → Option (List ℕ) → Bool → Option (List ℕ) → Option (List ℕ) → Type 0
-IsDone words given held holds has_failed told tells =
-    ((report : Option OfflineReport) × DoesAlone words report given held holds × Reports report has_failed told tells) ⊎ DoesServe words held holds
+abbrev pub IsDone : List (List ℕ) → Option (List ℕ) → Writer → Writer → Bool → Type 0
+IsDone words given output errors has_failed =
+    ((report : Option OfflineReport) × DoesAlone words report given output.held output.holds × Reports report has_failed errors.held errors.holds)
+    ⊎ DoesServe words output.held output.holds
 
 -- a fault has a cause and is told, behind a line that names what failed where a device did; where a server was run, behind its notes
-abbrev pub IsFault : List (List ℕ) → ProgramFault → Option (List ℕ) → Option (List ℕ) → Option (List ℕ) → Bool → Option (List ℕ) → Option (List ℕ) → Type 0
-IsFault words e given held holds has_failed told tells =
-    (FailsAlone words e given held holds × Blames e has_failed told tells)
-    ⊎ (FailsServing words e held holds × ((notes : Option (List ℕ)) × Blames e has_failed notes tells))
+abbrev pub IsFault : List (List ℕ) → ProgramFault → Option (List ℕ) → Writer → Writer → Bool → Type 0
+IsFault words e given output errors has_failed =
+    (FailsAlone words e given output.held output.holds × Blames e has_failed errors.held errors.holds)
+    ⊎ (FailsServing words e output.held output.holds × ((notes : Option (List ℕ)) × Blames e has_failed notes errors.holds))

@@ -29,6 +29,7 @@
 
 ghost use Rattle.std.specs.Prelude.{◌≡◌, ◌≢◌, map, IfErr, IfOk};
 ghost use Rattle.octet_io.specs.Device.{device_failed, device_inner};
+ghost use Rattle.octet_io.specs.Moments.{writer_of};
 ghost use Rattle.ipmd_commands.specs.Status.{status_of};
 ghost use Rattle.ipmd_commands.specs.declared.fault.ProgramFault.{ProgramFault};
 ghost use Rattle.ipmd.specs.Program.{Does, FailsFor, IsDone, IsFault};
@@ -115,14 +116,14 @@ pub fn program<
     progress: &mut P,
 ) -> u8
     ensures done { result ≡ 0 → IsDone (map S.text words.now) (I.remaining input)
-        (O.contents (device_inner output.old)) (O.contents (device_inner output.new))
-        (device_failed errors.new)
-        (E.contents (device_inner errors.old)) (E.contents (device_inner errors.new)) }
+        (writer_of (O.contents (device_inner output.old)) (O.contents (device_inner output.new)))
+        (writer_of (E.contents (device_inner errors.old)) (E.contents (device_inner errors.new)))
+        (device_failed errors.new) }
     ensures fails { result ≢ 0 → (e : ProgramFault) × (result ≡ status_of e)
         × IsFault (map S.text words.now) e (I.remaining input)
-        (O.contents (device_inner output.old)) (O.contents (device_inner output.new))
-        (device_failed errors.new)
-        (E.contents (device_inner errors.old)) (E.contents (device_inner errors.new)) }
+        (writer_of (O.contents (device_inner output.old)) (O.contents (device_inner output.new)))
+        (writer_of (E.contents (device_inner errors.old)) (E.contents (device_inner errors.new)))
+        (device_failed errors.new) }
 {
     match run(rt, words, input, output, errors, descriptor, progress) {
         Ok(Some(report)) => {

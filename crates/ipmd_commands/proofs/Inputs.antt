@@ -2,6 +2,7 @@
 use Rattle.std.proofs.Common.{refl, inl, inr, subst, subst₂, ◌∙◌, ℕ, List, [], Bool, true, Option, Some, None, ◌≡◌}
 use Rattle.std.specs.List.{concat}
 use Rattle.std.specs.Io.KnownBytes.{Appends, Keeps}
+use Rattle.octet_io.specs.Moments.{writer_of}
 use Rattle.ipfix_message.specs.Framing.{IsFramed}
 use Rattle.mediator_offline.proofs.Framed.{meant_are_cut}
 use Rattle.mediator_offline.specs.Offline.{disclosed_by}
@@ -20,7 +21,7 @@ use Rattle.ipmd_commands.specs.Runs.{Asked, FinishesInput, FinishesLines, Finish
 
 -- a stream over memory, which was empty, is the messages that were written, and so its lines are theirs
 due_lines : (job : OfflineJob) (report : OfflineReport) (octets stream : List ℕ) (held holds audit_held audit_holds : Option (List ℕ))
-    (done : FinishesOn job report (Some octets) (Some []) (Some stream) audit_held audit_holds) → WritesLines stream held holds → Appends held holds (lines_of done.filters.done.written)
+    (done : FinishesOn job report (Some octets) (writer_of (Some []) (Some stream)) (writer_of audit_held audit_holds)) → WritesLines stream held holds → Appends held holds (lines_of done.filters.done.written)
 due_lines job report octets stream held holds audit_held audit_holds done lines =
     subst (λ ms. Appends held holds (lines_of ms))
     (meant_are_cut done.filters.done.written lines.messages (disclosed_by job done.filters.messages) lines.cut.0 lines.cut.1 done.filters.done.filters.means
@@ -32,25 +33,25 @@ due_lines job report octets stream held holds audit_held audit_holds done lines 
     joined (Some octets) a k = k ∙ a
 
 pub finishes_lines : (job : OfflineJob) (report : OfflineReport) (octets stream : List ℕ) (before after held holds audit_held audit_holds : Option (List ℕ))
-    → before ≡ Some [] → after ≡ Some stream → FinishesOn job report (Some octets) before after audit_held audit_holds → WritesLines stream held holds
-    → FinishesLines job report octets held holds audit_held audit_holds
+    → before ≡ Some [] → after ≡ Some stream → FinishesOn job report (Some octets) (writer_of before after) (writer_of audit_held audit_holds) → WritesLines stream held holds
+    → FinishesLines job report octets (writer_of held holds) (writer_of audit_held audit_holds)
 finishes_lines job report octets stream before after held holds audit_held audit_holds empty filled done lines =
-    let over = subst₂ (λ b a. FinishesOn job report (Some octets) b a audit_held audit_holds) empty filled done in
+    let over = subst₂ (λ b a. FinishesOn job report (Some octets) (writer_of b a) (writer_of audit_held audit_holds)) empty filled done in
     record { stream = stream; finishes = over; lines = due_lines job report octets stream held holds audit_held audit_holds over lines }
 
 pub stops_lines : (job : OfflineJob) (e : ProgramFault) (octets stream : List ℕ) (before after held holds audit_held audit_holds : Option (List ℕ))
-    → before ≡ Some [] → after ≡ Some stream → StopsOn e job (Some octets) before after audit_held audit_holds → WritesLines stream held holds
-    → StopsLines e job octets held holds audit_held audit_holds
+    → before ≡ Some [] → after ≡ Some stream → StopsOn e job (Some octets) (writer_of before after) (writer_of audit_held audit_holds) → WritesLines stream held holds
+    → StopsLines e job octets (writer_of held holds) (writer_of audit_held audit_holds)
 stops_lines job e octets stream before after held holds audit_held audit_holds empty filled stops lines =
-    record { stream = stream; stops = subst₂ (λ b a. StopsOn e job (Some octets) b a audit_held audit_holds) empty filled stops; lines = lines }
+    record { stream = stream; stops = subst₂ (λ b a. StopsOn e job (Some octets) (writer_of b a) (writer_of audit_held audit_holds)) empty filled stops; lines = lines }
 
 pub finishes_spelled : (given held holds audit_held audit_holds : Option (List ℕ)) (octets : List ℕ) (job : OfflineJob) (report : OfflineReport)
-    → IfSome given (λ text. SpelledBy text octets) → FinishesLines job report octets held holds audit_held audit_holds → FinishesInput true job report given held holds audit_held audit_holds
+    → IfSome given (λ text. SpelledBy text octets) → FinishesLines job report octets (writer_of held holds) (writer_of audit_held audit_holds) → FinishesInput true job report given (writer_of held holds) (writer_of audit_held audit_holds)
 finishes_spelled None held holds audit_held audit_holds octets job report spelled done = tt
 finishes_spelled (Some text) held holds audit_held audit_holds octets job report spelled done = (octets, spelled, done)
 
 pub fails_spelled : (given held holds audit_held audit_holds : Option (List ℕ)) (octets : List ℕ) (job : OfflineJob) (e : ProgramFault)
-    → IfSome given (λ text. SpelledBy text octets) → FailsLines e job octets held holds audit_held audit_holds → RefusesInput e true job given held holds audit_held audit_holds
+    → IfSome given (λ text. SpelledBy text octets) → FailsLines e job octets (writer_of held holds) (writer_of audit_held audit_holds) → RefusesInput e true job given (writer_of held holds) (writer_of audit_held audit_holds)
 fails_spelled None held holds audit_held audit_holds octets job e spelled fails = inr tt
 fails_spelled (Some text) held holds audit_held audit_holds octets job e spelled fails = inr (octets, spelled, fails)
 
@@ -60,7 +61,7 @@ fails_spelled (Some text) held holds audit_held audit_holds octets job e spelled
 pub ran : (job : OfflineJob) (r : Result OfflineReport OfflineFault) (given held holds audit_held audit_holds : Option (List ℕ)) (after : Ports)
     → IfOk r (λ report. FiltersAll job report (unfailed given held audit_held) after)
     → IfErr r (λ fault. FailsToFilter fault job (unfailed given held audit_held) after)
-    → Keeps after.outputs.written holds → Keeps after.outputs.audited audit_holds → EndsOn job given held holds audit_held audit_holds
+    → Keeps after.outputs.written holds → Keeps after.outputs.audited audit_holds → EndsOn job given (writer_of held holds) (writer_of audit_held audit_holds)
 ran job (Ok report) given held holds audit_held audit_holds after filters fails flushed audit_flushed =
     inl (report, record { after = after; filters = filters; flushed = flushed; audit_flushed = audit_flushed })
 ran job (Err fault) given held holds audit_held audit_holds after filters fails flushed audit_flushed =
@@ -68,19 +69,19 @@ ran job (Err fault) given held holds audit_held audit_holds after filters fails 
 
 -- over memory that was empty
 pub ends_over : (job : OfflineJob) (octets stream : List ℕ) (r : Result OfflineReport ProgramFault) (before after audit_held audit_holds : Option (List ℕ)) → before ≡ Some [] → after ≡ Some stream
-    → IfOk r (λ report. FinishesOn job report (Some octets) before after audit_held audit_holds) → IfErr r (λ e. FailsOn e job (Some octets) before after audit_held audit_holds)
-    → EndsOver job octets stream audit_held audit_holds
+    → IfOk r (λ report. FinishesOn job report (Some octets) (writer_of before after) (writer_of audit_held audit_holds)) → IfErr r (λ e. FailsOn e job (Some octets) (writer_of before after) (writer_of audit_held audit_holds))
+    → EndsOver job octets stream (writer_of audit_held audit_holds)
 ends_over job octets stream (Ok report) before after audit_held audit_holds empty filled finishes fails =
-    inl (report, subst₂ (λ b a. FinishesOn job report (Some octets) b a audit_held audit_holds) empty filled finishes)
+    inl (report, subst₂ (λ b a. FinishesOn job report (Some octets) (writer_of b a) (writer_of audit_held audit_holds)) empty filled finishes)
 ends_over job octets stream (Err e) before after audit_held audit_holds empty filled finishes fails =
-    inr (e, subst₂ (λ b a. FailsOn e job (Some octets) b a audit_held audit_holds) empty filled fails)
+    inr (e, subst₂ (λ b a. FailsOn e job (Some octets) (writer_of b a) (writer_of audit_held audit_holds)) empty filled fails)
 
 pub whole_lines : (stream : List ℕ) (held holds : Option (List ℕ)) → WritesLines stream held holds → WritesSomeLines stream held holds
 whole_lines stream held holds lines = inr (record { messages = lines.messages; cut = lines.cut; written = all_written held holds holds (lines_of lines.messages) lines.written (kept holds) })
 
 pub fails_lines : (job : OfflineJob) (e : ProgramFault) (octets stream : List ℕ) (before after held holds audit_held audit_holds : Option (List ℕ)) → before ≡ Some [] → after ≡ Some stream
-    → EndsOver job octets stream audit_held audit_holds → WritesLines stream held holds → FailsOn e job (Some octets) before after audit_held audit_holds
-    → FailsLines e job octets held holds audit_held audit_holds
+    → EndsOver job octets stream (writer_of audit_held audit_holds) → WritesLines stream held holds → FailsOn e job (Some octets) (writer_of before after) (writer_of audit_held audit_holds)
+    → FailsLines e job octets (writer_of held holds) (writer_of audit_held audit_holds)
 fails_lines job e octets stream before after held holds audit_held audit_holds empty filled ends lines (inl stops) =
     inl (stops_lines job e octets stream before after held holds audit_held audit_holds empty filled stops lines)
 fails_lines job e octets stream before after held holds audit_held audit_holds empty filled ends lines (inr (is, how)) =

@@ -3,6 +3,7 @@ use Rattle.std.proofs.Common.{◌≡◌, ◌⊎◌, ℕ, List, string_bytes, Opt
 use Rattle.std.specs.Prelude.{String}
 use Rattle.std.specs.Borrow.{Bor}
 use Rattle.std.specs.declared.alloc.Global.{Global}
+use Rattle.octet_io.specs.Moments.{writer_of}
 use Rattle.ipmd_command_line.specs.declared.task.OfflineOptions.{OfflineOptions}
 use Rattle.ipmd_commands.specs.declared.failure.Place.TheVariants.{File, Output}
 use Rattle.ipmd_commands.specs.declared.fault.ProgramFault.{ProgramFault}
@@ -22,11 +23,11 @@ not_written e (inr failed) = inr (inl failed)
 
 -- with an audit in a file
 pub refuses_audited : (options : OfflineOptions) (path : Bor (List ℕ)) (asked : Asked options) (e : ProgramFault) (given held holds : Option (List ℕ)) → options.audit ≡ Some path
-    → RefusesWithAudit path.now e options.hex asked.job given held holds → RefusesToFilter options e given held holds
-refuses_audited options path asked e given held holds is refuses = inr (asked, subst (λ audit. RefusesByAudit audit e options.hex asked.job given held holds) (sym is) refuses)
+    → RefusesWithAudit path.now e options.hex asked.job given (writer_of held holds) → RefusesToFilter options e given held holds
+refuses_audited options path asked e given held holds is refuses = inr (asked, subst (λ audit. RefusesByAudit audit e options.hex asked.job given (writer_of held holds)) (sym is) refuses)
 
 -- with none
 pub refuses_unaudited : (options : OfflineOptions) (asked : Asked options) (e : ProgramFault) (given held holds audit_held audit_holds : Option (List ℕ)) → options.audit ≡ None
-    → RefusesInput e options.hex asked.job given held holds audit_held audit_holds → RefusesToFilter options e given held holds
+    → RefusesInput e options.hex asked.job given (writer_of held holds) (writer_of audit_held audit_holds) → RefusesToFilter options e given held holds
 refuses_unaudited options asked e given held holds audit_held audit_holds is refuses =
-    inr (asked, subst (λ audit. RefusesByAudit audit e options.hex asked.job given held holds) (sym is) (audit_held, audit_holds, refuses))
+    inr (asked, subst (λ audit. RefusesByAudit audit e options.hex asked.job given (writer_of held holds)) (sym is) (writer_of audit_held audit_holds, refuses))

@@ -4,6 +4,7 @@ use Rattle.std.specs.Borrow.{Bor}
 use Rattle.std.specs.declared.io.Error.{Error}
 use Rattle.std.specs.Fmt.{decimal}
 use Rattle.std.specs.Io.KnownBytes.{Appends, Keeps}
+use Rattle.octet_io.specs.Moments.{Writer, writer_of}
 use Rattle.clap.specs.declared.error.kind.ErrorKind.{ErrorKind}
 use Rattle.clap.specs.declared.error.kind.ErrorKind.TheVariants.{DisplayVersion}
 use Rattle.policy_text.specs.Policies.{Meaning as PolicyMeaning}
@@ -121,57 +122,54 @@ pub record Asked (options : OfflineOptions) : Type 0 where
   pub job_is : IsJobOf options text job
 
 -- these octets were read to their end and filtered; the output and the audit held so much when all was done, and were flushed
-pub record FinishesOn (job : OfflineJob) (report : OfflineReport) (given held holds audit_held audit_holds : Option (List ℕ)) : Type 0 where
+pub record FinishesOn (job : OfflineJob) (report : OfflineReport) (given : Option (List ℕ)) (writer audit : Writer) : Type 0 where
   pub after : Ports
-  pub filters : FiltersAll job report (unfailed given held audit_held) after
-  pub flushed : Keeps after.outputs.written holds
-  pub audit_flushed : Keeps after.outputs.audited audit_holds
+  pub filters : FiltersAll job report (unfailed given writer.held audit.held) after
+  pub flushed : Keeps after.outputs.written writer.holds
+  pub audit_flushed : Keeps after.outputs.audited audit.holds
 
 -- the same, and each message that is due was written as a line
-pub record FinishesLines (job : OfflineJob) (report : OfflineReport) (octets : List ℕ) (held holds audit_held audit_holds : Option (List ℕ)) : Type 0 where
+pub record FinishesLines (job : OfflineJob) (report : OfflineReport) (octets : List ℕ) (writer audit : Writer) : Type 0 where
   pub stream : List ℕ
-  pub finishes : FinishesOn job report (Some octets) (Some []) (Some stream) audit_held audit_holds
-  pub lines : Appends held holds (lines_of finishes.filters.done.written)
+  pub finishes : FinishesOn job report (Some octets) (writer_of (Some []) (Some stream)) audit
+  pub lines : Appends writer.held writer.holds (lines_of finishes.filters.done.written)
 
 -- the same of the octets that a text spells
-abbrev pub FinishesText : OfflineJob → OfflineReport → List ℕ → Option (List ℕ) → Option (List ℕ) → Option (List ℕ) → Option (List ℕ) → Type 0
-FinishesText job report text held holds audit_held audit_holds =
-    (octets : List ℕ) × SpelledBy text octets × FinishesLines job report octets held holds audit_held audit_holds
+abbrev pub FinishesText : OfflineJob → OfflineReport → List ℕ → Writer → Writer → Type 0
+FinishesText job report text writer audit = (octets : List ℕ) × SpelledBy text octets × FinishesLines job report octets writer audit
 
 -- the input was, as octets or as what its text spells
-abbrev pub FinishesInput : Bool → OfflineJob → OfflineReport → Option (List ℕ) → Option (List ℕ) → Option (List ℕ) → Option (List ℕ) → Option (List ℕ) → Type 0
-FinishesInput false job report given held holds audit_held audit_holds = FinishesOn job report given held holds audit_held audit_holds
-FinishesInput true job report given held holds audit_held audit_holds = IfSome given (λ text. FinishesText job report text held holds audit_held audit_holds)
+abbrev pub FinishesInput : Bool → OfflineJob → OfflineReport → Option (List ℕ) → Writer → Writer → Type 0
+FinishesInput false job report given writer audit = FinishesOn job report given writer audit
+FinishesInput true job report given writer audit = IfSome given (λ text. FinishesText job report text writer audit)
 
 -- the same with some audit; what a file holds isn't told here, and so not what the audit does
-abbrev pub FinishesWithAudit : Bool → OfflineJob → OfflineReport → Option (List ℕ) → Option (List ℕ) → Option (List ℕ) → Type 0
-FinishesWithAudit hex job report given held holds =
-    (audit_held audit_holds : Option (List ℕ)) × FinishesInput hex job report given held holds audit_held audit_holds
+abbrev pub FinishesWithAudit : Bool → OfflineJob → OfflineReport → Option (List ℕ) → Writer → Type 0
+FinishesWithAudit hex job report given writer = (audit : Writer) × FinishesInput hex job report given writer audit
 
 -- the whole input was filtered for a subscriber by a policy
 abbrev pub Filters : OfflineOptions → OfflineReport → Option (List ℕ) → Option (List ℕ) → Option (List ℕ) → Type 0
-Filters options report given held holds = (asked : Asked options) × FinishesWithAudit options.hex asked.job report given held holds
+Filters options report given held holds = (asked : Asked options) × FinishesWithAudit options.hex asked.job report given (writer_of held holds)
 
 -- the mediator stopped so, and what was written by then was flushed
-pub record StopsBy (fault : OfflineFault) (job : OfflineJob) (given held holds audit_held audit_holds : Option (List ℕ)) : Type 0 where
+pub record StopsBy (fault : OfflineFault) (job : OfflineJob) (given : Option (List ℕ)) (writer audit : Writer) : Type 0 where
   pub after : Ports
-  pub fails : FailsToFilter fault job (unfailed given held audit_held) after
-  pub flushed : Keeps after.outputs.written holds
-  pub audit_flushed : Keeps after.outputs.audited audit_holds
+  pub fails : FailsToFilter fault job (unfailed given writer.held audit.held) after
+  pub flushed : Keeps after.outputs.written writer.holds
+  pub audit_flushed : Keeps after.outputs.audited audit.holds
 
 -- the same, and this is what the program makes of it
-pub record StopsOn (e : ProgramFault) (job : OfflineJob) (given held holds audit_held audit_holds : Option (List ℕ)) : Type 0 where
+pub record StopsOn (e : ProgramFault) (job : OfflineJob) (given : Option (List ℕ)) (writer audit : Writer) : Type 0 where
   pub fault : OfflineFault
   pub input : Error
   pub output : Error
   pub is : e ≡ offline_fault_of input output fault
-  pub stops : StopsBy fault job given held holds audit_held audit_holds
+  pub stops : StopsBy fault job given writer audit
 
 -- a run over octets ended, by its report or by a fault, and then the output and the audit were flushed, or one of them failed
-abbrev pub EndsOn : OfflineJob → Option (List ℕ) → Option (List ℕ) → Option (List ℕ) → Option (List ℕ) → Option (List ℕ) → Type 0
-EndsOn job given held holds audit_held audit_holds =
-    ((report : OfflineReport) × FinishesOn job report given held holds audit_held audit_holds)
-    ⊎ ((fault : OfflineFault) × StopsBy fault job given held holds audit_held audit_holds)
+abbrev pub EndsOn : OfflineJob → Option (List ℕ) → Writer → Writer → Type 0
+EndsOn job given writer audit =
+    ((report : OfflineReport) × FinishesOn job report given writer audit) ⊎ ((fault : OfflineFault) × StopsBy fault job given writer audit)
 
 -- the output failed, or the audit, whose file isn't known here
 abbrev pub IsWriteFault : ProgramFault → Type 0
@@ -179,58 +177,58 @@ IsWriteFault e = FailedAt placed.Output e ⊎ (e ≡ Device None)
 
 -- why octets aren't filtered to their end: the mediator stopped so; or one of these failed, one that had failed before, so that nothing
 -- was written, or one that was flushed when the run had ended
-abbrev pub FailsOn : ProgramFault → OfflineJob → Option (List ℕ) → Option (List ℕ) → Option (List ℕ) → Option (List ℕ) → Option (List ℕ) → Type 0
-FailsOn e job given held holds audit_held audit_holds =
-    StopsOn e job given held holds audit_held audit_holds
-    ⊎ (IsWriteFault e × ((Keeps held holds × Keeps audit_held audit_holds) ⊎ EndsOn job given held holds audit_held audit_holds))
+abbrev pub FailsOn : ProgramFault → OfflineJob → Option (List ℕ) → Writer → Writer → Type 0
+FailsOn e job given writer audit =
+    StopsOn e job given writer audit
+    ⊎ (IsWriteFault e × ((Keeps writer.held writer.holds × Keeps audit.held audit.holds) ⊎ EndsOn job given writer audit))
 
 -- the mediator stopped so, and each message that was written by then was written as a line
-pub record StopsLines (e : ProgramFault) (job : OfflineJob) (octets : List ℕ) (held holds audit_held audit_holds : Option (List ℕ)) : Type 0 where
+pub record StopsLines (e : ProgramFault) (job : OfflineJob) (octets : List ℕ) (writer audit : Writer) : Type 0 where
   pub stream : List ℕ
-  pub stops : StopsOn e job (Some octets) (Some []) (Some stream) audit_held audit_holds
-  pub lines : WritesLines stream held holds
+  pub stops : StopsOn e job (Some octets) (writer_of (Some []) (Some stream)) audit
+  pub lines : WritesLines stream writer.held writer.holds
 
 -- a run over these octets ended somehow, and wrote this stream
-abbrev pub EndsOver : OfflineJob → List ℕ → List ℕ → Option (List ℕ) → Option (List ℕ) → Type 0
-EndsOver job octets stream audit_held audit_holds =
-    ((report : OfflineReport) × FinishesOn job report (Some octets) (Some []) (Some stream) audit_held audit_holds)
-    ⊎ ((e : ProgramFault) × FailsOn e job (Some octets) (Some []) (Some stream) audit_held audit_holds)
+abbrev pub EndsOver : OfflineJob → List ℕ → List ℕ → Writer → Type 0
+EndsOver job octets stream audit =
+    ((report : OfflineReport) × FinishesOn job report (Some octets) (writer_of (Some []) (Some stream)) audit)
+    ⊎ ((e : ProgramFault) × FailsOn e job (Some octets) (writer_of (Some []) (Some stream)) audit)
 
 -- a run ended somehow, and a front of its lines was written, or all of them
-pub record EndsLines (job : OfflineJob) (octets : List ℕ) (held holds audit_held audit_holds : Option (List ℕ)) : Type 0 where
+pub record EndsLines (job : OfflineJob) (octets : List ℕ) (writer audit : Writer) : Type 0 where
   pub stream : List ℕ
-  pub ends : EndsOver job octets stream audit_held audit_holds
-  pub lines : WritesSomeLines stream held holds
+  pub ends : EndsOver job octets stream audit
+  pub lines : WritesSomeLines stream writer.held writer.holds
 
-abbrev pub FailsLines : ProgramFault → OfflineJob → List ℕ → Option (List ℕ) → Option (List ℕ) → Option (List ℕ) → Option (List ℕ) → Type 0
-FailsLines e job octets held holds audit_held audit_holds =
-    StopsLines e job octets held holds audit_held audit_holds
-    ⊎ (((e ≡ OutOfMemory) ⊎ IsWriteFault e) × EndsLines job octets held holds audit_held audit_holds)
+abbrev pub FailsLines : ProgramFault → OfflineJob → List ℕ → Writer → Writer → Type 0
+FailsLines e job octets writer audit =
+    StopsLines e job octets writer audit ⊎ (((e ≡ OutOfMemory) ⊎ IsWriteFault e) × EndsLines job octets writer audit)
 
 -- why an input isn't filtered to its end, as octets or as what its text spells; a text that can't be read, or spells nothing, has
 -- nothing written
-abbrev pub RefusesInput : ProgramFault → Bool → OfflineJob → Option (List ℕ) → Option (List ℕ) → Option (List ℕ) → Option (List ℕ) → Option (List ℕ) → Type 0
-RefusesInput e false job given held holds audit_held audit_holds = FailsOn e job given held holds audit_held audit_holds
-RefusesInput e true job given held holds audit_held audit_holds =
-    ((((e ≡ Hex) × IfSome given SpellsNothing) ⊎ ((e ≡ OutOfMemory) ⊎ FailedAt placed.Input e)) × Keeps held holds × Keeps audit_held audit_holds)
-    ⊎ IfSome given (λ text. (octets : List ℕ) × SpelledBy text octets × FailsLines e job octets held holds audit_held audit_holds)
+abbrev pub RefusesInput : ProgramFault → Bool → OfflineJob → Option (List ℕ) → Writer → Writer → Type 0
+RefusesInput e false job given writer audit = FailsOn e job given writer audit
+RefusesInput e true job given writer audit =
+    ((((e ≡ Hex) × IfSome given SpellsNothing) ⊎ ((e ≡ OutOfMemory) ⊎ FailedAt placed.Input e))
+    × Keeps writer.held writer.holds × Keeps audit.held audit.holds)
+    ⊎ IfSome given (λ text. (octets : List ℕ) × SpelledBy text octets × FailsLines e job octets writer audit)
 
 -- the same with an audit in the file of this path: that can't be made, or where it failed it is named
-abbrev pub RefusesWithAudit : List ℕ → ProgramFault → Bool → OfflineJob → Option (List ℕ) → Option (List ℕ) → Option (List ℕ) → Type 0
-RefusesWithAudit path e hex job given held holds =
-    (IsFileFault path e × Keeps held holds)
-    ⊎ ((fault : ProgramFault) × IsNamed path fault e × (audit_held audit_holds : Option (List ℕ)) × RefusesInput fault hex job given held holds audit_held audit_holds)
+abbrev pub RefusesWithAudit : List ℕ → ProgramFault → Bool → OfflineJob → Option (List ℕ) → Writer → Type 0
+RefusesWithAudit path e hex job given writer =
+    (IsFileFault path e × Keeps writer.held writer.holds)
+    ⊎ ((fault : ProgramFault) × IsNamed path fault e × (audit : Writer) × RefusesInput fault hex job given writer audit)
 
 -- or with none
-abbrev pub RefusesByAudit : Option (Bor (List ℕ)) → ProgramFault → Bool → OfflineJob → Option (List ℕ) → Option (List ℕ) → Option (List ℕ) → Type 0
-RefusesByAudit None e hex job given held holds = (audit_held audit_holds : Option (List ℕ)) × RefusesInput e hex job given held holds audit_held audit_holds
-RefusesByAudit (Some path) e hex job given held holds = RefusesWithAudit path.now e hex job given held holds
+abbrev pub RefusesByAudit : Option (Bor (List ℕ)) → ProgramFault → Bool → OfflineJob → Option (List ℕ) → Writer → Type 0
+RefusesByAudit None e hex job given writer = (audit : Writer) × RefusesInput e hex job given writer audit
+RefusesByAudit (Some path) e hex job given writer = RefusesWithAudit path.now e hex job given writer
 
 -- the same for a subscriber by a policy; the policy's source may fail before
 abbrev pub RefusesToFilter : OfflineOptions → ProgramFault → Option (List ℕ) → Option (List ℕ) → Option (List ℕ) → Type 0
 RefusesToFilter options e given held holds =
     (IsSourceFault options.policy e × Keeps held holds)
-    ⊎ ((asked : Asked options) × RefusesByAudit options.audit e options.hex asked.job given held holds)
+    ⊎ ((asked : Asked options) × RefusesByAudit options.audit e options.hex asked.job given (writer_of held holds))
 
 -- what is said of a stream that was filtered
 abbrev pub line_of_report : OfflineReport → List ℕ

@@ -2,6 +2,7 @@
 
 ghost use Rattle.std.specs.Prelude.{◌≡◌, IfErr, IfOk};
 ghost use Rattle.octet_io.specs.Device.{device_inner};
+ghost use Rattle.octet_io.specs.Moments.{writer_of};
 ghost use Rattle.ipmd_commands.specs.Runs.{FailsLines, FailsOn, Filters, FinishesInput, FinishesLines, FinishesOn, FinishesWithAudit, IsWriteFault, RefusesInput, RefusesToFilter, RefusesWithAudit};
 ghost use Rattle.ipmd_commands.specs.Status.{offline_fault_of};
 
@@ -78,10 +79,10 @@ fn filter_to_file<R: Files + AllocGlobal, I: Read + Drop, O: Write>(
 ) -> Result<OfflineReport, ProgramFault>
     ensures ok { IfOk result (λ report.
         FinishesWithAudit hex job.entry.now report (I.remaining input)
-        (O.contents (device_inner output.old)) (O.contents (device_inner output.new))) }
+        (writer_of (O.contents (device_inner output.old)) (O.contents (device_inner output.new)))) }
     ensures err { IfErr result (λ e.
         RefusesWithAudit path.now e hex job.entry.now (I.remaining input)
-        (O.contents (device_inner output.old)) (O.contents (device_inner output.new))) }
+        (writer_of (O.contents (device_inner output.old)) (O.contents (device_inner output.new)))) }
 {
     let alloc = rt.alloc();
     let file = of_file(alloc, path, fs::create(rt, path))?;
@@ -108,11 +109,11 @@ fn filter_input<I: Read + Drop, O: Write, A: Write>(
     audit: &mut Device<A>,
 ) -> Result<OfflineReport, ProgramFault>
     ensures ok { IfOk result (λ report. FinishesInput hex job.entry.now report (I.remaining input)
-        (O.contents (device_inner output.old)) (O.contents (device_inner output.new))
-        (A.contents (device_inner audit.old)) (A.contents (device_inner audit.new))) }
+        (writer_of (O.contents (device_inner output.old)) (O.contents (device_inner output.new)))
+        (writer_of (A.contents (device_inner audit.old)) (A.contents (device_inner audit.new)))) }
     ensures err { IfErr result (λ e. RefusesInput e hex job.entry.now (I.remaining input)
-        (O.contents (device_inner output.old)) (O.contents (device_inner output.new))
-        (A.contents (device_inner audit.old)) (A.contents (device_inner audit.new))) }
+        (writer_of (O.contents (device_inner output.old)) (O.contents (device_inner output.new)))
+        (writer_of (A.contents (device_inner audit.old)) (A.contents (device_inner audit.new)))) }
 {
     if !hex {
         return filter_octets(alloc, job, input, output, audit);
@@ -130,11 +131,11 @@ fn filter_to_lines<O: Write, A: Write>(
     audit: &mut Device<A>,
 ) -> Result<OfflineReport, ProgramFault>
     ensures ok { IfOk result (λ report. FinishesLines job.entry.now report octets.now
-        (O.contents (device_inner output.old)) (O.contents (device_inner output.new))
-        (A.contents (device_inner audit.old)) (A.contents (device_inner audit.new))) }
+        (writer_of (O.contents (device_inner output.old)) (O.contents (device_inner output.new)))
+        (writer_of (A.contents (device_inner audit.old)) (A.contents (device_inner audit.new)))) }
     ensures err { IfErr result (λ e. FailsLines e job.entry.now octets.now
-        (O.contents (device_inner output.old)) (O.contents (device_inner output.new))
-        (A.contents (device_inner audit.old)) (A.contents (device_inner audit.new))) }
+        (writer_of (O.contents (device_inner output.old)) (O.contents (device_inner output.new)))
+        (writer_of (A.contents (device_inner audit.old)) (A.contents (device_inner audit.new)))) }
 {
     let mut stream = Device::new(Vec::new(alloc));
     let report = filter_octets(alloc, job, octets, &mut stream, audit);
@@ -156,11 +157,11 @@ fn filter_octets<I: Read + Drop, O: Write, A: Write>(
     audit: &mut Device<A>,
 ) -> Result<OfflineReport, ProgramFault>
     ensures ok { IfOk result (λ report. FinishesOn job.entry.now report (I.remaining input)
-        (O.contents (device_inner output.old)) (O.contents (device_inner output.new))
-        (A.contents (device_inner audit.old)) (A.contents (device_inner audit.new))) }
+        (writer_of (O.contents (device_inner output.old)) (O.contents (device_inner output.new)))
+        (writer_of (A.contents (device_inner audit.old)) (A.contents (device_inner audit.new)))) }
     ensures err { IfErr result (λ e. FailsOn e job.entry.now (I.remaining input)
-        (O.contents (device_inner output.old)) (O.contents (device_inner output.new))
-        (A.contents (device_inner audit.old)) (A.contents (device_inner audit.new))) }
+        (writer_of (O.contents (device_inner output.old)) (O.contents (device_inner output.new)))
+        (writer_of (A.contents (device_inner audit.old)) (A.contents (device_inner audit.new)))) }
 {
     if output.has_failed() || audit.has_failed() {
         return Err(failed_one(output));

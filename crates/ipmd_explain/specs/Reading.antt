@@ -1,6 +1,7 @@
 -- What is read of a journal's file, and what was written of it.
-use Rattle.std.specs.Prelude.{◌≡◌, ◌⊎◌, ℕ, List, [], ◌∷◌, ◌++◌, Option, Some}
+use Rattle.std.specs.Prelude.{◌≡◌, ◌⊎◌, ℕ, List, [], ◌∷◌, ◌++◌, Some}
 use Rattle.std.specs.Io.KnownBytes.{Appends}
+use Rattle.octet_io.specs.Moments.{Reader, Writer}
 use Rattle.event_journal.specs.declared.entry.Entry.{Entry}
 use Rattle.journal_files.specs.Streaming.{Place}
 use Rattle.history_verify.specs.declared.verifier.Verifier.{Verifier}
@@ -38,10 +39,10 @@ abbrev pub NamesEnd : Question → ProgramFault → List Entry → Type 0
 NamesEnd q e h = EndsBadly e h ⊎ (IsLegal h × IsLacking q e h)
 
 -- so far the file was read, both took its entries, and what explains them was written
-pub record IsExplainedTo (q : Question) (given now held holds : Option (List ℕ)) (place : Place) (v : Verifier) (x : Explainer) : Type 0 where
+pub record IsExplainedTo (q : Question) (reader : Reader) (writer : Writer) (place : Place) (v : Verifier) (x : Explainer) : Type 0 where
   pub history : List Entry
-  pub reads : IsReadTo given now place history
+  pub reads : IsReadTo reader.given reader.left place history
   pub fed : IsFed v history
   pub question : x.question ≡ q
   pub stands : Stands x history
-  pub written : Appends held holds (explained q history)
+  pub written : Appends writer.held writer.holds (explained q history)

@@ -1,10 +1,11 @@
 -- Commands that are read and answered one after another, and where that ends or stops.
-use Rattle.std.proofs.Common.{◌≡◌, ◌≢◌, ◌⊎◌, inl, inr, ℕ, ◌+◌, ◌≤◌, ◌<◌, Bool, false, List, [], ◌∷◌, ◌++◌, length, take, Option, Some, None, refl, sym, ap, ◌∙◌, subst, append-nil, append_assoc, arith, length-append}
+use Rattle.std.proofs.Common.{◌≡◌, ◌≢◌, ◌⊎◌, inl, inr, ℕ, ◌+◌, ◌≤◌, ◌<◌, Bool, false, List, [], ◌∷◌, ◌++◌, length, take, Option, Some, None, refl, sym, ap, ◌∙◌, subst, subst₂, append-nil, append_assoc, arith, length-append}
 use Rattle.std.specs.Prelude.{IsSome, IsTrue, ◌↔◌}
 use Rattle.std.specs.List.{AllByRecursion}
 use Rattle.std.specs.Io.KnownBytes.{Consumes, Appends, prepend_known}
 use Rattle.std.proofs.KnownBytes.{Appends-trans, Appends-nil, Consumes-trans, Consumes-nil, prepend_known-nil}
 use Rattle.sequences.proofs.ListLaws.{take-add-append}
+use Rattle.octet_io.specs.Moments.{reader_of, writer_of}
 use Rattle.octet_io.specs.Written.{WritesFront}
 use Rattle.ipfix_reader.specs.declared.fault.FramingFault.TheVariants as framing
 use Rattle.shared_mediator.specs.declared.kept.KeptEntry.{KeptEntry}
@@ -24,7 +25,7 @@ use Rattle.mediator_connections.specs.declared.fault.ServeFault.{ServeFault}
 use Rattle.mediator_connections.specs.declared.fault.ServeFault.TheVariants.{Read, Write, Framing, Turns, Core}
 use Rattle.mediator_connections.specs.Faults.{out_of_memory}
 use Rattle.mediator_connections.specs.CommandInput.{InputState, unread, ahead, HandsOut, EndsBehind, IsLine, IsBegun, StopsReading}
-use Rattle.mediator_connections.specs.Answering.{Answers, Exchange, asked, answered, IsExchange, AreExchanges, GoesOn, Exchanges, ServesAdmin, StopsInside, StopsAdmin, Performs, Hears, StopsHearing, StopsReplying}
+use Rattle.mediator_connections.specs.Answering.{handle_of, Answers, Exchange, asked, answered, IsExchange, AreExchanges, GoesOn, Exchanges, ServesAdmin, StopsInside, StopsAdmin, Performs, Hears, StopsHearing, StopsReplying}
 use Rattle.mediator_connections.proofs.Commands.{hands_out_none, hands_out_then, stops_then}
 
 -- ---- what a reply says of its line
@@ -88,7 +89,7 @@ text_some answer.BadText text is = same_some answer.BadText text is
 -- ---- a line is heard
 
 -- there was no memory for a name
-pub name_lost : (line : List ℕ) (i : InputState) (given : Option (List ℕ)) (kept : List KeptEntry) → IsSubscription line → Performs (command_of line) (answer.Refused fault.OutOfMemory) i given given i kept kept
+pub name_lost : (line : List ℕ) (i : InputState) (given : Option (List ℕ)) (kept : List KeptEntry) → IsSubscription line → Performs (command_of line) (answer.Refused fault.OutOfMemory) i (reader_of given given) i (handle_of kept kept)
 name_lost line i given kept named = record {
   text = [];
   handed = hands_out_none i given;
@@ -130,7 +131,7 @@ stops_in_line e w i k given left is stops = rw is (record { octets = stops.0; st
 
 -- a line was handed out, and its call was made
 pub hears_line : (reply : Answer) (stops : Bool) (i k l : InputState) (given mid left : Option (List ℕ)) (line shown : List ℕ) (before after : List KeptEntry) → shown ≡ line → (octets : List ℕ) × IsLine line octets × HandsOut i given mid octets k
-    → Performs (command_of shown) reply k mid left l before after → (IsTrue stops ↔ (command_of shown ≡ Some to_stop)) → Hears reply stops i given left l before after
+    → Performs (command_of shown) reply k (reader_of mid left) l (handle_of before after) → (IsTrue stops ↔ (command_of shown ≡ Some to_stop)) → Hears reply stops i (reader_of given left) l (handle_of before after)
 hears_line reply stops i k l given mid left line shown before after is heard so stop = record {
   line = line;
   octets = heard.0;
@@ -193,7 +194,7 @@ serving_starts turns i given held old new = record {
 }
 
 -- the exchange of a line that was heard, with what was due for its reply
-abbrev exchange_of : (reply : Answer) (stops : Bool) (i k : InputState) (mid left : Option (List ℕ)) (before after : List KeptEntry) → Hears reply stops i mid left k before after → List ℕ → Exchange
+abbrev exchange_of : (reply : Answer) (stops : Bool) (i k : InputState) (mid left : Option (List ℕ)) (before after : List KeptEntry) → Hears reply stops i (reader_of mid left) k (handle_of before after) → List ℕ → Exchange
 exchange_of reply stops i k mid left before after hears written = record { line = hears.line; octets = hears.octets; text = hears.text; reply = reply; written = written }
 
 -- a line more was heard: its call was made, and its octets were handed out
@@ -203,7 +204,7 @@ record Heard (turns : ℕ) (k : InputState) (commands : List Exchange) (x : Exch
   pub written : answered (commands ++ x ∷ []) ≡ answered commands ++ x.written
 
 heard : (turns : ℕ) (i k : InputState) (count sent : ℕ) (given mid left held holds : Option (List ℕ)) (old before new : List KeptEntry) (reply : Answer) (stops : Bool) (text : List ℕ)
-    → (so : Serving turns i count sent given mid held holds old before) → (hears : Hears reply stops i mid left k before new) → IsTextOf reply text
+    → (so : Serving turns i count sent given mid held holds old before) → (hears : Hears reply stops i (reader_of mid left) k (handle_of before new)) → IsTextOf reply text
     → Heard turns k so.commands (exchange_of reply stops i k mid left before new hears text) given left old new
 heard turns i k count sent given mid left held holds old before new reply stops text so hears is =
     let x : Exchange = exchange_of reply stops i k mid left before new hears text in
@@ -215,7 +216,7 @@ heard turns i k count sent given mid left held holds old before new reply stops 
 
 -- the octets that were read for it, and those behind it
 exchanges_of : (turns : ℕ) (k : InputState) (commands last : List Exchange) (given left : Option (List ℕ)) (old new : List KeptEntry)
-    → AllByRecursion GoesOn commands → AreExchanges (commands ++ last) old new → HandsOut (unread turns) given left (asked (commands ++ last)) k → Exchanges commands last k.pending given left old new
+    → AllByRecursion GoesOn commands → AreExchanges (commands ++ last) old new → HandsOut (unread turns) given left (asked (commands ++ last)) k → Exchanges commands last k.pending (reader_of given left) (handle_of old new)
 exchanges_of turns k commands last given left old new are done handed = record {
   are = are;
   done = done;
@@ -224,7 +225,7 @@ exchanges_of turns k commands last given left old new are done handed = record {
 
 -- a command more was heard and answered
 pub serving_on : (turns : ℕ) (i k : InputState) (count sent n : ℕ) (given mid left held holds writes : Option (List ℕ)) (old before new : List KeptEntry) (reply : Answer) (stops : Bool)
-    → Serving turns i count sent given mid held holds old before → Hears reply stops i mid left k before new → WritesAnswer reply sent n holds writes → (reply ≡ answer.BadLine → ⊥) → stops ≡ false
+    → Serving turns i count sent given mid held holds old before → Hears reply stops i (reader_of mid left) k (handle_of before new) → WritesAnswer reply sent n holds writes → (reply ≡ answer.BadLine → ⊥) → stops ≡ false
     → Serving turns k (count + 1) n given left held writes old new
 serving_on turns i k count sent n given mid left held holds writes old before new reply stops so hears replies good goes =
     let x : Exchange = exchange_of reply stops i k mid left before new hears replies.text in
@@ -243,7 +244,7 @@ serving_on turns i k count sent n given mid left held holds writes old before ne
 -- ---- where it ends
 
 -- the input ended behind the commands
-pub serving_ends : (turns : ℕ) (i : InputState) (count sent : ℕ) (given mid left held holds : Option (List ℕ)) (old new : List KeptEntry) → Serving turns i count sent given mid held holds old new → EndsBehind i mid left [] → ServesAdmin count given left held holds old new
+pub serving_ends : (turns : ℕ) (i : InputState) (count sent : ℕ) (given mid left held holds : Option (List ℕ)) (old new : List KeptEntry) → Serving turns i count sent given mid held holds old new → EndsBehind i mid left [] → ServesAdmin count (reader_of given left) (writer_of held holds) (handle_of old new)
 serving_ends turns i count sent given mid left held holds old new so ends = record {
   commands = so.commands;
   last = [];
@@ -262,8 +263,8 @@ serving_ends turns i count sent given mid left held holds old new so ends = reco
 
 -- a line behind them was the last
 serving_ends_by : (turns : ℕ) (i k : InputState) (count sent n more total : ℕ) (given mid left held holds writes : Option (List ℕ)) (old before new : List KeptEntry) (reply : Answer) (stops : Bool)
-    → Serving turns i count sent given mid held holds old before → (hears : Hears reply stops i mid left k before new) → WritesAnswer reply sent n holds writes
-    → ((command_of hears.line ≡ None) × (more ≡ 0)) ⊎ ((command_of hears.line ≡ Some to_stop) × (more ≡ 1)) → total ≡ count + more → ServesAdmin total given left held writes old new
+    → Serving turns i count sent given mid held holds old before → (hears : Hears reply stops i (reader_of mid left) k (handle_of before new)) → WritesAnswer reply sent n holds writes
+    → ((command_of hears.line ≡ None) × (more ≡ 0)) ⊎ ((command_of hears.line ≡ Some to_stop) × (more ≡ 1)) → total ≡ count + more → ServesAdmin total (reader_of given left) (writer_of held writes) (handle_of old new)
 serving_ends_by turns i k count sent n more total given mid left held holds writes old before new reply stops so hears replies last is =
     let x : Exchange = exchange_of reply stops i k mid left before new hears replies.text in
     let h : Heard turns k so.commands x given left old new = heard turns i k count sent given mid left held holds old before new reply stops replies.text so hears replies.is in
@@ -280,21 +281,21 @@ serving_ends_by turns i k count sent n more total given mid left held holds writ
 
 -- it was no command
 pub serving_ends_line : (turns : ℕ) (i k : InputState) (count sent n : ℕ) (given mid left held holds writes : Option (List ℕ)) (old before new : List KeptEntry) (reply : Answer) (stops : Bool)
-    → Serving turns i count sent given mid held holds old before → Hears reply stops i mid left k before new → WritesAnswer reply sent n holds writes → reply ≡ answer.BadLine → ServesAdmin count given left held writes old new
+    → Serving turns i count sent given mid held holds old before → Hears reply stops i (reader_of mid left) k (handle_of before new) → WritesAnswer reply sent n holds writes → reply ≡ answer.BadLine → ServesAdmin count (reader_of given left) (writer_of held writes) (handle_of old new)
 serving_ends_line turns i k count sent n given mid left held holds writes old before new reply stops so hears replies bad =
     serving_ends_by turns i k count sent n 0 count given mid left held holds writes old before new reply stops so hears replies
     (inl (bad_line (command_of hears.line) hears.text before new (subst (λ r. Answers (command_of hears.line) hears.text r before new) bad hears.answers), refl)) (omega arith)
 
 -- it was to stop
 pub serving_stops : (turns : ℕ) (i k : InputState) (count sent n : ℕ) (given mid left held holds writes : Option (List ℕ)) (old before new : List KeptEntry) (reply : Answer) (stops : Bool)
-    → Serving turns i count sent given mid held holds old before → Hears reply stops i mid left k before new → WritesAnswer reply sent n holds writes → IsTrue stops → ServesAdmin (count + 1) given left held writes old new
+    → Serving turns i count sent given mid held holds old before → Hears reply stops i (reader_of mid left) k (handle_of before new) → WritesAnswer reply sent n holds writes → IsTrue stops → ServesAdmin (count + 1) (reader_of given left) (writer_of held writes) (handle_of old new)
 serving_stops turns i k count sent n given mid left held holds writes old before new reply stops so hears replies asked =
     serving_ends_by turns i k count sent n 1 (count + 1) given mid left held holds writes old before new reply stops so hears replies (inr (hears.stop.0 asked, refl)) refl
 
 -- ---- where it stops
 
 inside_of : (turns : ℕ) (i : InputState) (count sent : ℕ) (given mid left held holds : Option (List ℕ)) (old new : List KeptEntry) (begun : List ℕ) → (so : Serving turns i count sent given mid held holds old new)
-    → Consumes (ahead i mid) left begun → StopsInside so.commands begun given left held holds old new
+    → Consumes (ahead i mid) left begun → StopsInside so.commands begun (reader_of given left) (writer_of held holds) (handle_of old new)
 inside_of turns i count sent given mid left held holds old new begun so taken = record {
   exchanges = record {
     are = so.are;
@@ -307,7 +308,7 @@ inside_of turns i count sent given mid left held holds old new begun so taken = 
 
 -- nothing was heard
 pub stops_hearing : (e : ServeFault) (turns : ℕ) (i k : InputState) (count sent : ℕ) (given mid left held holds : Option (List ℕ)) (failed : Bool) (old new : List KeptEntry) (octets : List ℕ)
-    → (so : Serving turns i count sent given mid held holds old new) → StopsReading e i mid left octets k → IsBegun e octets → StopsAdmin e turns given left held holds failed old new so.commands
+    → (so : Serving turns i count sent given mid held holds old new) → StopsReading e i mid left octets k → IsBegun e octets → StopsAdmin e turns (reader_of given left) (writer_of held holds) failed (handle_of old new) so.commands
 stops_hearing Read turns i k count sent given mid left held holds failed old new octets so stops begun =
     (octets ++ k.pending, inside_of turns i count sent given mid left held holds old new (octets ++ k.pending) so (all_read (ahead i mid) left octets k.pending stops))
 stops_hearing Turns turns i k count sent given mid left held holds failed old new octets so stops begun = (
@@ -322,7 +323,7 @@ stops_hearing (Core (pull.Core fault.OutOfMemory)) turns i k count sent given mi
 stops_hearing _ turns i k count sent given mid left held holds failed old new octets so stops begun = absurd stops
 
 -- there was no memory before the first read
-pub stops_begun : (turns : ℕ) (given held : Option (List ℕ)) (failed : Bool) (old : List KeptEntry) → StopsAdmin out_of_memory turns given given held held failed old old []
+pub stops_begun : (turns : ℕ) (given held : Option (List ℕ)) (failed : Bool) (old : List KeptEntry) → StopsAdmin out_of_memory turns (reader_of given given) (writer_of held held) failed (handle_of old old) []
 stops_begun turns given held failed old = (
   [],
   record { exchanges = record { are = tt; done = refl; read = Consumes-nil given }; written = Appends-nil held },
@@ -330,7 +331,7 @@ stops_begun turns given held failed old = (
 
 -- the writer failed inside the answer, or its octets can't be counted
 pub stops_replying : (e : ServeFault) (turns : ℕ) (i k : InputState) (count sent : ℕ) (given mid left held holds writes : Option (List ℕ)) (failed : Bool) (old before new : List KeptEntry) (reply : Answer) (last : Bool)
-    → (so : Serving turns i count sent given mid held holds old before) → Hears reply last i mid left k before new → StopsReplying e reply sent holds writes failed → StopsAdmin e turns given left held writes failed old new so.commands
+    → (so : Serving turns i count sent given mid held holds old before) → Hears reply last i (reader_of mid left) k (handle_of before new) → StopsReplying e reply sent holds writes failed → StopsAdmin e turns (reader_of given left) (writer_of held writes) failed (handle_of old new) so.commands
 stops_replying (Write n) turns i k count sent given mid left held holds writes failed old before new reply last so hears stopped =
     let x : Exchange = exchange_of reply last i k mid left before new hears stopped.text in
     let h : Heard turns k so.commands x given left old new = heard turns i k count sent given mid left held holds old before new reply last stopped.text so hears stopped.is in (
@@ -358,15 +359,17 @@ stops_replying (Core pull.HandedFull) turns i k count sent given mid left held h
 stops_replying _ turns i k count sent given mid left held holds writes failed old before new reply last so hears stopped = absurd stopped.stops
 
 pub stopped_hearing : (e w : ServeFault) (turns : ℕ) (i k : InputState) (count sent : ℕ) (given mid left held holds : Option (List ℕ)) (failed : Bool) (old before new : List KeptEntry) → e ≡ w
-    → Serving turns i count sent given mid held holds old before → StopsHearing w i mid left k → new ≡ before → (commands : List Exchange) × StopsAdmin e turns given left held holds failed old new commands
+    → Serving turns i count sent given mid held holds old before → StopsHearing w i mid left k → new ≡ before → (commands : List Exchange) × StopsAdmin e turns (reader_of given left) (writer_of held holds) failed (handle_of old new) commands
 stopped_hearing e w turns i k count sent given mid left held holds failed old before new is so stops same =
-    rw (is, same) (so.commands, stops_hearing w turns i k count sent given mid left held holds failed old before stops.octets so stops.stops stops.begun)
+    subst₂ (λ (x : ServeFault) (kept : List KeptEntry). (commands : List Exchange) × StopsAdmin x turns (reader_of given left) (writer_of held holds) failed (handle_of old kept) commands) (sym is) (sym same)
+    (so.commands, stops_hearing w turns i k count sent given mid left held holds failed old before stops.octets so stops.stops stops.begun)
 
 pub stopped_replying : (e w : ServeFault) (turns : ℕ) (i k : InputState) (count sent : ℕ) (given mid left held holds writes : Option (List ℕ)) (failed : Bool) (old before new : List KeptEntry) (reply : Answer) (last : Bool) → e ≡ w
-    → Serving turns i count sent given mid held holds old before → Hears reply last i mid left k before new → StopsReplying w reply sent holds writes failed → (commands : List Exchange) × StopsAdmin e turns given left held writes failed old new commands
+    → Serving turns i count sent given mid held holds old before → Hears reply last i (reader_of mid left) k (handle_of before new) → StopsReplying w reply sent holds writes failed → (commands : List Exchange) × StopsAdmin e turns (reader_of given left) (writer_of held writes) failed (handle_of old new) commands
 stopped_replying e w turns i k count sent given mid left held holds writes failed old before new reply last is so hears stops =
     rw is (so.commands, stops_replying w turns i k count sent given mid left held holds writes failed old before new reply last so hears stops)
 
 pub serving_ended : (turns : ℕ) (i : InputState) (count sent : ℕ) (given mid left held holds : Option (List ℕ)) (old before new : List KeptEntry) → Serving turns i count sent given mid held holds old before → EndsBehind i mid left [] × (new ≡ before)
-    → ServesAdmin count given left held holds old new
-serving_ended turns i count sent given mid left held holds old before new so ends = rw ends.1 (serving_ends turns i count sent given mid left held holds old before so ends.0)
+    → ServesAdmin count (reader_of given left) (writer_of held holds) (handle_of old new)
+serving_ended turns i count sent given mid left held holds old before new so ends =
+    subst (λ (kept : List KeptEntry). ServesAdmin count (reader_of given left) (writer_of held holds) (handle_of old kept)) (sym ends.1) (serving_ends turns i count sent given mid left held holds old before so ends.0)

@@ -7,6 +7,7 @@ use Rattle.std.proofs.lemmas.List.{take-append-drop, take-append-le, take_more, 
 use Rattle.std.proofs.lemmas.List.Concat.{flat_map-append, flat_map-cons}
 use Rattle.std.proofs.lemmas.Option.{same_Some}
 use Rattle.sequences.proofs.ListLaws.{take-add-append}
+use Rattle.octet_io.specs.Moments.{writer_of}
 use Rattle.octet_io.specs.Written.{WritesFront}
 use Rattle.ipfix_template.specs.DataRecord.{DataRecord}
 use Rattle.subscriber_stream.specs.Parts.{Part, parts, records_in}
@@ -103,7 +104,7 @@ all_pushed : {X : Type 0} (P : X → Type 0) (xs : List X) (x : X) → AllByRecu
 all_pushed P [] x all p = (p, tt)
 all_pushed P (y ∷ xs) x all p = (all.0, all_pushed P xs x all.1 p)
 
-pub sends_none : (Shows : ℕ → Type 0) (target : ℕ) (d : Delivering) (held : Option (List ℕ)) → Delivers Shows target 0 d d held held
+pub sends_none : (Shows : ℕ → Type 0) (target : ℕ) (d : Delivering) (held : Option (List ℕ)) → Delivers Shows target 0 d d (writer_of held held)
 sends_none Shows target d held = record {
   messages = [];
   pulls = record { sub = refl; kept = sym (append-nil d.kept); due = tt };
@@ -112,7 +113,7 @@ sends_none Shows target d held = record {
 }
 
 -- nothing was pulled
-pub sends_same : (Shows : ℕ → Type 0) (target sent : ℕ) (old d e : Delivering) (held holds : Option (List ℕ)) → Delivers Shows target sent old d held holds → e.kept ≡ d.kept → e.sub ≡ d.sub → Delivers Shows target sent old e held holds
+pub sends_same : (Shows : ℕ → Type 0) (target sent : ℕ) (old d e : Delivering) (held holds : Option (List ℕ)) → Delivers Shows target sent old d (writer_of held holds) → e.kept ≡ d.kept → e.sub ≡ d.sub → Delivers Shows target sent old e (writer_of held holds)
 sends_same Shows target sent old d e held holds so kept sub = record {
   messages = so.messages;
   pulls = record { sub = sub ∙ so.pulls.sub; kept = kept ∙ so.pulls.kept; due = so.pulls.due };
@@ -136,8 +137,8 @@ octets_joined : (messages more : List Handed) → octets_of (messages ++ more) �
 octets_joined messages more = flat_map-append (λ k. k.message) messages more
 
 -- and written
-pub sends_on : (Shows : ℕ → Type 0) (target sent n : ℕ) (old d e : Delivering) (more : List Handed) (held holds writes : Option (List ℕ)) → Delivers Shows target sent old d held holds → Pulled Shows target d e more
-    → Sends (octets_of more) sent n holds writes → Delivers Shows target n old e held writes
+pub sends_on : (Shows : ℕ → Type 0) (target sent n : ℕ) (old d e : Delivering) (more : List Handed) (held holds writes : Option (List ℕ)) → Delivers Shows target sent old d (writer_of held holds) → Pulled Shows target d e more
+    → Sends (octets_of more) sent n holds writes → Delivers Shows target n old e (writer_of held writes)
 sends_on Shows target sent n old d e more held holds writes so p sends = record {
   messages = so.messages ++ more;
   pulls = pulls_on Shows target old d e so.messages more so.pulls p;
@@ -157,14 +158,14 @@ front_behind before due front held holds writes failed so stops = record {
 }
 
 -- inside the messages that were pulled at once
-pub sends_inside : (f : ServeFault) (Shows : ℕ → Type 0) (target sent : ℕ) (old d e : Delivering) (more : List Handed) (held holds writes : Option (List ℕ)) (failed : Bool) → Delivers Shows target sent old d held holds → Pulled Shows target d e more
-    → length more ≤ 32 → StopsSending f (octets_of more) sent holds writes failed → FailsToDeliver f Shows target old e held writes failed
+pub sends_inside : (f : ServeFault) (Shows : ℕ → Type 0) (target sent : ℕ) (old d e : Delivering) (more : List Handed) (held holds writes : Option (List ℕ)) (failed : Bool) → Delivers Shows target sent old d (writer_of held holds) → Pulled Shows target d e more
+    → length more ≤ 32 → StopsSending f (octets_of more) sent holds writes failed → FailsToDeliver f Shows target old e (writer_of held writes) failed
 sends_inside f Shows target sent old d e more held holds writes failed so p few stops = rw stops.is inside
   where
     place : sent + stops.front ≡ length (octets_of so.messages) + stops.front
     place = ap (λ n. n + stops.front) so.counted
 
-    inside : StopsInside Shows target (sent + stops.front) old e held writes failed
+    inside : StopsInside Shows target (sent + stops.front) old e (writer_of held writes) failed
     inside = record {
       messages = so.messages;
       last = more;
@@ -252,6 +253,6 @@ sending_stops f messages begun sent place h other held holds writes failed so l 
     }
 
 -- a pull is refused
-pub refused : (f : ServeFault) (why : PullFault) (Shows : ℕ → Type 0) (target sent : ℕ) (old d e : Delivering) (held holds : Option (List ℕ)) (failed : Bool) → f ≡ Core why → e ≡ d → Delivers Shows target sent old d held holds
-    → FailsToDeliver f Shows target old e held holds failed
-refused f why Shows target sent old d e held holds failed is same so = rw is (sent, subst (λ x. Delivers Shows target sent old x held holds) (sym same) so)
+pub refused : (f : ServeFault) (why : PullFault) (Shows : ℕ → Type 0) (target sent : ℕ) (old d e : Delivering) (held holds : Option (List ℕ)) (failed : Bool) → f ≡ Core why → e ≡ d → Delivers Shows target sent old d (writer_of held holds)
+    → FailsToDeliver f Shows target old e (writer_of held holds) failed
+refused f why Shows target sent old d e held holds failed is same so = rw is (sent, subst (λ x. Delivers Shows target sent old x (writer_of held holds)) (sym same) so)

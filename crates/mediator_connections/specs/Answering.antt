@@ -2,6 +2,7 @@
 use Rattle.std.specs.Prelude.{◌≡◌, ◌≢◌, ◌⊎◌, ◌↔◌, IsTrue, ℕ, ◌+◌, ◌≤◌, ◌<◌, ◌^◌, Bool, List, [], ◌∷◌, ◌++◌, length, Option, Some, None, IsSome, IsUtf8}
 use Rattle.std.specs.List.{flat_map, AllByRecursion}
 use Rattle.std.specs.Io.KnownBytes.{Consumes, Appends, IsAtEnd}
+use Rattle.octet_io.specs.Moments.{Reader, Writer}
 use Rattle.octet_io.specs.Written.{WritesFront}
 use Rattle.event_journal.specs.declared.entry.Entry.TheVariants.{Edit, Subscribe, Unsubscribe, Advance}
 use Rattle.shared_mediator.specs.declared.kept.KeptEntry.{KeptEntry}
@@ -18,6 +19,14 @@ use Rattle.admin_text.specs.declared.answer.Answer.TheVariants as answer
 use Rattle.mediator_connections.specs.declared.fault.ServeFault.{ServeFault}
 use Rattle.mediator_connections.specs.declared.fault.ServeFault.TheVariants.{Read, Write, Framing, Turns, Core}
 use Rattle.mediator_connections.specs.CommandInput.{InputState, HandsOut, IsLine, IsBegun, StopsReading}
+
+-- what an administrator's handle keeps, before and after
+pub record Handle : Type 0 where
+  pub before : List KeptEntry
+  pub after : List KeptEntry
+
+abbrev pub handle_of : List KeptEntry → List KeptEntry → Handle
+handle_of before after = record { before = before; after = after }
 
 -- ---- one call
 
@@ -104,10 +113,10 @@ abbrev pub GoesOn : Exchange → Type 0
 GoesOn x = IsSome (command_of x.line) × (command_of x.line ≢ Some to_stop)
 
 -- commands were read and their calls were made, in order, and then this line's, if there is one; and these octets behind them were read
-pub record Exchanges (commands last : List Exchange) (rest : List ℕ) (given left : Option (List ℕ)) (old new : List KeptEntry) : Type 0 where
+pub record Exchanges (commands last : List Exchange) (rest : List ℕ) (reader : Reader) (handle : Handle) : Type 0 where
   pub are : AllByRecursion GoesOn commands
-  pub done : AreExchanges (commands ++ last) old new
-  pub read : Consumes given left (asked (commands ++ last) ++ rest)
+  pub done : AreExchanges (commands ++ last) handle.before handle.after
+  pub read : Consumes reader.given reader.left (asked (commands ++ last) ++ rest)
 
 -- ---- where it ends
 
@@ -118,63 +127,62 @@ EndsAt (x ∷ []) more rest left = ((command_of x.line ≡ None) × (more ≡ 0)
 EndsAt _ more rest left = ⊥
 
 -- all were answered, and the commands counted
-pub record ServesAdmin (count : ℕ) (given left held holds : Option (List ℕ)) (old new : List KeptEntry) : Type 0 where
+pub record ServesAdmin (count : ℕ) (reader : Reader) (writer : Writer) (handle : Handle) : Type 0 where
   pub commands : List Exchange
   pub last : List Exchange
   pub rest : List ℕ
-  pub exchanges : Exchanges commands last rest given left old new
-  pub written : Appends held holds (answered (commands ++ last))
+  pub exchanges : Exchanges commands last rest reader handle
+  pub written : Appends writer.held writer.holds (answered (commands ++ last))
   pub more : ℕ
   pub counted : count ≡ length commands + more
-  pub ends : EndsAt last more rest left
+  pub ends : EndsAt last more rest reader.left
 
 -- ---- where it stops
 
 -- commands were answered, and of the next one these octets were read at least, and no call was made
-pub record StopsInside (commands : List Exchange) (begun : List ℕ) (given left held holds : Option (List ℕ)) (old new : List KeptEntry) : Type 0 where
-  pub exchanges : Exchanges commands [] begun given left old new
-  pub written : Appends held holds (answered commands)
+pub record StopsInside (commands : List Exchange) (begun : List ℕ) (reader : Reader) (writer : Writer) (handle : Handle) : Type 0 where
+  pub exchanges : Exchanges commands [] begun reader handle
+  pub written : Appends writer.held writer.holds (answered commands)
 
 -- commands were answered, and the call of the next line was made
-pub record StopsBehind (commands : List Exchange) (last : Exchange) (given left : Option (List ℕ)) (old new : List KeptEntry) : Type 0 where
+pub record StopsBehind (commands : List Exchange) (last : Exchange) (reader : Reader) (handle : Handle) : Type 0 where
   pub rest : List ℕ
-  pub exchanges : Exchanges commands (last ∷ []) rest given left old new
+  pub exchanges : Exchanges commands (last ∷ []) rest reader handle
 
 -- why it stops: the reader failed; no read is left, and each gave some octets; the input ended inside a command; there was no memory
 -- for what was read; the writer failed inside an answer; or with the next answer, the octets could not be counted
-abbrev pub StopsAdmin : ServeFault → ℕ → Option (List ℕ) → Option (List ℕ) → Option (List ℕ) → Option (List ℕ) → Bool → List KeptEntry → List KeptEntry → List Exchange → Type 0
-StopsAdmin Read turns given left held holds has_failed old new commands =
-    (begun : List ℕ) × StopsInside commands begun given left held holds old new
-StopsAdmin Turns turns given left held holds has_failed old new commands =
-    (begun : List ℕ) × StopsInside commands begun given left held holds old new × (turns ≤ length (asked commands ++ begun))
-StopsAdmin (Framing framing.CutOff) turns given left held holds has_failed old new commands =
-    (begun : List ℕ) × StopsInside commands begun given left held holds old new × (0 < length begun) × IsAtEnd left
-StopsAdmin (Core (pull.Core fault.OutOfMemory)) turns given left held holds has_failed old new commands =
-    (begun : List ℕ) × StopsInside commands begun given left held holds old new
-StopsAdmin (Write sent) turns given left held holds has_failed old new commands =
-    (last : Exchange) × StopsBehind commands last given left old new
-    × WritesFront held holds (answered (commands ++ last ∷ [])) sent has_failed × (length (answered commands) ≤ sent)
-StopsAdmin (Core pull.HandedFull) turns given left held holds has_failed old new commands =
-    (last : Exchange) × StopsBehind commands last given left old new
-    × Appends held holds (answered commands) × (2 ^ 64 ≤ length (answered (commands ++ last ∷ [])))
-StopsAdmin _ turns given left held holds has_failed old new commands = ⊥
+abbrev pub StopsAdmin : ServeFault → ℕ → Reader → Writer → Bool → Handle → List Exchange → Type 0
+StopsAdmin Read turns reader writer has_failed handle commands = (begun : List ℕ) × StopsInside commands begun reader writer handle
+StopsAdmin Turns turns reader writer has_failed handle commands =
+    (begun : List ℕ) × StopsInside commands begun reader writer handle × (turns ≤ length (asked commands ++ begun))
+StopsAdmin (Framing framing.CutOff) turns reader writer has_failed handle commands =
+    (begun : List ℕ) × StopsInside commands begun reader writer handle × (0 < length begun) × IsAtEnd reader.left
+StopsAdmin (Core (pull.Core fault.OutOfMemory)) turns reader writer has_failed handle commands =
+    (begun : List ℕ) × StopsInside commands begun reader writer handle
+StopsAdmin (Write sent) turns reader writer has_failed handle commands =
+    (last : Exchange) × StopsBehind commands last reader handle
+    × WritesFront writer.held writer.holds (answered (commands ++ last ∷ [])) sent has_failed × (length (answered commands) ≤ sent)
+StopsAdmin (Core pull.HandedFull) turns reader writer has_failed handle commands =
+    (last : Exchange) × StopsBehind commands last reader handle
+    × Appends writer.held writer.holds (answered commands) × (2 ^ 64 ≤ length (answered (commands ++ last ∷ [])))
+StopsAdmin _ turns reader writer has_failed handle commands = ⊥
 
 -- ---- what no public clause cites
 
 -- octets behind a line were handed out, and what the line asks for was answered so
-pub record Performs (read : Option Saying) (reply : Answer) (old : InputState) (given left : Option (List ℕ)) (new : InputState) (before after : List KeptEntry) : Type 0 where
+pub record Performs (read : Option Saying) (reply : Answer) (old : InputState) (reader : Reader) (new : InputState) (handle : Handle) : Type 0 where
   pub text : List ℕ
-  pub handed : HandsOut old given left text new
-  pub answers : Answers read text reply before after
+  pub handed : HandsOut old reader.given reader.left text new
+  pub answers : Answers read text reply handle.before handle.after
 
 -- a line was handed out, with the text behind it, and answered so; and whether it asks to stop
-pub record Hears (reply : Answer) (stops : Bool) (old : InputState) (given left : Option (List ℕ)) (new : InputState) (before after : List KeptEntry) : Type 0 where
+pub record Hears (reply : Answer) (stops : Bool) (old : InputState) (reader : Reader) (new : InputState) (handle : Handle) : Type 0 where
   pub line : List ℕ
   pub octets : List ℕ
   pub text : List ℕ
   pub is_line : IsLine line octets
-  pub handed : HandsOut old given left (octets ++ text) new
-  pub answers : Answers (command_of line) text reply before after
+  pub handed : HandsOut old reader.given reader.left (octets ++ text) new
+  pub answers : Answers (command_of line) text reply handle.before handle.after
   pub stop : IsTrue stops ↔ (command_of line ≡ Some to_stop)
 
 -- nothing was answered, behind these octets of a command

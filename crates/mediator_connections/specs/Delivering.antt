@@ -2,6 +2,7 @@
 use Rattle.std.specs.Prelude.{◌≡◌, ◌⊎◌, ℕ, ◌+◌, ◌≤◌, Bool, List, ◌++◌, length, Option}
 use Rattle.std.specs.List.{flat_map, AllByRecursion}
 use Rattle.std.specs.Io.KnownBytes.{Appends}
+use Rattle.octet_io.specs.Moments.{Writer}
 use Rattle.octet_io.specs.Written.{WritesFront}
 use Rattle.event_journal.specs.declared.entry.Entry.TheVariants.{Unsubscribe}
 use Rattle.shared_mediator.specs.declared.kept.KeptEntry.{KeptEntry}
@@ -29,27 +30,27 @@ pub record Pulls (Shows : ℕ → Type 0) (target : ℕ) (old new : Delivering) 
   pub due : AllByRecursion (IsDue Shows target) messages
 
 -- messages were pulled, and all of them were written and their octets counted
-pub record Delivers (Shows : ℕ → Type 0) (target sent : ℕ) (old new : Delivering) (held holds : Option (List ℕ)) : Type 0 where
+pub record Delivers (Shows : ℕ → Type 0) (target sent : ℕ) (old new : Delivering) (writer : Writer) : Type 0 where
   pub messages : List Handed
   pub pulls : Pulls Shows target old new messages
-  pub written : Appends held holds (octets_of messages)
+  pub written : Appends writer.held writer.holds (octets_of messages)
   pub counted : sent ≡ length (octets_of messages)
 
 -- messages were pulled, and the first so many octets of them were written, which end inside the last ones, of which at most so many are
 -- pulled at once; then the writer failed
-pub record StopsInside (Shows : ℕ → Type 0) (target sent : ℕ) (old new : Delivering) (held holds : Option (List ℕ)) (has_failed : Bool) : Type 0 where
+pub record StopsInside (Shows : ℕ → Type 0) (target sent : ℕ) (old new : Delivering) (writer : Writer) (has_failed : Bool) : Type 0 where
   pub messages : List Handed
   pub last : List Handed
   pub few : length last ≤ MOST_AT_ONCE
   pub pulls : Pulls Shows target old new (messages ++ last)
-  pub written : WritesFront held holds (octets_of (messages ++ last)) sent has_failed
+  pub written : WritesFront writer.held writer.holds (octets_of (messages ++ last)) sent has_failed
   pub whole : length (octets_of messages) ≤ sent
 
 -- why it stops, and what was written then: at a refusal, all that was pulled
-abbrev pub FailsToDeliver : ServeFault → (ℕ → Type 0) → ℕ → Delivering → Delivering → Option (List ℕ) → Option (List ℕ) → Bool → Type 0
-FailsToDeliver (Write sent) Shows target old new held holds has_failed = StopsInside Shows target sent old new held holds has_failed
-FailsToDeliver (Core why) Shows target old new held holds has_failed = (sent : ℕ) × Delivers Shows target sent old new held holds
-FailsToDeliver _ Shows target old new held holds has_failed = ⊥
+abbrev pub FailsToDeliver : ServeFault → (ℕ → Type 0) → ℕ → Delivering → Delivering → Writer → Bool → Type 0
+FailsToDeliver (Write sent) Shows target old new writer has_failed = StopsInside Shows target sent old new writer has_failed
+FailsToDeliver (Core why) Shows target old new writer has_failed = (sent : ℕ) × Delivers Shows target sent old new writer
+FailsToDeliver _ Shows target old new writer has_failed = ⊥
 
 -- what an administrator's handle keeps then: where the writer failed, the end of the subscription, unless that is refused
 abbrev pub EndsOnWrite : ServeFault → ℕ → List KeptEntry → List KeptEntry → Type 0

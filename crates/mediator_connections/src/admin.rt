@@ -1,12 +1,13 @@
 //! Serves an administrator's connection: reads its commands, makes their calls, and writes the answers.
 ghost use Rattle.std.specs.Prelude.{◌≡◌, ◌↔◌, IsTrue, ℕ, List, [], Some, false, IfOk, IfErr, OnOk, OnErr, MatchOption};
+ghost use Rattle.octet_io.specs.Moments.{reader_of, writer_of};
 ghost use Rattle.admin_text.specs.Sayings.{saying};
 ghost use Rattle.admin_text.specs.Sayings.Saying.{to_stop};
 ghost use Rattle.admin_text.specs.Reading.{command_of};
 ghost use Rattle.admin_text.specs.Answers.{WritesAnswer};
 ghost use Rattle.mediator_connections.specs.Faults.{reader_after, writer_after};
 ghost use Rattle.mediator_connections.specs.CommandInput.{EndsBehind, StopsReading};
-ghost use Rattle.mediator_connections.specs.Answering.{Edits, Subscribes, Unsubscribes, Advances, TellsStatus, DrainsAudit, Tells, Exchange, ServesAdmin, StopsAdmin, Performs, Hears, StopsHearing, StopsReplying};
+ghost use Rattle.mediator_connections.specs.Answering.{handle_of, Edits, Subscribes, Unsubscribes, Advances, TellsStatus, DrainsAudit, Tells, Exchange, ServesAdmin, StopsAdmin, Performs, Hears, StopsHearing, StopsReplying};
 
 use crate::command_input::CommandInput;
 use crate::control::{Control, Patience};
@@ -70,15 +71,16 @@ pub fn serve_admin<E: EntryLedger, H: RecordLedger, R: Source, W: Sink, C: Contr
     requires writer { W.has_failed writer.old ≡ false }
     // All commands were read, their calls made, and their answers written.
     ensures serves { IfOk result (λ count.
-        ServesAdmin count (R.remaining reader.old) (R.remaining reader.new)
-        (W.contents writer.old) (W.contents writer.new) handle.old handle.new) }
+        ServesAdmin count (reader_of (R.remaining reader.old) (R.remaining reader.new))
+        (writer_of (W.contents writer.old) (W.contents writer.new))
+        (handle_of handle.old handle.new)) }
     ensures sound_reader { OnOk result (R.has_failed reader.new ≡ false) }
     ensures sound_writer { OnOk result (W.has_failed writer.new ≡ false) }
     // Where it stopped, what was read, done and written by then.
     ensures stops { IfErr result (λ e. (commands : List Exchange)
-        × StopsAdmin e turns (R.remaining reader.old) (R.remaining reader.new)
-        (W.contents writer.old) (W.contents writer.new)
-        (W.has_failed writer.new) handle.old handle.new commands) }
+        × StopsAdmin e turns (reader_of (R.remaining reader.old) (R.remaining reader.new))
+        (writer_of (W.contents writer.old) (W.contents writer.new)) (W.has_failed writer.new)
+        (handle_of handle.old handle.new) commands) }
     // A device has failed only where the fault names it.
     ensures reader_fails { IfErr result (λ e. R.has_failed reader.new ≡ reader_after e) }
     ensures writer_fails { IfErr result (λ e. W.has_failed writer.new ≡ writer_after e) }
@@ -123,7 +125,8 @@ fn hear<E: EntryLedger, H: RecordLedger, R: Source, C: Control>(
         (EndsBehind input.old (R.remaining reader.old) (R.remaining reader.new) []
         × (handle.new ≡ handle.old))
         (λ heard. Hears heard.answer heard.stops input.old
-        (R.remaining reader.old) (R.remaining reader.new) input.new handle.old handle.new)) }
+        (reader_of (R.remaining reader.old) (R.remaining reader.new)) input.new
+        (handle_of handle.old handle.new))) }
     ensures sound { OnOk result (R.has_failed reader.new ≡ false) }
     ensures fails { IfErr result (λ e. R.has_failed reader.new ≡ reader_after e) }
     // Behind which octets of the command it stopped. No call was made.
@@ -157,7 +160,8 @@ fn answer_line<E: EntryLedger, H: RecordLedger, R: Source, C: Control>(
     requires reader { R.has_failed reader.old ≡ false }
     // What came of the line.
     ensures ok { IfOk result (λ heard. Performs (command_of line.now) heard.answer input.old
-        (R.remaining reader.old) (R.remaining reader.new) input.new handle.old handle.new) }
+        (reader_of (R.remaining reader.old) (R.remaining reader.new)) input.new
+        (handle_of handle.old handle.new)) }
     ensures stops { IfOk result (λ heard. IsTrue heard.stops
         ↔ (command_of line.now ≡ Some to_stop)) }
     // The reader has failed only where the fault is `Read`.
@@ -229,7 +233,8 @@ fn perform<E: EntryLedger, H: RecordLedger, R: Source, C: Control>(
     requires reader { R.has_failed reader.old ≡ false }
     // What came of the command.
     ensures ok { IfOk result (λ answer. Performs (Some (saying command)) answer input.old
-        (R.remaining reader.old) (R.remaining reader.new) input.new handle.old handle.new) }
+        (reader_of (R.remaining reader.old) (R.remaining reader.new)) input.new
+        (handle_of handle.old handle.new)) }
     // The reader has failed only where the fault is `Read`.
     ensures sound { OnOk result (R.has_failed reader.new ≡ false) }
     ensures fails { IfErr result (λ e. R.has_failed reader.new ≡ reader_after e) }

@@ -1,6 +1,7 @@
 //! Delivers a subscription: pulls its messages, and writes them.
 ghost use Rattle.std.specs.Prelude.{◌≡◌, ◌+◌, ◌<◌, ◌^◌, false, length, IfOk, IfErr, OnOk};
 ghost use Rattle.std.specs.Io.KnownBytes.{Appends};
+ghost use Rattle.octet_io.specs.Moments.{writer_of};
 ghost use Rattle.mediator_connections.specs.Faults.{writer_after};
 ghost use Rattle.mediator_connections.specs.Delivering.{Delivers, FailsToDeliver, Sends, StopsSending, EndsOnWrite, octets_of};
 
@@ -45,12 +46,12 @@ pub fn deliver<E: EntryLedger, H: RecordLedger, W: Sink, C: Clock>(
     requires writer { W.has_failed writer.old ≡ false }
     // All that was pulled was written.
     ensures delivers { IfOk result (λ sent. Delivers (C.shows clock.now) target sent
-        handle.old handle.new (W.contents writer.old) (W.contents writer.new)) }
+        handle.old handle.new (writer_of (W.contents writer.old) (W.contents writer.new))) }
     ensures sound { OnOk result (W.has_failed writer.new ≡ false) }
     // Where it stopped, and what was written by then.
     ensures stops { IfErr result (λ e.
         FailsToDeliver e.0 (C.shows clock.now) target handle.old handle.new
-        (W.contents writer.old) (W.contents writer.new) (W.has_failed writer.new)) }
+        (writer_of (W.contents writer.old) (W.contents writer.new)) (W.has_failed writer.new)) }
     ensures fails { IfErr result (λ e. W.has_failed writer.new ≡ writer_after e.0) }
     // The administrator's handle ends the subscription where the writer failed, and does nothing else.
     ensures unchanged { OnOk result (admin.new ≡ admin.old) }
@@ -109,12 +110,12 @@ fn send_messages<E: EntryLedger, H: RecordLedger, W: Sink, C: Clock>(
     requires writer { W.has_failed writer.old ≡ false }
     // All that was pulled was written.
     ensures delivers { IfOk result (λ sent. Delivers (C.shows clock.now) target sent
-        handle.old handle.new (W.contents writer.old) (W.contents writer.new)) }
+        handle.old handle.new (writer_of (W.contents writer.old) (W.contents writer.new))) }
     ensures sound { OnOk result (W.has_failed writer.new ≡ false) }
     // Where it stopped, and what was written by then.
     ensures stops { IfErr result (λ e.
         FailsToDeliver e (C.shows clock.now) target handle.old handle.new
-        (W.contents writer.old) (W.contents writer.new) (W.has_failed writer.new)) }
+        (writer_of (W.contents writer.old) (W.contents writer.new)) (W.has_failed writer.new)) }
     ensures fails { IfErr result (λ e. W.has_failed writer.new ≡ writer_after e) }
 {
     let mut sent = 0u64;

@@ -1,4 +1,5 @@
 pub use Rattle.octet_io.specs.Written
+pub use Rattle.octet_io.specs.Moments
 pub use Rattle.ipfix_message.specs.Framing
 pub use Rattle.subscriber_stream.specs.Parts
 pub use Rattle.subscriber_stream.specs.Message

@@ -1,3 +1,4 @@
 pub mod Failing
 pub mod Written
 pub mod Device
+pub mod Moments

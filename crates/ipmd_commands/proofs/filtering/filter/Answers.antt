@@ -1,5 +1,6 @@
 use Rattle.std.proofs.Common.{string_bytes}
 use Rattle.std.proofs.lemmas.Result.{IfErr-weaker, IfOk-weaker}
+use Rattle.octet_io.specs.Moments.{writer_of}
 use Rattle.ipmd_commands.proofs.Inputs.{asked_for}
 use Rattle.ipmd_commands.proofs.Naming.{refuses_audited, refuses_unaudited}
 use Rattle.ipmd_commands.proofs.filtering.filter.Goals as goal
@@ -17,7 +18,7 @@ returns-in-Some-clause-err g c =
 pub returns-clause-ok : goal.returns-clause-ok
 returns-clause-ok g c =
     let asked = asked_for c.args.options.now c.as_str.result (string_bytes c.in_ok-policy.policy) c.is_some.result c.in_ok-policy.ensures.text c.as_str.ensures.value c.is_some.ensures in
-    IfOk-weaker c.filter_input.result _ _ (λ report done. (asked, (_, _, done))) c.filter_input.ensures.ok
+    IfOk-weaker c.filter_input.result _ _ (λ report done. (asked, (writer_of _ _, done))) c.filter_input.ensures.ok
 
 pub returns-clause-err : goal.returns-clause-err
 returns-clause-err g c =

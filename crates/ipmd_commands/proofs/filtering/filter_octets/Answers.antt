@@ -1,5 +1,6 @@
 use Rattle.std.proofs.Common.{inr, subst}
 use Rattle.octet_io.specs.Device.{device_failed, device_inner}
+use Rattle.octet_io.specs.Moments.{writer_of}
 use Rattle.ipmd_commands.specs.Runs.{EndsOn}
 use Rattle.ipmd_commands.proofs.Inputs.{ran}
 use Rattle.ipmd_commands.proofs.filtering.filter_octets.Goals as goal
@@ -12,7 +13,7 @@ returns-then-is_err-clause-err g c =
     let audit_holds = g.A.Write.contents (device_inner c.flush-2.new.self) in
     inr (
       c.failed_one-then-is_err.ensures,
-      inr (subst (λ input. EndsOn c.args.job.now (g.I.Read.remaining input) held holds audit_held audit_holds) c.new-reader.ensures.inner
+      inr (subst (λ input. EndsOn c.args.job.now (g.I.Read.remaining input) (writer_of held holds) (writer_of audit_held audit_holds)) c.new-reader.ensures.inner
           (ran c.args.job.now c.offline-report.result (g.I.Read.remaining (device_inner c.new-reader.result)) held holds audit_held audit_holds
           (record {
             left = g.I.Read.remaining (device_inner c.offline-report.new.reader);
