@@ -72,8 +72,7 @@ pub fn serve_admin<E: EntryLedger, H: RecordLedger, R: Source, W: Sink, C: Contr
     // All commands were read, their calls made, and their answers written.
     ensures serves { IfOk result (λ count.
         ServesAdmin count (reader_of (R.remaining reader.old) (R.remaining reader.new))
-        (writer_of (W.contents writer.old) (W.contents writer.new))
-        (handle_of handle.old handle.new)) }
+        (writer_of (W.contents writer.old) (W.contents writer.new)) (handle_of handle.old handle.new)) }
     ensures sound_reader { OnOk result (R.has_failed reader.new ≡ false) }
     ensures sound_writer { OnOk result (W.has_failed writer.new ≡ false) }
     // Where it stopped, what was read, done and written by then.
