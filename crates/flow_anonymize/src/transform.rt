@@ -26,6 +26,34 @@ use std::alloc::{AllocError, Global};
 ///
 /// # Errors
 /// Want of memory, which says nothing of the record.
+///
+/// # Examples
+///
+/// The record has a source address and a count of octets. The policy keeps 24 bits of the address,
+/// and nothing else:
+///
+/// ```rust
+/// use flow_anonymize::{Disclosure, RemovedField, disclose};
+/// use ipfix_session::Session;
+/// use policy_text::Policy;
+///
+/// let text = "policy 1\n\
+///     rule for acme in * from * to * pass\n\
+///     rule for acme in * from * to * element sourceIPv4Address truncate 24\n";
+/// let policy = Policy::parse(alloc, text)?;
+/// let message: &[u8] = b"\x00\x0a\x00\x2c\x65\x53\xf1\x00\x00\x00\x00\x00\x00\x00\x00\x07\
+///     \x00\x02\x00\x10\x01\x00\x00\x02\x00\x08\x00\x04\x00\x01\x00\x04\
+///     \x01\x00\x00\x0c\xc0\x00\x02\x4d\x00\x00\x05\xdc";
+/// let read = Session::new(alloc).apply(message)?;
+/// let records = read.records.to_vec(alloc)?;
+/// let flow_record = records.first().expect(&rt, "a record");
+/// let disclosure = disclose(alloc, &policy, "acme", 7, flow_record)?;
+/// let Disclosure::Passed { kept, removed } = disclosure else {
+///     panic!(rt; "it doesn't pass")
+/// };
+/// assert!(rt; kept.as_octets().as_slice() == b"\xc0\x00\x02\x00".as_slice());
+/// assert!(rt; removed.as_slice() == [RemovedField { place: 1, rule: 0 }].as_slice());
+/// ```
 pub fn disclose(
     alloc: Global,
     policy: &Policy,

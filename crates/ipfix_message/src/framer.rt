@@ -60,6 +60,26 @@ impl Framer {
     ///   this call. It ends the stream: every later call answers it.
     /// - `OutOfMemory` for want of memory. The piece is then no part of the stream, and nothing has
     ///   changed.
+    ///
+    /// # Examples
+    ///
+    /// A message that comes in two pieces is whole with the second one:
+    ///
+    /// ```rust
+    /// use ipfix_message::Framer;
+    ///
+    /// // A message without sets: a header with the version 10 and the length 16.
+    /// let whole: &[u8] = b"\x00\x0a\x00\x10\x65\x53\xf1\x00\x00\x00\x00\x00\x00\x00\x00\x07";
+    /// let mut framer = Framer::new(alloc);
+    /// let first = framer.feed(b"\x00\x0a\x00\x10\x65\x53\xf1")?;
+    /// assert!(rt; first.is_empty());
+    /// assert!(rt; framer.pending() == 7);
+    /// let second = framer.feed(b"\x00\x00\x00\x00\x00\x00\x00\x00\x07")?;
+    /// assert!(rt; second.len() == 1);
+    /// for message in &second {
+    ///     assert!(rt; message.as_slice() == whole);
+    /// }
+    /// ```
     pub fn feed(&mut self, piece: &[u8]) -> Result<Vec<Bytes>, FrameError>
         ensures ok { IfOk result (λ out. GoesOn self.old piece.now out.items self.new) }
         // No answer without messages hides a fault.

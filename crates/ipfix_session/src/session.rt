@@ -87,6 +87,30 @@ impl Session {
     /// - `Malformed` with its cause, where the octets are no message.
     /// - `RecordOverrun` where a Data Record goes past its set.
     /// - `OutOfMemory` for want of memory.
+    ///
+    /// # Examples
+    ///
+    /// An exporter defines a template, and sends a record of it. Its next message says by its Sequence
+    /// Number that five records were sent before it, but there was one:
+    ///
+    /// ```rust
+    /// use ipfix_session::{Gap, Session};
+    ///
+    /// // Domain 7 defines template 256, of octetDeltaCount in 4 octets, and sends a record of it.
+    /// let message: &[u8] = b"\x00\x0a\x00\x24\x65\x53\xf1\x00\x00\x00\x00\x00\x00\x00\x00\x07\
+    ///     \x00\x02\x00\x0c\x01\x00\x00\x01\x00\x01\x00\x04\x01\x00\x00\x08\x00\x00\x05\xdc";
+    /// let mut session = Session::new(alloc);
+    /// let read = session.apply(message)?;
+    /// assert!(rt; read.records.len() == 1);
+    /// assert!(rt; session.template(7, 256).is_some());
+    /// // The next message has the Sequence Number 5.
+    /// let next = session.apply(b"\x00\x0a\x00\x10\x65\x53\xf1\x00\x00\x00\x00\x05\x00\x00\x00\x07")?;
+    /// let gap = Gap {
+    ///     expected: 1,
+    ///     got: 5,
+    /// };
+    /// assert!(rt; next.gap == Some(gap));
+    /// ```
     pub fn apply(&mut self, message: &[u8]) -> Result<Read, ReadError>
         // The answer is what the message means after those before it, or its first fault.
         ensures meaning { (older : List (List ℕ)) → StandsFor self.old older

@@ -24,6 +24,33 @@ use std::marker::Model;
 ///
 /// Contracts see its history, which is its journal; the place up to which each live subscription's records were handed
 /// out; how many audit entries were drained; and its limits. A call that is refused changes nothing of that.
+///
+/// # Examples
+///
+/// An exporter's message defines a template, and brings a record of it. By the policy all passes, so acme gets a message:
+///
+/// ```rust
+/// use bytes::Bytes;
+/// use mediator_calls::{Limits, Mediator};
+///
+/// let limits = Limits {
+///     queue: 10,
+///     shapes: 10,
+///     audit: 10,
+///     entries: 10,
+///     octets: 1000,
+/// };
+/// let mut mediator = Mediator::new(alloc, limits)?;
+/// mediator.edit(
+///     "policy 1\nrule for * in * from * to * pass\nrule for * in * from * to * element * keep\n",
+/// )?;
+/// let acme = mediator.subscribe("acme")?;
+/// let session = mediator.open()?;
+/// let message: &[u8] = b"\x00\x0a\x00\x24\x65\x53\xf1\x00\x00\x00\x00\x00\x00\x00\x00\x07\
+///     \x00\x02\x00\x0c\x01\x00\x00\x01\x00\x01\x00\x04\x01\x00\x00\x08\x00\x00\x05\xdc";
+/// mediator.receive(session, 0, Bytes::copy_from_slice(alloc, message)?)?;
+/// assert!(rt; mediator.pull(acme, 1_700_000_060, 1400)?.is_some());
+/// ```
 pub struct Mediator {
     state: State<Journal>,
 }

@@ -91,6 +91,32 @@ fn answer_pull(mediator: &mut Mediator, sub: SubId, now: u32, target: u16) -> Re
 ///
 /// # Errors
 /// A limit is out of its range, or want of memory before the first call. No call was made then.
+///
+/// # Examples
+///
+/// A session is opened, and closed twice. The second time is refused, and that is a reply too:
+///
+/// ```rust
+/// use mediator_core::{Call, Fault, Limits, Reply, SessionId, run};
+///
+/// let limits = Limits {
+///     queue: 10,
+///     shapes: 10,
+///     audit: 10,
+///     entries: 10,
+///     octets: 1000,
+/// };
+/// let session = SessionId(1);
+/// let mut calls = Vec::new(alloc);
+/// calls.push(Call::Open)?;
+/// calls.push(Call::Close { session })?;
+/// calls.push(Call::Close { session })?;
+/// let transcript = run(alloc, limits, calls)?;
+/// let replies = transcript.replies;
+/// assert!(rt; replies.len() == 3);
+/// assert!(rt; matches!(replies.first(), Some(Reply::Opened(SessionId(1)))));
+/// assert!(rt; matches!(replies.last(), Some(Reply::Refused(Fault::UnknownSession))));
+/// ```
 pub fn run(alloc: Global, limits: Limits, calls: Vec<Call>) -> Result<Transcript, RunFault>
     // Each reply is that of its call, and the history has the entries of those that were accepted.
     ensures steps { IfOk result (IsRunOf limits calls.items) }

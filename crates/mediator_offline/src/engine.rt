@@ -153,6 +153,33 @@ ghost use Rattle.mediator_offline.specs.Filtering.{FiltersAll, FailsToFilter};
 /// doesn't end within the job's reads; at `Core`, where a message is refused or memory runs out; or at `Cut`, where a message
 /// cuts the subscriber. What is due for all messages before that one was written, and what more of it may have been is said with
 /// each fault.
+///
+/// # Examples
+///
+/// The stream is one message, which defines a template and brings a record of it. By the policy all passes:
+///
+/// ```rust
+/// use mediator_offline::{Device, OfflineJob, offline};
+///
+/// let job = OfflineJob {
+///     policy: "policy 1\nrule for * in * from * to * pass\nrule for * in * from * to * element * keep\n",
+///     name: "acme",
+///     now: 1_700_000_060,
+///     target: 1400,
+///     turns: 1000,
+///     audit: true,
+/// };
+/// let input: &[u8] = b"\x00\x0a\x00\x24\x65\x53\xf1\x00\x00\x00\x00\x00\x00\x00\x00\x07\
+///     \x00\x02\x00\x0c\x01\x00\x00\x01\x00\x01\x00\x04\x01\x00\x00\x08\x00\x00\x05\xdc";
+/// let mut reader = Device::new(input);
+/// let mut writer = Device::new(Vec::new(alloc));
+/// let mut audit = Device::new(Vec::new(alloc));
+/// let report = offline(alloc, &job, &mut reader, &mut writer, &mut audit)?;
+/// assert!(rt; report.disclosed == 1);
+/// let due: &[u8] = b"\x00\x0a\x00\x24\x65\x53\xf1\x3c\x00\x00\x00\x00\x00\x00\x00\x00\
+///     \x00\x02\x00\x0c\x01\x00\x00\x01\x00\x01\x00\x04\x01\x00\x00\x08\x00\x00\x05\xdc";
+/// assert!(rt; writer.into_inner().as_slice() == due);
+/// ```
 pub fn offline<R: Source, W: Sink, A: Sink>(
     alloc: Global,
     job: &OfflineJob<'_>,

@@ -70,6 +70,29 @@ impl Policy {
     /// in it that doesn't fit, or with its end ([`FaultKind`]). A text whose lines are all skipped
     /// has `NoHeader` in line 1. Where memory runs out before that fault, it is `OutOfMemory` in
     /// line 0.
+    ///
+    /// # Examples
+    ///
+    /// A policy is read, and printed again. A text that is no policy is refused, and the fault says why:
+    ///
+    /// ```rust
+    /// use policy_text::{FaultKind, Policy, PolicyFault};
+    ///
+    /// let text = "policy 1\n\
+    ///     rule for acme in * from 192.0.2.0/24 to * pass\n\
+    ///     rule for acme in * from * to * element sourceIPv4Address truncate 24\n";
+    /// let policy = Policy::parse(alloc, text)?;
+    /// assert!(rt; policy.rules().len() == 2);
+    /// assert!(rt; policy.print(alloc)?.as_str() == text);
+    /// // 192.0.2.1 has a bit past the first 24.
+    /// let wrong = "policy 1\nrule for acme in * from 192.0.2.1/24 to * pass\n";
+    /// let found = Policy::parse(alloc, wrong).err();
+    /// let fault = PolicyFault {
+    ///     line: 2,
+    ///     kind: FaultKind::BadPrefix,
+    /// };
+    /// assert!(rt; found == Some(fault));
+    /// ```
     pub fn parse(alloc: Global, text: &str) -> Result<Policy, PolicyFault>
         // What is read is spelled so.
         ensures found { IfOk result (λ policy. Spells text.now policy) }

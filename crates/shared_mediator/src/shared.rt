@@ -22,6 +22,36 @@ const LOOKS: u32 = 200;
 
 /// A mediator under a lock. Threads call it through handles, each of which is one thread's own: exporters offer messages,
 /// deliveries pull them, administrators do the rest.
+///
+/// # Examples
+///
+/// The octets of `message` bring one record. All handles are made, used and given back by one thread here; each may go
+/// to a thread of its own. `E` and `H` name the two ledgers. A function that is generic over them is called with
+/// `std::marker::Brand` for both. It is handed `entries`, which is `Blank::new(2 * handles + 1)`, and `handed`, which is
+/// `Blank::new(handles + 1)`.
+///
+/// ```rust
+/// use shared_mediator::SharedMediator;
+///
+/// let shared = SharedMediator::<E, H>::new(alloc, mediator, handles, entries, handed);
+/// let policy =
+///     "policy 1\nrule for * in * from * to * pass\nrule for * in * from * to * element * keep\n";
+/// let mut admin = shared.admin(rt).expect(rt, "an administrator");
+/// admin.edit(rt, &shared, policy).expect(rt, "an edit");
+/// let acme = admin.subscribe(rt, &shared, "acme").expect(rt, "acme");
+/// let mut exporter = shared.exporter(rt).expect(rt, "an exporter");
+/// exporter.offer(rt, &shared, message).expect(rt, "a receipt");
+/// let mut delivery = shared.delivery(rt, acme).expect(rt, "a delivery");
+/// let pulled = delivery.pull(rt, &shared, 1_700_000_060, 1400);
+/// assert!(rt; pulled == Ok(true));
+/// // All handles come back.
+/// let exporters = vec![in alloc; exporter].expect(rt, "memory");
+/// let deliveries = vec![in alloc; delivery].expect(rt, "memory");
+/// let admins = vec![in alloc; admin].expect(rt, "memory");
+/// let ended = shared.close(exporters, deliveries, admins);
+/// assert!(rt; matches!(&ended, Ok(closed) if closed.accepted == 1));
+/// assert!(rt; matches!(&ended, Ok(closed) if closed.handed == 1));
+/// ```
 #[derive(Drop)]
 pub struct SharedMediator<E: EntryLedger, H: RecordLedger> {
     pub(crate) alloc: Global,

@@ -279,6 +279,32 @@ impl Stream {
     ///
     /// # Errors
     /// `OutOfMemory` for want of memory for the message, and then the stream is as it was.
+    ///
+    /// # Examples
+    ///
+    /// The stream is given the record of an exporter's message. Its own first message announces the
+    /// template, and brings the record:
+    ///
+    /// ```rust
+    /// use ipfix_session::Session;
+    /// use subscriber_stream::{Limits, Stream};
+    ///
+    /// let message: &[u8] = b"\x00\x0a\x00\x24\x65\x53\xf1\x00\x00\x00\x00\x00\x00\x00\x00\x07\
+    ///     \x00\x02\x00\x0c\x01\x00\x00\x01\x00\x01\x00\x04\x01\x00\x00\x08\x00\x00\x05\xdc";
+    /// let read = Session::new(alloc).apply(message)?;
+    /// let limits = Limits {
+    ///     queue: 10,
+    ///     shapes: 10,
+    /// };
+    /// let mut stream = Stream::new(alloc, limits);
+    /// stream.reserve(&read.records)?;
+    /// assert!(rt; read.records.len() == 1 && stream.room(&read.records));
+    /// stream.push_reserved(read.records);
+    /// let sent = stream.pull(1_700_000_060, 1400)?.expect(&rt, "a message");
+    /// let due: &[u8] = b"\x00\x0a\x00\x24\x65\x53\xf1\x3c\x00\x00\x00\x00\x00\x00\x00\x00\
+    ///     \x00\x02\x00\x0c\x01\x00\x00\x01\x00\x01\x00\x04\x01\x00\x00\x08\x00\x00\x05\xdc";
+    /// assert!(rt; sent.as_slice() == due);
+    /// ```
     pub fn pull(&mut self, now: u32, target: u16) -> Result<Option<Bytes>, PullError>
         // The message is the one that is built at the place where the stream stands, and the stream then
         // stands after its parts.

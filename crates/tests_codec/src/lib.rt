@@ -10,6 +10,7 @@
 //! - `streams`: of `subscriber_stream`.
 //! - `devices`: of `octet_io`.
 //! - `intake`: of `ipfix_reader`.
+//! - `examples`: of the doc comments of `ipfix_message`, `ipfix_session` and `subscriber_stream`.
 //! - `records`: templates and records for the others.
 #![tactic(auto)]
 
@@ -17,6 +18,8 @@
 mod devices;
 #[cfg(test)]
 mod elements;
+#[cfg(test)]
+mod examples;
 #[cfg(test)]
 mod intake;
 #[cfg(test)]

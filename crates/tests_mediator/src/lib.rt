@@ -8,6 +8,7 @@
 //!   same calls, one of them prepared messages; `changes`: what changes between preparing and receiving; `flows`: the messages;
 //!   `steps`: all of it, many times.
 //! - `retried`: each call of a mediator, made again where memory is refused.
+//! - `examples`: of the doc comments of `mediator_calls` and `mediator_core`.
 #![tactic(auto)]
 
 #[cfg(test)]
@@ -18,6 +19,8 @@ mod calls;
 mod cases;
 #[cfg(test)]
 mod changes;
+#[cfg(test)]
+mod examples;
 #[cfg(test)]
 mod flows;
 #[cfg(test)]

@@ -8,6 +8,7 @@
 //! - `disclosures`: of `flow_anonymize`. `times`: of that crate too, where times are degraded, and of where such records count.
 //! - `audits`: of `disclosure_audit`.
 //! - `sharing`: of `mediator_shares`.
+//! - `examples`: of the doc comments of `policy_text` and `flow_anonymize`.
 //! - `groups`: of the groups of `mediator_tables`. `second_opinion`: on what they add up to, by a plain list of records.
 #![tactic(auto)]
 
@@ -15,6 +16,8 @@
 mod audits;
 #[cfg(test)]
 mod disclosures;
+#[cfg(test)]
+mod examples;
 #[cfg(test)]
 mod groups;
 #[cfg(test)]

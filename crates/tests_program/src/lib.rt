@@ -9,6 +9,7 @@
 //! - `verifying`: of `ipmd_verify`, on both; `explaining`: of `ipmd_explain`, where memory is refused.
 //! - `journals`: of `event_journal` and `journal_files`, and `histories`: of `history_verify` and `mediator_legal_runs`,
 //!   both where memory is refused; `octets`: files of journals.
+//! - `examples`: of the doc comments of `mediator_offline` and `history_verify`.
 //!
 //! What no clause says is shown too: that a call succeeds while there is memory. Where it is refused memory it is made again,
 //! and answers as if nothing had happened.
@@ -18,6 +19,8 @@
 mod answers;
 #[cfg(test)]
 mod devices;
+#[cfg(test)]
+mod examples;
 #[cfg(test)]
 mod explaining;
 #[cfg(test)]

@@ -6,12 +6,15 @@
 //! - `calls`: each call once by one thread, its refusals, and handles that are missing. `several`: three sessions and
 //!   subscriptions, of which the second end, and an audit that is handed out by pieces. `waits`: what ends the waits of two
 //!   threads. `crowd`: eight exporters and nine deliveries at once, and `replay`: the same journal replayed by one thread.
+//! - `examples`: of the doc comment of `SharedMediator`.
 #![tactic(auto)]
 
 #[cfg(test)]
 mod calls;
 #[cfg(test)]
 mod crowd;
+#[cfg(test)]
+mod examples;
 #[cfg(test)]
 mod octets;
 #[cfg(test)]
