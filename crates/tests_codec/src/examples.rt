@@ -50,8 +50,8 @@ fn messages_of_a_session(rt: HostRuntime) -> Result<(), Fail> {
     Ok(())
 }
 
-/// The subscriber's message has the same sets, since its first template has the ID 256 too (section 3.4.1). In its header are its
-/// own Export Time, 1700000060, Sequence Number 0 and domain 0.
+/// The subscriber's message has the same sets: IDs of templates begin at 256 (section 3.4.1), and this is the stream's first one. In
+/// its header are the Export Time 1700000060, the Sequence Number 0 and domain 0.
 #[test]
 fn messages_of_a_stream_of_records(rt: HostRuntime) -> Result<(), Fail> {
     let alloc = rt.alloc();
