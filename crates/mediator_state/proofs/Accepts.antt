@@ -7,7 +7,7 @@ use Rattle.std.proofs.lemmas.List.{length-map, length-drop, take-append-drop}
 use Rattle.ipfix_template.specs.DataRecord.{DataRecord}
 use Rattle.ipfix_session.specs.Keeping.{at_key}
 use Rattle.ipfix_session.specs.ReadAhead.{Ahead, IsReadingOf, HasRoomFor}
-use Rattle.subscriber_stream.specs.declared.limits.Limits.{Limits}
+use Rattle.subscriber_stream.specs.declared.limits.StreamLimits.{StreamLimits}
 use Rattle.subscriber_stream.specs.Parts.{parts, records_in}
 use Rattle.subscriber_stream.specs.Standing.{Standing, StandsAt, HasRoom, queued}
 use Rattle.subscriber_stream.proofs.CallLaws.{parts_bring}
@@ -101,7 +101,7 @@ same_spare n true (Some s) spare = spare
 same_spare n false s spare = spare
 
 -- a live subscription is ready for its share
-ready_one : (limits : Limits) (h : List Entry) (share : ℕ × List DataRecord) (s : Option Subscription) → AreInRange limits → length h ≤ 2 * MOST_ENTRIES → length (disclosed share.0 h) ≤ MOST_QUEUE * length h → IsLiveAs h limits share.0 s
+ready_one : (limits : StreamLimits) (h : List Entry) (share : ℕ × List DataRecord) (s : Option Subscription) → AreInRange limits → length h ≤ 2 * MOST_ENTRIES → length (disclosed share.0 h) ≤ MOST_QUEUE * length h → IsLiveAs h limits share.0 s
     → (0 < length share.1 → IsSomeAnd s (λ x. HasRoom x.stream share.1)) → IfSome s (λ x. length share.1 ≤ x.stream.spare) → IfSome s (λ x. IsReady x.stream share.1)
 ready_one limits h share None range short listed so room spare = tt
 ready_one limits h share (Some x) range short listed so room spare = record {

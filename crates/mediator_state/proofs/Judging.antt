@@ -26,7 +26,7 @@ use Rattle.ipfix_session.specs.ReadAhead.{Ahead, IsReadingOf}
 use Rattle.ipfix_session.specs.Standing.{StandsFor}
 use Rattle.ipfix_session.specs.declared.read_error.ReadError.{ReadError}
 use Rattle.flow_aggregate.specs.Counts.{Count, count_of}
-use Rattle.subscriber_stream.specs.declared.limits.Limits.{Limits}
+use Rattle.subscriber_stream.specs.declared.limits.StreamLimits.{StreamLimits}
 use Rattle.subscriber_stream.specs.Shapes.{shapes_after}
 use Rattle.subscriber_stream.specs.Standing.{Kept, HasRoom, queued}
 use Rattle.subscriber_stream.proofs.ShapeLaws.{shapes_on}
@@ -269,7 +269,7 @@ lacks_over e h so sub on more = there (at e.subscriptions sub) (so.subscriptions
   there : (o : Option Subscription) → IsLiveAs h e.limits sub o → option_map_or (λ s. lacks_room s.stream more) o false ≡ overflows e.limits (disclosed sub h) (waiting_in o) more
   there None gone = let live : is_live sub h ≡ true = served_is_live sub h on in absurd cc
   there (Some s) is =
-      ap (λ (l : Limits). nat_lt 0 (length more) && (nat_lt l.queue (queued s.stream.standing + length more) || nat_lt l.shapes (length (shapes_after s.stream.standing.shapes more)))) is.limits_are
+      ap (λ (l : StreamLimits). nat_lt 0 (length more) && (nat_lt l.queue (queued s.stream.standing + length more) || nat_lt l.shapes (length (shapes_after s.stream.standing.shapes more)))) is.limits_are
       ∙ ap (λ (shapes : List Template). nat_lt 0 (length more) && (nat_lt e.limits.queue (queued s.stream.standing + length more) || nat_lt e.limits.shapes (length shapes)))
       (ap (λ (shapes : List Template). shapes_after shapes more) is.stream.shapes ∙ sym (shapes_on (disclosed sub h) more))
 

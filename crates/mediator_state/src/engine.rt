@@ -26,7 +26,7 @@ use policy_text::Policy;
 use prepared_message::Snapshot;
 use std::alloc::{AllocError, Global};
 use std::sync::Arc;
-use subscriber_stream::{Limits, Stream};
+use subscriber_stream::{Stream, StreamLimits};
 
 /// What a mediator keeps beside its history. Contracts say by `Stands` for which histories it stands. Its calls change
 /// it by one entry, or by none.
@@ -35,7 +35,7 @@ pub(crate) struct Engine {
     /// By what tables are hashed whose entries exporters choose.
     keys: HashKeys,
     /// How much each subscription's stream may hold.
-    pub(crate) limits: Limits,
+    pub(crate) limits: StreamLimits,
     /// The policy in force, and the time of the clock.
     pub(crate) in_force: InForce,
     /// How many edits there were.
@@ -89,7 +89,7 @@ impl Engine {
     ///
     /// # Errors
     /// Want of memory.
-    pub(crate) fn new(alloc: Global, limits: Limits, audit: u32) -> Result<Engine, AllocError>
+    pub(crate) fn new(alloc: Global, limits: StreamLimits, audit: u32) -> Result<Engine, AllocError>
         requires range { AreInRange limits }
         requires least { 1 ≤ audit }
         requires most { audit ≤ MOST_AUDITED }
