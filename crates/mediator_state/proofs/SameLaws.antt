@@ -27,7 +27,7 @@ use Rattle.mediator_tables.specs.SubscriptionTable.{Seen, seen, at}
 use Rattle.mediator_shares.specs.InForce.{InForce}
 use Rattle.flow_aggregate.specs.Running.{Entries, StandsFor as StandsForRecords}
 use Rattle.mediator_state.specs.declared.engine.Engine.{Engine}
-use Rattle.mediator_state.specs.declared.plan.Plan.{Plan}
+use Rattle.mediator_state.specs.declared.plan.MessagePlan.{MessagePlan}
 use Rattle.mediator_state.specs.Standing.{place, IsSession, IsLiveAs, AreInRange, Stands}
 use Rattle.mediator_state.specs.Seen.{place_in, waiting_in, waiting_of, IsUntouched, IsSameEngine}
 use Rattle.mediator_shares.specs.Noting.{kept_of}
@@ -135,7 +135,7 @@ judged_same d e h entry cuts shares entries same j = record {
   streamable = j.streamable;
 }
 
-pub plan_same : (d e : Engine) (h : List Entry) (number : ℕ) (octets : List ℕ) (p : Plan) → IsSameEngine d e → IsPlan d h number octets p → IsPlan e h number octets p
+pub plan_same : (d e : Engine) (h : List Entry) (number : ℕ) (octets : List ℕ) (p : MessagePlan) → IsSameEngine d e → IsPlan d h number octets p → IsPlan e h number octets p
 plan_same d e h number octets p same plan = record {
   opened = plan.opened;
   turn = plan.turn;

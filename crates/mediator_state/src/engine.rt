@@ -15,7 +15,7 @@ ghost use Rattle.mediator_history.specs.Cuts.{after_cuts};
 
 use crate::closing::Closing;
 use crate::fault::Fault;
-use crate::plan::Plan;
+use crate::plan::MessagePlan;
 use crate::receipt::Receipt;
 use disclosure_audit::{Audit, AuditEntry, Note, What};
 use hash_keys::HashKeys;
@@ -383,7 +383,7 @@ impl Engine {
     /// # Errors
     /// [`Fault::AuditFull`] where the audit has no room for its cuts and notes; or [`Fault::OutOfMemory`]. Only
     /// reserved room has changed then.
-    pub(crate) fn make_room(&mut self, plan: &Plan) -> Result<Vec<Reserved>, Fault>
+    pub(crate) fn make_room(&mut self, plan: &MessagePlan) -> Result<Vec<Reserved>, Fault>
         ensures unchanged { IsSameEngine self.old self.new }
         ensures ok { IfOk result (λ reserved.
             HasRoomForPlan self.new plan.now (map reserved_for reserved.items)) }
@@ -400,7 +400,12 @@ impl Engine {
     /// Does what `plan` says, in the room that [`make_room`](Engine::make_room) made for it, behind a history of
     /// `position` entries. `reserved` is what that call made ready. The answer is the receipt of the message. It takes
     /// no memory and can't fail.
-    pub(crate) fn accept(&mut self, position: u64, plan: Plan, reserved: Vec<Reserved>) -> Receipt
+    pub(crate) fn accept(
+        &mut self,
+        position: u64,
+        plan: MessagePlan,
+        reserved: Vec<Reserved>,
+    ) -> Receipt
         requires room { HasRoomForPlan self.old plan (map reserved_for reserved.items) }
         requires planned { IsPlannedFor self.old position plan }
         // The message stands as the next entry, behind its cuts, and the receipt tells of it.
