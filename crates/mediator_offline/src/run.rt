@@ -51,8 +51,12 @@ impl<'a> Run<'a> {
         ensures ok { IfOk result (λ d. IsOpened d job.entry) }
         ensures err { IfErr result (λ e. RefusesJob e job.entry) }
     {
-        let tally = Tally::new(MOST_ENTRIES, MOST_OCTETS);
-        let mut state = State::new(alloc, LIMITS, DEFAULT_AUDIT, tally)?;
+        let mut state = State::new(
+            alloc,
+            LIMITS,
+            DEFAULT_AUDIT,
+            Tally::new(MOST_ENTRIES, MOST_OCTETS),
+        )?;
         state.edit(job.policy)?;
         state.subscribe(job.name)?;
         state.open()?;
