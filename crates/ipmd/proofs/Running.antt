@@ -6,7 +6,7 @@ use Rattle.std.proofs.KnownBytes.{Appends-trans, Appends-nil, Keeps-refl}
 use Rattle.std.proofs.lemmas.List.{length-append}
 use Rattle.std.proofs.lemmas.List.Concat.{flat_map-append}
 use Rattle.ipmd_settings.specs.Asked.{Asked}
-use Rattle.mediator_server.specs.declared.plan.Plan.{Plan}
+use Rattle.mediator_server.specs.declared.plan.RunPlan.{RunPlan}
 use Rattle.mediator_server.specs.Listening.{IsServed}
 use Rattle.mediator_calls.specs.declared.fault.RunFault.{RunFault}
 use Rattle.mediator_calls.specs.declared.fault.RunFault.TheVariants as run
@@ -43,7 +43,7 @@ begins service held asked = record {
 }
 
 -- a run by the plan
-pub is_run : (plan : Plan) (runs run : ℕ) (held holds : Option (List ℕ)) (made : Run) (so : IsToRun plan runs run held holds) → IsServed plan [] made.history made.accepted made.handed → IsRun so.asked so.policy made
+pub is_run : (plan : RunPlan) (runs run : ℕ) (held holds : Option (List ℕ)) (made : Run) (so : IsToRun plan runs run held holds) → IsServed plan [] made.history made.accepted made.handed → IsRun so.asked so.policy made
 is_run plan runs run held holds made so is_served = record { plan = plan; plan_is = so.plan_is; is_served = is_served }
 
 -- a run more whose journal was full
@@ -69,7 +69,7 @@ told_more before made held holds writes so more =
     subst (Appends held writes) (sym (flat_map-append served before (made ∷ []) ∙ ap (λ t. flat_map served before ++ t) (append-nil (served made)))) (Appends-trans held holds writes (flat_map served before) (served made) so more)
 
 -- another run is to follow
-pub goes_on : (plan next : Plan) (runs run : ℕ) (held holds writes : Option (List ℕ)) → IsToRun plan runs run held holds → MakesRun true plan next holds writes → run < runs → IsToRun next runs (run + 1) held writes
+pub goes_on : (plan next : RunPlan) (runs run : ℕ) (held holds writes : Option (List ℕ)) → IsToRun plan runs run held holds → MakesRun true plan next holds writes → run < runs → IsToRun next runs (run + 1) held writes
 goes_on plan next runs run held holds writes so makes more = record {
   text = so.text;
   asked = so.asked;
@@ -88,7 +88,7 @@ goes_on plan next runs run held holds writes so makes more = record {
   follows = followed makes.made.full makes.made.stopped makes.more_is
 
 -- it was the last one
-ends : (plan next : Plan) (runs run : ℕ) (more : Bool) (held holds writes : Option (List ℕ)) → IsToRun plan runs run held holds → MakesRun more plan next holds writes → (more ≡ false) ⊎ (runs ≤ run) → Serves held writes
+ends : (plan next : RunPlan) (runs run : ℕ) (more : Bool) (held holds writes : Option (List ℕ)) → IsToRun plan runs run held holds → MakesRun more plan next holds writes → (more ≡ false) ⊎ (runs ≤ run) → Serves held writes
 ends plan next runs run more held holds writes so makes last = record {
   text = so.text;
   asked = so.asked;
@@ -111,14 +111,14 @@ ends plan next runs run more held holds writes so makes last = record {
   ended (inl none) = unmade (unfollowed makes.made.full makes.made.stopped (sym none ∙ makes.more_is))
   ended (inr all) = inr (inr (omega (arith, so.counted, so.allowed, so.runs_are, all)))
 
-pub ends_early : (plan next : Plan) (runs run : ℕ) (more : Bool) (held holds writes : Option (List ℕ)) → IsToRun plan runs run held holds → MakesRun more plan next holds writes → more ≡ false → Serves held writes
+pub ends_early : (plan next : RunPlan) (runs run : ℕ) (more : Bool) (held holds writes : Option (List ℕ)) → IsToRun plan runs run held holds → MakesRun more plan next holds writes → more ≡ false → Serves held writes
 ends_early plan next runs run more held holds writes so makes none = ends plan next runs run more held holds writes so makes (inl none)
 
-pub ends_at_last : (plan next : Plan) (runs run : ℕ) (more : Bool) (held holds writes : Option (List ℕ)) → IsToRun plan runs run held holds → MakesRun more plan next holds writes → runs ≤ run → Serves held writes
+pub ends_at_last : (plan next : RunPlan) (runs run : ℕ) (more : Bool) (held holds writes : Option (List ℕ)) → IsToRun plan runs run held holds → MakesRun more plan next holds writes → runs ≤ run → Serves held writes
 ends_at_last plan next runs run more held holds writes so makes all = ends plan next runs run more held holds writes so makes (inr all)
 
 -- it stops behind the runs that were told
-pub stops : (plan : Plan) (runs run : ℕ) (held holds writes : Option (List ℕ)) (e : ProgramFault) → IsToRun plan runs run held holds → StopsRun e plan holds writes → StopsServing e held writes
+pub stops : (plan : RunPlan) (runs run : ℕ) (held holds writes : Option (List ℕ)) (e : ProgramFault) → IsToRun plan runs run held holds → StopsRun e plan holds writes → StopsServing e held writes
 stops plan runs run held holds writes e so stopped = record {
   text = so.text;
   asked = so.asked;

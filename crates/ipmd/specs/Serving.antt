@@ -1,18 +1,16 @@
 -- What `ipmd serve` does, as far as it can be told: what comes from other threads, from sockets and from files isn't told here.
-use Rattle.std.specs.Prelude.{◌≡◌, ◌⊎◌, ℕ, ◌+◌, ◌≤◌, ◌<◌, Bool, true, false, not, ◌&&◌, List, ◌∷◌, [], ◌++◌, length, map, codes, string_bytes, Vec, Option, None, Ok, unwrap_or}
+use Rattle.std.specs.Prelude.{◌≡◌, ◌⊎◌, ℕ, ◌+◌, ◌≤◌, ◌<◌, Bool, true, false, not, ◌&&◌, List, ◌∷◌, [], ◌++◌, length, codes, string_bytes, Option, None, Ok, unwrap_or}
 use Rattle.std.specs.List.{flat_map}
-use Rattle.std.specs.declared.alloc.Global.{Global}
 use Rattle.std.specs.Fmt.{decimal}
 use Rattle.std.specs.Io.KnownBytes.{Appends, Keeps}
 use Rattle.event_journal.specs.declared.entry.Entry.{Entry}
 use Rattle.event_journal.specs.LastEdit.{last_edit}
 use Rattle.mediator_calls.specs.Limited.{AreAllowed}
-use Rattle.ipmd_settings.specs.Asked.{Asked, Pair}
+use Rattle.ipmd_settings.specs.Asked.{Asked, pairs}
 use Rattle.ipmd_settings.specs.Faults.{IsFaultOf}
 use Rattle.ipmd_settings.specs.Reading.{settings_of}
 use Rattle.mediator_server.specs.Listening.{IsServed}
-use Rattle.mediator_server.specs.declared.plan.Plan.{Plan}
-use Rattle.mediator_server.specs.declared.plan.Collector.{Collector}
+use Rattle.mediator_server.specs.declared.plan.RunPlan.{RunPlan}
 use Rattle.mediator_server.specs.declared.listening.Ended.{Ended}
 use Rattle.mediator_server.specs.declared.listening.ListenFault.{ListenFault}
 use Rattle.mediator_server.specs.declared.listening.ListenFault.TheVariants as listen
@@ -27,15 +25,8 @@ use Rattle.ipmd.specs.declared.serve.Service.{Service}
 
 -- ---- before anything is served
 
--- to whom a plan delivers: names and addresses, in their order
-abbrev pub collector_pair : Collector → Pair
-collector_pair collector = (string_bytes collector.name, string_bytes collector.address)
-
-abbrev pub collectors_in : Vec Collector Global → List Pair
-collectors_in collectors = map collector_pair collectors.items
-
 -- the plan is the one that settings ask for, with a policy of this text
-pub record IsPlanOf (asked : Asked) (policy : List ℕ) (plan : Plan) : Type 0 where
+pub record IsPlanOf (asked : Asked) (policy : List ℕ) (plan : RunPlan) : Type 0 where
   pub exporters : string_bytes plan.exporters ≡ asked.exporters
   pub admin : string_bytes plan.admin ≡ asked.admin
   pub policy_is : string_bytes plan.policy ≡ policy
@@ -49,7 +40,7 @@ pub record IsPlanOf (asked : Asked) (policy : List ℕ) (plan : Plan) : Type 0 w
   pub hold : plan.hold ≡ asked.hold
   pub drain : plan.drain ≡ asked.drain
   pub limits : plan.limits ≡ asked.limits
-  pub deliver : collectors_in plan.deliver ≡ asked.collectors
+  pub deliver : pairs plan.deliver ≡ asked.collectors
 
 -- what these settings ask for, with a policy of this text
 pub record IsServiceOf (asked : Asked) (policy : List ℕ) (service : Service) : Type 0 where
@@ -112,7 +103,7 @@ run_of ended = record {
 -- a plan that these settings ask for, with a policy of this text, was served to its end: in the journal, which began empty, each entry
 -- that is to have a receipt has one, and as many messages and records as the receipts have are the run's counts
 pub record IsRun (asked : Asked) (policy : List ℕ) (run : Run) : Type 0 where
-  pub plan : Plan
+  pub plan : RunPlan
   pub plan_is : IsPlanOf asked policy plan
   pub is_served : IsServed plan [] run.history run.accepted run.handed
 
@@ -201,7 +192,7 @@ abbrev pub is_followed : Run → Bool
 is_followed run = run.full && not run.stopped
 
 -- a run was made by the plan and told; where another is to follow, the plan begins with its last policy then
-pub record MakesRun (more : Bool) (old new : Plan) (held holds : Option (List ℕ)) : Type 0 where
+pub record MakesRun (more : Bool) (old new : RunPlan) (held holds : Option (List ℕ)) : Type 0 where
   pub made : Run
   pub is_served : IsServed old [] made.history made.accepted made.handed
   pub told : Appends held holds (served made)
@@ -209,12 +200,12 @@ pub record MakesRun (more : Bool) (old new : Plan) (held holds : Option (List �
   pub renewed : more ≡ true → (asked : Asked) (policy : List ℕ) → IsPlanOf asked policy old → IsPlanOf asked (policy_after policy made.history) new
 
 -- no run was made, and nothing was written; or a run was made, and isn't told whole or kept
-abbrev pub StopsRun : ProgramFault → Plan → Option (List ℕ) → Option (List ℕ) → Type 0
+abbrev pub StopsRun : ProgramFault → RunPlan → Option (List ℕ) → Option (List ℕ) → Type 0
 StopsRun e plan held holds =
     (IsBeginFault e × Keeps held holds) ⊎ ((made : Run) × IsServed plan [] made.history made.accepted made.handed × RefusesToTell e made held holds)
 
 -- runs were made and told, and another one of this number is to follow by this plan
-pub record IsToRun (plan : Plan) (runs run : ℕ) (held holds : Option (List ℕ)) : Type 0 where
+pub record IsToRun (plan : RunPlan) (runs run : ℕ) (held holds : Option (List ℕ)) : Type 0 where
   pub text : List ℕ
   pub asked : Asked
   pub read : settings_of text ≡ Ok asked

@@ -17,7 +17,7 @@ use ipmd_commands::{Place, ProgramFault, write_text};
 use ipmd_run_journals::{first_free, keep_run};
 use log::{Log, info};
 use mediator_calls::{Limits, Mediator};
-use mediator_server::{Ended, ListenFault, Plan, listen};
+use mediator_server::{Ended, ListenFault, RunPlan, listen};
 use octet_io::Device;
 use std::alloc::{AllocError, Global};
 use std::hash::RandomState;
@@ -93,7 +93,7 @@ fn serve_run<
     noting: &N,
     limits: Limits,
     keys: HashKeys,
-    plan: &mut Plan,
+    plan: &mut RunPlan,
     keeping: &mut Keeping,
     output: &mut Device<O>,
 ) -> Result<bool, ProgramFault>
@@ -163,7 +163,7 @@ fn make_run<
 >(
     noting: &N,
     alloc: Global,
-    plan: &Plan,
+    plan: &RunPlan,
     limits: Limits,
     keys: HashKeys,
 ) -> Result<Ended, ProgramFault>
@@ -249,7 +249,7 @@ fn keep<R: Files + AllocGlobal>(
 ///
 /// # Errors
 /// `OutOfMemory`.
-fn renew_policy(alloc: Global, plan: &mut Plan, journal: &Journal) -> Result<(), AllocError>
+fn renew_policy(alloc: Global, plan: &mut RunPlan, journal: &Journal) -> Result<(), AllocError>
     ensures { OnOk result ((asked : Asked) (policy : List ℕ) → IsPlanOf asked policy plan.old
         → IsPlanOf asked (policy_after policy journal.now.entries) plan.new) }
 {

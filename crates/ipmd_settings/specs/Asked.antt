@@ -2,8 +2,8 @@
 use Rattle.std.specs.Prelude.{ℕ, Bool, List, map, Option, option_map, string_bytes, Vec}
 use Rattle.std.specs.declared.alloc.Global.{Global}
 use Rattle.mediator_calls.specs.declared.limits.Limits.{Limits}
+use Rattle.mediator_connections.specs.declared.collector.Collector.{Collector}
 use Rattle.ipmd_settings.specs.declared.settings.Settings.{Settings}
-use Rattle.ipmd_settings.specs.declared.settings.Collector.{Collector}
 
 -- a subscriber's name, and the address of its collector
 abbrev pub Pair : Type 0

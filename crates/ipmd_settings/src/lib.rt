@@ -1,7 +1,7 @@
 //! The settings of `ipmd serve`, read from TOML. It opens no file and makes no connection: addresses and names are texts
 //! here, and whoever uses them says what is wrong with them.
 //!
-//! - `settings`: [`Settings`] and [`Collector`], what was read.
+//! - `settings`: [`Settings`], what was read. [`Collector`] is that of `mediator_connections`.
 //! - `reading`: [`read_settings`], with [`LONGEST_TEXT`].
 //! - `key`: [`Key`], a key of settings. `fault`: [`SettingsFault`], why a text gives no settings.
 //! - `values`: what stands at a key.
@@ -27,5 +27,6 @@ mod values;
 pub use fault::SettingsFault;
 pub use key::Key;
 pub use laws::allowed_limits_are_read;
+pub use mediator_connections::Collector;
 pub use reading::{LONGEST_TEXT, read_settings};
-pub use settings::{Collector, Settings};
+pub use settings::Settings;

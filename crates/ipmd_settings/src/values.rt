@@ -10,7 +10,7 @@ ghost use Rattle.ipmd_settings.specs.Values.{text_in, text_at, text_or_none, wit
 
 use crate::fault::SettingsFault;
 use crate::key::Key;
-use crate::settings::Collector;
+use mediator_connections::Collector;
 use std::alloc::Global;
 use toml::{Table, Value};
 

@@ -4,7 +4,7 @@ use Rattle.std.specs.Prelude.{◌≢◌, ◌==◌, unwrap_or, OnOk, OnErr, IfOk,
 use Rattle.std.proofs.lemmas.Bool.{false≢true, eq-eqb}
 use Rattle.sequences.proofs.BeforeLaws.{last_of-push}
 use Rattle.ipfix_session.specs.Meaning.{meaning_of}
-use Rattle.subscriber_stream.specs.declared.limits.Limits.{Limits as Streamed}
+use Rattle.subscriber_stream.specs.declared.limits.StreamLimits.{StreamLimits}
 use Rattle.subscriber_stream.specs.Message.{built, place_after}
 use Rattle.disclosure_audit.specs.declared.entry.AuditEntry.{AuditEntry}
 use Rattle.event_journal.specs.declared.entry.Entry.{Entry}
@@ -64,7 +64,7 @@ on_err_none P r x is = rw is tt
 
 limits_same : (s t : State Kept) → t.engine.limits ≡ s.engine.limits → t.engine.audit.limit ≡ s.engine.audit.limit → t.chronicle.limits ≡ s.chronicle.limits → (view_of t).limits ≡ (view_of s).limits
 limits_same s t streams audit journal =
-    let of_streams : Streamed → Limits = λ l. record { queue = l.queue; shapes = l.shapes; audit = t.engine.audit.limit; entries = t.chronicle.limits.entries; octets = t.chronicle.limits.octets } in
+    let of_streams : StreamLimits → Limits = λ l. record { queue = l.queue; shapes = l.shapes; audit = t.engine.audit.limit; entries = t.chronicle.limits.entries; octets = t.chronicle.limits.octets } in
     let of_audit : ℕ → Limits = λ n. record { queue = s.engine.limits.queue; shapes = s.engine.limits.shapes; audit = n; entries = t.chronicle.limits.entries; octets = t.chronicle.limits.octets } in
     let of_journal : Journaled → Limits = λ l. record { queue = s.engine.limits.queue; shapes = s.engine.limits.shapes; audit = s.engine.audit.limit; entries = l.entries; octets = l.octets } in
     ap of_streams streams ∙ ap of_audit audit ∙ ap of_journal journal

@@ -6,7 +6,7 @@ use Rattle.std.proofs.lemmas.Bool.{ltb-false, eqb-true, eqb-false, and_parts}
 use Rattle.std.proofs.lemmas.List.{length-drop, drop-drop, drop-append-le, take-append-drop}
 use Rattle.sequences.proofs.BeforeLaws.{last_of-push}
 use Rattle.ipfix_template.specs.DataRecord.{DataRecord}
-use Rattle.subscriber_stream.specs.declared.limits.Limits.{Limits as Streamed}
+use Rattle.subscriber_stream.specs.declared.limits.StreamLimits.{StreamLimits}
 use Rattle.subscriber_stream.specs.Shapes.{shapes_of}
 use Rattle.subscriber_stream.specs.Parts.{Part, parts, records_in}
 use Rattle.subscriber_stream.specs.Message.{taken}
@@ -67,10 +67,10 @@ waits_less ps n = omega (arith, counts_add (take n ps) (drop n ps), ap count_in 
 -- ---- what an entry brings
 
 -- where there are some records, the limits leave room for them
-abbrev pub Fits : Streamed → List DataRecord → ℕ → List DataRecord → Type 0
+abbrev pub Fits : StreamLimits → List DataRecord → ℕ → List DataRecord → Type 0
 Fits limits listed waiting more = 0 < length more → (waiting + length more ≤ limits.queue) × (length (shapes_of (listed ++ more)) ≤ limits.shapes)
 
-uncut_fits : (limits : Streamed) (listed : List DataRecord) (waiting : ℕ) (more : List DataRecord) → overflows limits listed waiting more ≡ false → Fits limits listed waiting more
+uncut_fits : (limits : StreamLimits) (listed : List DataRecord) (waiting : ℕ) (more : List DataRecord) → overflows limits listed waiting more ≡ false → Fits limits listed waiting more
 uncut_fits limits listed waiting more none some = first (nat_lt 0 (length more)) refl none where
   last : (b c : Bool) → nat_lt limits.queue (waiting + length more) ≡ b → nat_lt limits.shapes (length (shapes_of (listed ++ more))) ≡ c → (b || c) ≡ false → (waiting + length more ≤ limits.queue) × (length (shapes_of (listed ++ more)) ≤ limits.shapes)
   last true c f g over = absurd cc
@@ -92,15 +92,15 @@ pub record Brings (old : Mediation) (more : List Entry) : Type 0 where
   pub notes : audit_list (old.history ++ more) ≡ audit_list old.history ++ noted
   pub audit : length (drop old.drained (audit_list (old.history ++ more))) ≤ old.limits.audit
 
-few_given : (limits : Streamed) (listed : List DataRecord) (waiting : ℕ) (more : List DataRecord) → Fits limits listed waiting more → length more ≤ limits.queue
+few_given : (limits : StreamLimits) (listed : List DataRecord) (waiting : ℕ) (more : List DataRecord) → Fits limits listed waiting more → length more ≤ limits.queue
 few_given limits listed waiting [] fits = omega arith
 few_given limits listed waiting (r ∷ more) fits = omega (arith, (fits (omega arith)).0)
 
-few_wait : (limits : Streamed) (listed : List DataRecord) (waiting : ℕ) (more : List DataRecord) → waiting ≤ limits.queue → Fits limits listed waiting more → waiting + length more ≤ limits.queue
+few_wait : (limits : StreamLimits) (listed : List DataRecord) (waiting : ℕ) (more : List DataRecord) → waiting ≤ limits.queue → Fits limits listed waiting more → waiting + length more ≤ limits.queue
 few_wait limits listed waiting [] low fits = omega (arith, low)
 few_wait limits listed waiting (r ∷ more) low fits = (fits (omega arith)).0
 
-few_shapes : (limits : Streamed) (listed : List DataRecord) (waiting : ℕ) (more : List DataRecord) → length (shapes_of listed) ≤ limits.shapes → Fits limits listed waiting more → length (shapes_of (listed ++ more)) ≤ limits.shapes
+few_shapes : (limits : StreamLimits) (listed : List DataRecord) (waiting : ℕ) (more : List DataRecord) → length (shapes_of listed) ≤ limits.shapes → Fits limits listed waiting more → length (shapes_of (listed ++ more)) ≤ limits.shapes
 few_shapes limits listed waiting [] low fits = subst (λ (l : List DataRecord). length (shapes_of l) ≤ limits.shapes) (sym (append-nil listed)) low
 few_shapes limits listed waiting (r ∷ more) low fits = (fits (omega arith)).1
 

@@ -5,7 +5,7 @@ use Rattle.std.specs.List.{flat_map, AllByRecursion}
 use Rattle.std.proofs.lemmas.Bool.{eqb-true, eq-eqb, or_right}
 use Rattle.std.proofs.lemmas.Grind.{flat_map-append}
 use Rattle.std.proofs.lemmas.List.Concat.{flat_map-cons}
-use Rattle.subscriber_stream.specs.declared.limits.Limits.{Limits as Streamed}
+use Rattle.subscriber_stream.specs.declared.limits.StreamLimits.{StreamLimits}
 use Rattle.subscriber_stream.specs.Parts.{Part, parts, records_in}
 use Rattle.event_journal.specs.declared.entry.Entry.{Entry}
 use Rattle.event_journal.specs.declared.entry.Entry.TheVariants.{Subscribe, Cut}
@@ -56,7 +56,7 @@ reached_in e sub (x ∷ xs) = by_number (x == sub) refl (reached_in e sub xs) wh
   by_number false is others = others
 
 -- what isn't live has no place
-unplaced : (h : List Entry) (limits : Streamed) (sub : ℕ) (o : Option Subscription) → IsLiveAs h limits sub o → is_live sub h ≡ false → place_in o ≡ 0
+unplaced : (h : List Entry) (limits : StreamLimits) (sub : ℕ) (o : Option Subscription) → IsLiveAs h limits sub o → is_live sub h ≡ false → place_in o ≡ 0
 unplaced h limits sub None is off = refl
 unplaced h limits sub (Some s) is off = let on : is_live sub h ≡ true = is.live in absurd cc
 
@@ -73,7 +73,7 @@ pub unplaced_at : (s : State Kept) → StandsForJournal s → (sub : ℕ) → is
 unplaced_at s stands sub off = place_is s stands sub ∙ unplaced s.chronicle.entries s.engine.limits sub (at s.engine.subscriptions sub) (stands.stands.subscriptions sub) off
 
 -- no place is past the end
-ends : (h : List Entry) (limits : Streamed) (sub : ℕ) (o : Option Subscription) → IsLiveAs h limits sub o → place_in o ≤ length (parts (disclosed sub h))
+ends : (h : List Entry) (limits : StreamLimits) (sub : ℕ) (o : Option Subscription) → IsLiveAs h limits sub o → place_in o ≤ length (parts (disclosed sub h))
 ends h limits sub None is = omega arith
 ends h limits sub (Some s) is = is.stream.within
 
@@ -82,7 +82,7 @@ within s stands sub = omega (arith, place_is s stands sub, ends s.chronicle.entr
 
 -- ---- how many records wait
 
-waits : (h : List Entry) (limits : Streamed) (sub : ℕ) (o : Option Subscription) → IsLiveAs h limits sub o → is_live sub h ≡ true → waiting_in o ≡ length (records_in (drop (place_in o) (parts (disclosed sub h))))
+waits : (h : List Entry) (limits : StreamLimits) (sub : ℕ) (o : Option Subscription) → IsLiveAs h limits sub o → is_live sub h ≡ true → waiting_in o ≡ length (records_in (drop (place_in o) (parts (disclosed sub h))))
 waits h limits sub None is on = absurd cc
 waits h limits sub (Some s) is on = ap (λ (ps : List Part). length (records_in ps)) is.stream.waiting
 

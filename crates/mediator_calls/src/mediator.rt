@@ -18,6 +18,7 @@ use mediator_tables::Share;
 use prepared_message::{JudgedAhead, Prepared, Snapshot};
 use std::alloc::{AllocError, Global};
 use std::marker::Model;
+use subscriber_stream::StreamLimits;
 
 /// A mediator: sessions of exporters, a policy, subscriptions that are given what the policy discloses to them, and an
 /// audit of what it keeps back. All that it accepted stands in its journal.
@@ -87,13 +88,12 @@ impl Mediator {
         if !limits.are_allowed() {
             return Err(RunFault::BadLimits);
         }
-        let held = mediator_state::Limits {
+        let streams = StreamLimits {
             queue: limits.queue,
             shapes: limits.shapes,
-            audit: limits.audit,
         };
         let journal = Journal::new(alloc, limits.entries, limits.octets);
-        let state = State::new(alloc, held, journal)?;
+        let state = State::new(alloc, streams, limits.audit, journal)?;
         Ok(Mediator { state })
     }
 

@@ -4,7 +4,7 @@
 //! messages `ipfix_reader`'s, and what lines mean `admin_text`'. Sockets and threads are `mediator_server`'s.
 //!
 //! - `exporter`: [`serve_exporter`], the messages of a stream.
-//! - `delivery`: [`deliver`], the messages of a subscription.
+//! - `delivery`: [`deliver`], the messages of a subscription. `collector`: [`Collector`], to whom they are sent.
 //! - `admin`: [`serve_admin`], the commands of an administrator's connection, which `command_input` cuts out of its octets.
 //! - `control`: [`Reception`] and [`Control`], what an exporter's and an administrator's connection ask of their server and tell it,
 //!   and [`Patience`], how long they wait for room in the queues, as `room` does.
@@ -44,6 +44,7 @@
 
 mod admin;
 mod clock;
+mod collector;
 mod command_input;
 mod control;
 mod delivery;
@@ -53,6 +54,7 @@ mod room;
 
 pub use admin::serve_admin;
 pub use clock::Clock;
+pub use collector::Collector;
 pub use control::{Control, Patience, Reception};
 pub use delivery::deliver;
 pub use exporter::{Served, serve_exporter};

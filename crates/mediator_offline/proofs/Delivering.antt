@@ -14,7 +14,7 @@ use Rattle.stream_meaning.proofs.Sets.{known_split}
 use Rattle.stream_meaning.proofs.Steps.{run_fits}
 use Rattle.stream_meaning.proofs.Listed.{parts_known}
 use Rattle.octet_io.specs.Written.{WritesFront}
-use Rattle.subscriber_stream.specs.declared.limits.Limits.{Limits}
+use Rattle.subscriber_stream.specs.declared.limits.StreamLimits.{StreamLimits}
 use Rattle.mediator_history.specs.Subscriptions.{is_live}
 use Rattle.mediator_history.proofs.EntryLaws.{served_is_live}
 use Rattle.mediator_tables.specs.declared.subscription.Subscription.{Subscription}
@@ -137,7 +137,7 @@ parts_in (Some s) = s.stream.standing.waiting
 abbrev pub parts_waiting : Run → List Part
 parts_waiting d = parts_in (table.at d.state.engine.subscriptions 1)
 
-parts_behind : (h : List HistoryEntry) (limits : Limits) (o : Option Subscription) → IsLiveAs h limits 1 o → is_live 1 h ≡ true → parts_in o ≡ drop (place_in o) (parts (disclosed 1 h))
+parts_behind : (h : List HistoryEntry) (limits : StreamLimits) (o : Option Subscription) → IsLiveAs h limits 1 o → is_live 1 h ≡ true → parts_in o ≡ drop (place_in o) (parts (disclosed 1 h))
 parts_behind h limits None is live = absurd (no (sym is ∙ live))
   where
     no : false ≡ true → ⊥

@@ -3,7 +3,7 @@ use Rattle.std.proofs.Common.{◌≡◌, ℕ, inl, inr, true, false, List, [], �
 use Rattle.std.specs.List.{All}
 use Rattle.std.proofs.lemmas.List.{drop_all}
 use Rattle.std.proofs.lemmas.List.Elements.{All-nil, All-cons}
-use Rattle.subscriber_stream.specs.declared.limits.Limits.{Limits}
+use Rattle.subscriber_stream.specs.declared.limits.StreamLimits.{StreamLimits}
 use Rattle.event_journal.specs.declared.entry.Entry.{Entry}
 use Rattle.event_journal.specs.declared.entry.Entry.TheVariants.{Open, Edit, Subscribe}
 use Rattle.event_journal.specs.Counted.{Counted}
@@ -69,7 +69,7 @@ opened_stands a b c d job n k i m e s o =
     let got = o (Edit job.policy.now ∷ Subscribe 1 job.name.now ∷ []) (subscribed_stands a b c job n k m e s) in
     subst (λ x. StandsFor tells d (Edit job.policy.now ∷ Subscribe 1 job.name.now ∷ Open x ∷ [])) got.number got.accepts.stands
 
-at_start : (limits : Limits) (o : Option Subscription) → IsLiveAs [] limits 1 o → place_in o ≡ 0
+at_start : (limits : StreamLimits) (o : Option Subscription) → IsLiveAs [] limits 1 o → place_in o ≡ 0
 at_start limits None is = refl
 at_start limits (Some s) is = absurd (no is.live)
   where

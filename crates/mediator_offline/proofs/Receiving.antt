@@ -10,7 +10,7 @@ use Rattle.std.proofs.lemmas.List.Concat.{flat_map-cons}
 use Rattle.std.proofs.lemmas.List.FromFn.{length-enumerate_from}
 use Rattle.sequences.proofs.BeforeLaws.{last_of-push}
 use Rattle.ipfix_session.specs.Meaning.{meaning_of, domain_of}
-use Rattle.subscriber_stream.specs.declared.limits.Limits.{Limits}
+use Rattle.subscriber_stream.specs.declared.limits.StreamLimits.{StreamLimits}
 use Rattle.subscriber_stream.specs.Parts.{parts, records_in}
 use Rattle.policy_text.specs.Policies.{Aggregate}
 use Rattle.flow_anonymize.specs.Outcome.{Outcome, Passes, Aggregates, Withholds}
@@ -60,7 +60,7 @@ err_gives (Err e) known f = f e known.1
 
 -- ---- where the subscription stands
 
-place_within : (h : List Entry) (limits : Limits) (o : Option Subscription) → IsLiveAs h limits 1 o → is_live 1 h ≡ true → place_in o ≤ end_of h
+place_within : (h : List Entry) (limits : StreamLimits) (o : Option Subscription) → IsLiveAs h limits 1 o → is_live 1 h ≡ true → place_in o ≤ end_of h
 place_within h limits None is live = absurd (no is live)
   where
     no : is_live 1 h ≡ false → is_live 1 h ≡ true → ⊥
@@ -73,7 +73,7 @@ pub within_end : (d : Run) (h : List Entry) (p : ℕ) → Stands d h p → p ≤
 within_end d h p so = subst (λ q. q ≤ end_of h) so.place
     (place_within h d.state.engine.limits (at d.state.engine.subscriptions 1) (so.state.stands.subscriptions 1) (served_is_live 1 h so.serving))
 
-none_waits : (h : List Entry) (limits : Limits) (o : Option Subscription) → IsLiveAs h limits 1 o → place_in o ≡ end_of h → waiting_in o ≡ 0
+none_waits : (h : List Entry) (limits : StreamLimits) (o : Option Subscription) → IsLiveAs h limits 1 o → place_in o ≡ end_of h → waiting_in o ≡ 0
 none_waits h limits None is here = refl
 none_waits h limits (Some s) is here =
     ap (λ ps. length (records_in ps)) (is.stream.waiting ∙ ap (λ n. drop n (parts (disclosed 1 h))) here ∙ drop_all (end_of h) (parts (disclosed 1 h)) (omega arith))
@@ -83,7 +83,7 @@ small_of d h p so entries octets records = record { entries = entries; octets = 
 
 -- ---- whom a message cuts
 
-cuts_alone : (limits : Limits) (h : List Entry) (entry : Entry) (w v : ℕ → ℕ) → served h ≡ 1 ∷ [] → w 1 ≡ v 1 → cuts_before limits h entry w ≡ cuts_before limits h entry v
+cuts_alone : (limits : StreamLimits) (h : List Entry) (entry : Entry) (w v : ℕ → ℕ) → served h ≡ 1 ∷ [] → w 1 ≡ v 1 → cuts_before limits h entry w ≡ cuts_before limits h entry v
 cuts_alone limits h entry w v alone same =
     ap (λ subs. map Cut (filter (is_cut_by limits h entry w) subs)) alone
     ∙ ap (λ n. map Cut (filter (λ (sub : ℕ). overflows limits (disclosed sub h) n (given_at sub h entry)) (1 ∷ []))) same

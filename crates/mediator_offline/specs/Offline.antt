@@ -2,7 +2,7 @@
 use Rattle.std.specs.Prelude.{ℕ, zero, suc, List, [], ◌∷◌, ◌++◌, length, fold, Option, Some, None}
 use Rattle.sequences.specs.Before.{each_with_before}
 use Rattle.ipfix_template.specs.DataRecord.{DataRecord}
-use Rattle.subscriber_stream.specs.declared.limits.Limits.{Limits}
+use Rattle.subscriber_stream.specs.declared.limits.StreamLimits.{StreamLimits}
 use Rattle.subscriber_stream.specs.declared.limits.TheConstants.{MOST_SHAPES}
 use Rattle.subscriber_stream.specs.Parts.{parts}
 use Rattle.subscriber_stream.specs.Message.{built, place_after}
@@ -19,7 +19,7 @@ use Rattle.mediator_history.specs.Cuts.{cuts_before}
 use Rattle.mediator_state.specs.declared.state.TheConstants.{DEFAULT_AUDIT, DEFAULT_QUEUE}
 
 -- how many records may wait for a subscriber, and how many shapes its records may have
-abbrev pub stream_limits : Limits
+abbrev pub stream_limits : StreamLimits
 stream_limits = record { queue = DEFAULT_QUEUE; shapes = MOST_SHAPES }
 
 -- how many audit entries may wait

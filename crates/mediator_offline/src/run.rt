@@ -5,16 +5,14 @@ ghost use Rattle.event_journal.specs.Room.{Limits as Journaled};
 use crate::job::OfflineJob;
 use bytes::Bytes;
 use event_journal::{MOST_ENTRIES, MOST_OCTETS, Tally};
-use mediator_state::{DEFAULT_AUDIT, DEFAULT_QUEUE, Fault, Limits, State};
+use mediator_state::{DEFAULT_AUDIT, DEFAULT_QUEUE, Fault, State};
 use std::alloc::Global;
-use subscriber_stream::MOST_SHAPES;
+use subscriber_stream::{MOST_SHAPES, StreamLimits};
 
-/// How many records may wait for the subscriber, how many templates its records may have, and how many entries may wait in
-/// the audit.
-const LIMITS: Limits = Limits {
+/// How many records may wait for the subscriber, and how many templates its records may have.
+const LIMITS: StreamLimits = StreamLimits {
     queue: DEFAULT_QUEUE,
     shapes: MOST_SHAPES,
-    audit: DEFAULT_AUDIT,
 };
 
 /// The number of the one session.
@@ -53,7 +51,12 @@ impl<'a> Run<'a> {
         ensures ok { IfOk result (λ d. IsOpened d job.entry) }
         ensures err { IfErr result (λ e. RefusesJob e job.entry) }
     {
-        let mut state = State::new(alloc, LIMITS, Tally::new(MOST_ENTRIES, MOST_OCTETS))?;
+        let mut state = State::new(
+            alloc,
+            LIMITS,
+            DEFAULT_AUDIT,
+            Tally::new(MOST_ENTRIES, MOST_OCTETS),
+        )?;
         state.edit(job.policy)?;
         state.subscribe(job.name)?;
         state.open()?;

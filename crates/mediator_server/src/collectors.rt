@@ -4,7 +4,6 @@ use crate::connections::Connection;
 use crate::listeners::OwnAddresses;
 use crate::machine_clock::MachineClock;
 use crate::notes;
-use crate::plan::Collector;
 use crate::roster::Reach;
 use crate::send_queue::is_sent;
 use crate::service::Service;
@@ -12,7 +11,7 @@ use crate::socket_options::{look_while_reading, prepare_to_write, reset};
 use crate::stream_calls::{PatientWriter, say_farewell};
 use crate::time::{has_passed, now};
 use log::Log;
-use mediator_connections::{ServeFault, deliver};
+use mediator_connections::{Collector, ServeFault, deliver};
 use mediator_state::Fault;
 use shared_mediator::{
     AdminHandle, DeliveryHandle, EntryLedger, Handed, HandleFault, RecordLedger,
@@ -254,7 +253,7 @@ fn begin<E: EntryLedger, H: RecordLedger, R: Wait>(
     if handles.deliveries.reserve(1).is_err() {
         return Err(HandleFault::Core(Fault::OutOfMemory));
     }
-    let name = collector.name.as_str();
+    let name = collector.subscriber.as_str();
     let sub = match handles.admin.subscribe(rt, service.shared, name) {
         Ok(sub) => sub,
         Err(why) => return Err(HandleFault::Core(why)),

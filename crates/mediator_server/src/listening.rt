@@ -4,7 +4,7 @@ ghost use Rattle.shared_mediator.specs.Counted.{handed_live};
 ghost use Rattle.mediator_server.specs.Listening.{IsServed};
 
 use crate::notes;
-use crate::plan::Plan;
+use crate::plan::RunPlan;
 use crate::service::{Handles, serve};
 use log::Log;
 use mediator_calls::Mediator;
@@ -100,7 +100,7 @@ impl From<HandleFault> for ListenFault {
 const MOST_HANDLES: u64 = 0xffff_ffff;
 
 /// How many handles of each kind a plan needs: for its exporters; or for its deliveries, the administrator, and what sets it up.
-fn handles_for(plan: &Plan) -> u64
+fn handles_for(plan: &RunPlan) -> u64
     ensures { result ≤ 0xffff_ffff }
 {
     if plan.endless || plan.reconnect.is_some() {
@@ -133,7 +133,7 @@ fn handles_for(plan: &Plan) -> u64
 /// sent. The mediator is lost.
 pub fn listen<
     R: Net<Listener = TcpListener, Stream = TcpStream> + Threads + Wait + Clock + Log + Sync,
->(rt: &R, alloc: Global, plan: &Plan, mediator: Mediator) -> Result<Ended, ListenFault>
+>(rt: &R, alloc: Global, plan: &RunPlan, mediator: Mediator) -> Result<Ended, ListenFault>
     requires fresh { handed_live mediator ≡ 0 }
     ensures served { IfOk result (λ ended. IsServed plan.now mediator.history
         ended.closed.mediator.history ended.closed.accepted ended.closed.handed) }
@@ -154,7 +154,7 @@ fn listen_with<
 >(
     rt: &R,
     alloc: Global,
-    plan: &Plan,
+    plan: &RunPlan,
     mediator: Mediator,
     handles: u64,
     entries: Blank,

@@ -7,13 +7,14 @@ use crate::connections::{Connection, Connections};
 use crate::exporters::{self, ExporterHandles};
 use crate::listeners::{Caller, Incoming, Listeners, OwnAddresses};
 use crate::listening::ListenFault;
-use crate::plan::{Collector, Plan};
+use crate::plan::RunPlan;
 use crate::roster::{Reach, Roster};
 use crate::run_state::RunState;
 use crate::time::{has_passed, now};
 use crate::{administrators, notes};
 use log::Log;
 use mediator_calls::SubId;
+use mediator_connections::Collector;
 use mio::Waker;
 use shared_mediator::{
     AdminHandle, DeliveryHandle, EntryLedger, ExporterHandle, RecordLedger, SharedMediator,
@@ -46,7 +47,7 @@ pub(crate) struct Handles<E: EntryLedger, H: RecordLedger> {
 pub(crate) struct Service<'m, E: EntryLedger, H: RecordLedger> {
     pub(crate) alloc: Global,
     pub(crate) shared: &'m SharedMediator<E, H>,
-    pub(crate) plan: &'m Plan,
+    pub(crate) plan: &'m RunPlan,
     /// The addresses at which the server is reached.
     pub(crate) own: OwnAddresses,
     /// When the run began, in milliseconds since 1970; 0 where the machine's time can't be read.
@@ -73,7 +74,7 @@ impl<'m, E: EntryLedger, H: RecordLedger> Service<'m, E, H> {
     fn new(
         alloc: Global,
         shared: &'m SharedMediator<E, H>,
-        plan: &'m Plan,
+        plan: &'m RunPlan,
         own: OwnAddresses,
         started: u64,
         waker: Waker,
@@ -134,7 +135,7 @@ pub(crate) fn serve<
     rt: &R,
     alloc: Global,
     shared: &SharedMediator<E, H>,
-    plan: &Plan,
+    plan: &RunPlan,
 ) -> Result<Handles<E, H>, ListenFault>
     ensures set_up { IfOk result (λ handles. IsSetUp plan.now handles.admins.items) }
 {
@@ -178,7 +179,7 @@ fn list_first<E: EntryLedger, H: RecordLedger, R: Wait + Log>(
     for (collector, sub) in service.plan.deliver.iter().zip(subs.iter()) {
         service
             .roster
-            .begin(rt, *sub, collector.name.as_str(), Reach::Absent);
+            .begin(rt, *sub, collector.subscriber.as_str(), Reach::Absent);
     }
 }
 
@@ -186,7 +187,7 @@ fn list_first<E: EntryLedger, H: RecordLedger, R: Wait + Log>(
 fn open_listeners<R: Net<Listener = TcpListener, Stream = TcpStream> + Log>(
     rt: &R,
     alloc: Global,
-    plan: &Plan,
+    plan: &RunPlan,
 ) -> Result<(Listeners, Waker), ListenFault> {
     let listeners = match Listeners::open(rt, alloc, plan) {
         Ok(listeners) => listeners,
@@ -204,7 +205,7 @@ fn set_up<E: EntryLedger, H: RecordLedger>(
     alloc: Global,
     shared: &SharedMediator<E, H>,
     admin: &mut AdminHandle<E>,
-    plan: &Plan,
+    plan: &RunPlan,
 ) -> Result<Vec<SubId>, ListenFault>
     requires fresh { admin.old ≡ [] }
     ensures set_up { OnOk result (SetsUp plan.now admin.new) }
@@ -213,7 +214,7 @@ fn set_up<E: EntryLedger, H: RecordLedger>(
     let mut subs = Vec::new(alloc);
     'collectors: for collector in plan.deliver.as_slice() {
         subs.reserve(1)?;
-        let sub = admin.subscribe(rt, shared, collector.name.as_str())?;
+        let sub = admin.subscribe(rt, shared, collector.subscriber.as_str())?;
         subs.push_reserved(sub);
     }
     Ok(subs)

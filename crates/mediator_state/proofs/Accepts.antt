@@ -7,7 +7,7 @@ use Rattle.std.proofs.lemmas.List.{length-map, length-drop, take-append-drop}
 use Rattle.ipfix_template.specs.DataRecord.{DataRecord}
 use Rattle.ipfix_session.specs.Keeping.{at_key}
 use Rattle.ipfix_session.specs.ReadAhead.{Ahead, IsReadingOf, HasRoomFor}
-use Rattle.subscriber_stream.specs.declared.limits.Limits.{Limits}
+use Rattle.subscriber_stream.specs.declared.limits.StreamLimits.{StreamLimits}
 use Rattle.subscriber_stream.specs.Parts.{parts, records_in}
 use Rattle.subscriber_stream.specs.Standing.{Standing, StandsAt, HasRoom, queued}
 use Rattle.subscriber_stream.proofs.CallLaws.{parts_bring}
@@ -38,7 +38,7 @@ use Rattle.mediator_tables.specs.declared.subscription.Subscription.{Subscriptio
 use Rattle.mediator_tables.specs.SubscriptionTable.{at, cut_off, HasSpare, IsReady, AreReadyAmong}
 use Rattle.mediator_state.specs.declared.engine.Engine.{Engine}
 use Rattle.mediator_state.specs.declared.closing.Closing.{Closing}
-use Rattle.mediator_state.specs.declared.plan.Plan.{Plan}
+use Rattle.mediator_state.specs.declared.plan.MessagePlan.{MessagePlan}
 use Rattle.mediator_state.specs.Standing.{Stands, place, IsSession, IsLiveAs, AreInRange}
 use Rattle.mediator_state.specs.Steps.{CutsInARow, HasAuditRoom}
 use Rattle.mediator_tables.specs.Adding.{AllReady, AreApart}
@@ -101,7 +101,7 @@ same_spare n true (Some s) spare = spare
 same_spare n false s spare = spare
 
 -- a live subscription is ready for its share
-ready_one : (limits : Limits) (h : List Entry) (share : ℕ × List DataRecord) (s : Option Subscription) → AreInRange limits → length h ≤ 2 * MOST_ENTRIES → length (disclosed share.0 h) ≤ MOST_QUEUE * length h → IsLiveAs h limits share.0 s
+ready_one : (limits : StreamLimits) (h : List Entry) (share : ℕ × List DataRecord) (s : Option Subscription) → AreInRange limits → length h ≤ 2 * MOST_ENTRIES → length (disclosed share.0 h) ≤ MOST_QUEUE * length h → IsLiveAs h limits share.0 s
     → (0 < length share.1 → IsSomeAnd s (λ x. HasRoom x.stream share.1)) → IfSome s (λ x. length share.1 ≤ x.stream.spare) → IfSome s (λ x. IsReady x.stream share.1)
 ready_one limits h share None range short listed so room spare = tt
 ready_one limits h share (Some x) range short listed so room spare = record {
@@ -183,17 +183,17 @@ groups_ready d e h x cuts reserved tallies so row are made =
 -- ---- a plan
 
 -- no more notes are kept than there are
-few_kept : (e : Engine) (h : List Entry) (number : ℕ) (octets : List ℕ) (p : Plan) → IsPlan e h number octets p → length p.notes.notes ≤ p.notes.count
+few_kept : (e : Engine) (h : List Entry) (number : ℕ) (octets : List ℕ) (p : MessagePlan) → IsPlan e h number octets p → length p.notes.notes ≤ p.notes.count
 few_kept e h number octets p plan =
     omega (arith, ap (λ (k : Kept). length k.notes) plan.kept, ap (λ (k : Kept). k.count) plan.kept, length-take e.audit.limit plan.named)
 
 -- all are kept that the audit may hold
-all_kept : (e : Engine) (h : List Entry) (number : ℕ) (octets : List ℕ) (p : Plan) (plan : IsPlan e h number octets p) → p.notes.count ≤ e.audit.limit → p.notes.notes ≡ plan.named
+all_kept : (e : Engine) (h : List Entry) (number : ℕ) (octets : List ℕ) (p : MessagePlan) (plan : IsPlan e h number octets p) → p.notes.count ≤ e.audit.limit → p.notes.notes ≡ plan.named
 all_kept e h number octets p plan few =
     ap (λ (k : Kept). k.notes) plan.kept ∙ take_all e.audit.limit plan.named (omega (arith, few, ap (λ (k : Kept). k.count) plan.kept))
 
 -- behind the cuts the message is what the plan says
-pub is_message : (d e : Engine) (h : List Entry) (number : ℕ) (octets : List ℕ) (p : Plan) (reserved : List (ℕ × List Addition)) → IsPlan d h number octets p → HasRoomForPlan d p reserved → CutsInARow p.cuts.items d e
+pub is_message : (d e : Engine) (h : List Entry) (number : ℕ) (octets : List ℕ) (p : MessagePlan) (reserved : List (ℕ × List Addition)) → IsPlan d h number octets p → HasRoomForPlan d p reserved → CutsInARow p.cuts.items d e
     → IsMessage e (after_cuts h p.cuts.items) p.session number octets (record { reading = p.reading; shares = map shown p.shares.items; tallies = map tallied p.tallies.items; entries = map (stamp p.position) p.notes.notes })
 is_message d e h number octets p reserved plan room row = record {
   opened = is_open-cuts p.session h p.cuts.items ∙ plan.opened;
@@ -210,7 +210,7 @@ is_message d e h number octets p reserved plan room row = record {
     whole = omega (arith, room.audit)
 
 -- there is room for the cuts
-pub cuts_room : (d : Engine) (position : ℕ) (p : Plan) (reserved : List (ℕ × List Addition)) → IsPlannedFor d position p → HasRoomForPlan d p reserved → HasAuditRoom d.audit (length p.cuts.items)
+pub cuts_room : (d : Engine) (position : ℕ) (p : MessagePlan) (reserved : List (ℕ × List Addition)) → IsPlannedFor d position p → HasRoomForPlan d p reserved → HasAuditRoom d.audit (length p.cuts.items)
 cuts_room d position p reserved planned room = record {
   room = omega (arith, room.audit);
   reserved = omega (arith, room.reserved);
@@ -218,7 +218,7 @@ cuts_room d position p reserved planned room = record {
 }
 
 -- and behind them for the message
-pub ready : (d e : Engine) (position : ℕ) (p : Plan) (reserved : List (ℕ × List Addition)) → IsPlannedFor d position p → HasRoomForPlan d p reserved → CutsInARow p.cuts.items d e
+pub ready : (d e : Engine) (position : ℕ) (p : MessagePlan) (reserved : List (ℕ × List Addition)) → IsPlannedFor d position p → HasRoomForPlan d p reserved → CutsInARow p.cuts.items d e
     → ((h : List Entry) → Stands d h → length h ≡ position → Stands e (after_cuts h p.cuts.items)) → IsReadyToTake e p.session p.reading (map shown p.shares.items) reserved (length p.notes.notes)
 ready d e position p reserved planned room row stands =
     let h = planned.history in

@@ -6,7 +6,7 @@ use Rattle.sequences.proofs.BeforeLaws.{last_of-push}
 use Rattle.ipfix_template.specs.DataRecord.{DataRecord}
 use Rattle.ipfix_session.specs.Keeping.{at_key}
 use Rattle.policy_text.specs.Policies.{nothing as no_policy}
-use Rattle.subscriber_stream.specs.declared.limits.Limits.{Limits}
+use Rattle.subscriber_stream.specs.declared.limits.StreamLimits.{StreamLimits}
 use Rattle.subscriber_stream.specs.Standing.{StandsAt}
 use Rattle.flow_aggregate.specs.Groups.{Counted}
 use Rattle.flow_aggregate.specs.Running.{staying, StandsFor as StandsForRecords}
@@ -63,7 +63,7 @@ closes_served_only h t sub off = ap (closed_by t) (running_unserved sub h off) �
 
 -- ---- subscriptions
 
-live_advanced : (h : List Entry) (t : ℕ) (limits : Limits) (sub : ℕ) (old new : Option Subscription)
+live_advanced : (h : List Entry) (t : ℕ) (limits : StreamLimits) (sub : ℕ) (old new : Option Subscription)
     → Related (TakesGiven (given_at sub h (Advance t))) old new → IsLiveAs h limits sub old → IsLiveAs (h ++ Advance t ∷ []) limits sub new
 live_advanced h t limits sub None None takes so = is_live-advance sub h t ∙ so
 live_advanced h t limits sub None (Some y) takes so = absurd takes

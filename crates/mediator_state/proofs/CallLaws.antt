@@ -23,7 +23,7 @@ use Rattle.mediator_history.proofs.HistoryLaws.{audit-push}
 use Rattle.ipfix_session.specs.ReadAhead.{Ahead}
 use Rattle.prepared_message.specs.Preparation.{Preparation}
 use Rattle.mediator_state.specs.declared.engine.Engine.{Engine}
-use Rattle.mediator_state.specs.declared.plan.Plan.{Plan}
+use Rattle.mediator_state.specs.declared.plan.MessagePlan.{MessagePlan}
 use Rattle.mediator_state.specs.declared.receipt.Receipt.{Receipt}
 use Rattle.mediator_state.specs.declared.fault.Fault.{Fault}
 use Rattle.mediator_state.specs.declared.fault.Fault.TheVariants as fault
@@ -79,21 +79,21 @@ lacks_after (fault.AuditFull need room) limits count octets h more c lacks = abs
 
 -- ---- a message and its cuts
 
-pub next_of : (e : Engine) (h : List Entry) (session number : ℕ) (octets : List ℕ) (p : Plan) → p.session ≡ session → IsPlan e h number octets p → IsNext h session number
+pub next_of : (e : Engine) (h : List Entry) (session number : ℕ) (octets : List ℕ) (p : MessagePlan) → p.session ≡ session → IsPlan e h number octets p → IsNext h session number
 next_of e h session number octets p is plan = record {
   opened = subst (λ (s : ℕ). is_open s h ≡ true) is plan.opened;
   turn = subst (λ (s : ℕ). number ≡ length (messages_of s h)) is plan.turn;
 }
 
-means_of : (e : Engine) (h : List Entry) (session number : ℕ) (octets : List ℕ) (p : Plan) → p.session ≡ session → IsPlan e h number octets p → meaning_of (messages_of session h) octets ≡ Ok p.reading.meaning
+means_of : (e : Engine) (h : List Entry) (session number : ℕ) (octets : List ℕ) (p : MessagePlan) → p.session ≡ session → IsPlan e h number octets p → meaning_of (messages_of session h) octets ≡ Ok p.reading.meaning
 means_of e h session number octets p is plan = ap (λ (s : ℕ). meaning_of (messages_of s h) octets) (sym is) ∙ plan.read.means
 
-cuts_of : (e : Engine) (h : List Entry) (session number : ℕ) (octets : List ℕ) (p : Plan) → p.session ≡ session → IsPlan e h number octets p → map Cut p.cuts.items ≡ cuts_before e.limits h (Message session number octets) (waiting_of e)
+cuts_of : (e : Engine) (h : List Entry) (session number : ℕ) (octets : List ℕ) (p : MessagePlan) → p.session ≡ session → IsPlan e h number octets p → map Cut p.cuts.items ≡ cuts_before e.limits h (Message session number octets) (waiting_of e)
 cuts_of e h session number octets p is plan =
     ap (λ (cuts : List ℕ). map Cut cuts) plan.judged.cuts_are ∙ ap (λ (s : ℕ). cuts_before e.limits h (Message s number octets) (waiting_of e)) is
 
 -- the entries that are appended
-pub entries_are : (e : Engine) (h : List Entry) (session number : ℕ) (octets : List ℕ) (p : Plan) (entries : List Entry) → p.session ≡ session → entries ≡ map Cut p.cuts.items ++ Message session number octets ∷ [] → IsPlan e h number octets p → entries ≡ with_cuts e h (Message session number octets)
+pub entries_are : (e : Engine) (h : List Entry) (session number : ℕ) (octets : List ℕ) (p : MessagePlan) (entries : List Entry) → p.session ≡ session → entries ≡ map Cut p.cuts.items ++ Message session number octets ∷ [] → IsPlan e h number octets p → entries ≡ with_cuts e h (Message session number octets)
 entries_are e h session number octets p entries is made plan =
     made ∙ ap (λ (cuts : List Entry). cuts ++ Message session number octets ∷ []) (cuts_of e h session number octets p is plan)
 
@@ -104,15 +104,15 @@ length-cut_entries n [] = refl
 length-cut_entries n (sub ∷ subs) = ap (λ (k : ℕ). suc k) (length-cut_entries (n + 1) subs)
 
 -- the entries of what the audit names of a message
-abbrev entries_of : (e : Engine) (h : List Entry) (number : ℕ) (octets : List ℕ) (p : Plan) → IsPlan e h number octets p → List AuditEntry
+abbrev entries_of : (e : Engine) (h : List Entry) (number : ℕ) (octets : List ℕ) (p : MessagePlan) → IsPlan e h number octets p → List AuditEntry
 entries_of e h number octets p plan = map (stamp p.position) plan.named
 
-length-named : (e : Engine) (h : List Entry) (number : ℕ) (octets : List ℕ) (p : Plan) (plan : IsPlan e h number octets p)
+length-named : (e : Engine) (h : List Entry) (number : ℕ) (octets : List ℕ) (p : MessagePlan) (plan : IsPlan e h number octets p)
     → length (cut_entries (length h) p.cuts.items ++ entries_of e h number octets p plan) ≡ length p.cuts.items + p.notes.count
 length-named e h number octets p plan =
     omega (arith, length-append (cut_entries (length h) p.cuts.items) (entries_of e h number octets p plan), length-cut_entries (length h) p.cuts.items, length-map plan.named (stamp p.position), ap (λ (k : Kept). k.count) plan.kept)
 
-noted_of : (e : Engine) (h : List Entry) (session number : ℕ) (octets : List ℕ) (p : Plan) → p.session ≡ session → (plan : IsPlan e h number octets p)
+noted_of : (e : Engine) (h : List Entry) (session number : ℕ) (octets : List ℕ) (p : MessagePlan) → p.session ≡ session → (plan : IsPlan e h number octets p)
     → audit_list (h ++ with_cuts e h (Message session number octets)) ≡ audit_list h ++ (cut_entries (length h) p.cuts.items ++ entries_of e h number octets p plan)
 noted_of e h session number octets p is plan =
     let message : Entry = Message session number octets in
@@ -157,22 +157,22 @@ refused_as_prepared (fault.ClockBack last) limits e h session number p reading r
 refused_as_prepared (fault.AuditFull need room) limits e h session number p reading read r = r
 
 -- what was found out of a message before it is accepted
-pub record IsFound (e : Engine) (h : List Entry) (session number : ℕ) (octets : List ℕ) (p : Plan) (entries : List Entry) : Type 0 where
+pub record IsFound (e : Engine) (h : List Entry) (session number : ℕ) (octets : List ℕ) (p : MessagePlan) (entries : List Entry) : Type 0 where
   pub plan : IsPlan e h number octets p
   pub session_is : p.session ≡ session
   pub entries_made : entries ≡ map Cut p.cuts.items ++ Message session number octets ∷ []
 
-has_meaning : (e : Engine) (h : List Entry) (session number : ℕ) (octets : List ℕ) (p : Plan) → p.session ≡ session → IsPlan e h number octets p → HasMeaning h session octets
+has_meaning : (e : Engine) (h : List Entry) (session number : ℕ) (octets : List ℕ) (p : MessagePlan) → p.session ≡ session → IsPlan e h number octets p → HasMeaning h session octets
 has_meaning e h session number octets p is plan = record { meaning = p.reading.meaning; means = means_of e h session number octets p is plan }
 
-pub refused_full : (limits : Journaled) (count sizes : ℕ) (e : Engine) (h : List Entry) (session number : ℕ) (octets : List ℕ) (p : Plan) (entries : List Entry) → IsCountOf h count sizes → IsFound e h session number octets p entries → (HasRoom limits count sizes entries → ⊥) → RefusesReceive fault.JournalFull limits e h session number octets
+pub refused_full : (limits : Journaled) (count sizes : ℕ) (e : Engine) (h : List Entry) (session number : ℕ) (octets : List ℕ) (p : MessagePlan) (entries : List Entry) → IsCountOf h count sizes → IsFound e h session number octets p entries → (HasRoom limits count sizes entries → ⊥) → RefusesReceive fault.JournalFull limits e h session number octets
 refused_full limits count sizes e h session number octets p entries c f full = (
   next_of e h session number octets p f.session_is f.plan,
   has_meaning e h session number octets p f.session_is f.plan,
   λ r. full (room_before limits count sizes h entries c (subst (λ (more : List Entry). HasRoomAfter limits h more) (sym (entries_are e h session number octets p entries f.session_is f.entries_made f.plan)) r)),
 )
 
-pub refused_audit : (why : Fault) (limits : Journaled) (count sizes : ℕ) (e : Engine) (h : List Entry) (session number : ℕ) (octets : List ℕ) (p : Plan) (entries : List Entry) → IsCountOf h count sizes → IsFound e h session number octets p entries → HasRoom limits count sizes entries → LacksAudit why e.audit (length p.cuts.items + p.notes.count) → RefusesReceive why limits e h session number octets
+pub refused_audit : (why : Fault) (limits : Journaled) (count sizes : ℕ) (e : Engine) (h : List Entry) (session number : ℕ) (octets : List ℕ) (p : MessagePlan) (entries : List Entry) → IsCountOf h count sizes → IsFound e h session number octets p entries → HasRoom limits count sizes entries → LacksAudit why e.audit (length p.cuts.items + p.notes.count) → RefusesReceive why limits e h session number octets
 refused_audit (fault.AuditFull need room) limits count sizes e h session number octets p entries c f r lacks = (
   next_of e h session number octets p f.session_is f.plan,
   has_meaning e h session number octets p f.session_is f.plan,
@@ -218,7 +218,7 @@ audit_holds e h more noted stands is room = record {
         ∙ ap (λ (l : List AuditEntry). length l + length noted) (sym stands.waiting)
 
 -- the room that was made for a message holds what is named of it and its cuts
-pub message_held : (d e : Engine) (h : List Entry) (session number : ℕ) (octets : List ℕ) (p : Plan) (entries : List Entry) (added : List (ℕ × List Addition)) → IsSameEngine d e → Stands d h → IsFound d h session number octets p entries → HasRoomForPlan e p added
+pub message_held : (d e : Engine) (h : List Entry) (session number : ℕ) (octets : List ℕ) (p : MessagePlan) (entries : List Entry) (added : List (ℕ × List Addition)) → IsSameEngine d e → Stands d h → IsFound d h session number octets p entries → HasRoomForPlan e p added
     → AuditHolds d h (with_cuts d h (Message session number octets))
 message_held d e h session number octets p entries added same so f room =
     audit_holds d h (with_cuts d h (Message session number octets)) (cut_entries (length h) p.cuts.items ++ entries_of d h number octets p f.plan) so.audit (noted_of d h session number octets p f.session_is f.plan)
@@ -227,7 +227,7 @@ message_held d e h session number octets p entries added same so f room =
 -- ---- what an accepted message leaves
 
 -- room was made for it, which the engine shows in nothing else
-pub planned_for : (d e : Engine) (h : List Entry) (number : ℕ) (octets : List ℕ) (position : ℕ) (p : Plan) → IsSameEngine d e → Stands d h → length h ≡ position → position ≤ MOST_ENTRIES → IsPlan d h number octets p → IsPlannedFor e position p
+pub planned_for : (d e : Engine) (h : List Entry) (number : ℕ) (octets : List ℕ) (position : ℕ) (p : MessagePlan) → IsSameEngine d e → Stands d h → length h ≡ position → position ≤ MOST_ENTRIES → IsPlan d h number octets p → IsPlannedFor e position p
 planned_for d e h number octets position p same stands counted short plan = record {
   history = h;
   number = number;
@@ -239,10 +239,10 @@ planned_for d e h number octets position p same stands counted short plan = reco
 }
 
 -- what accept says of the engine
-abbrev pub AcceptsPlan : Engine → ℕ → Plan → Engine → Type 0
+abbrev pub AcceptsPlan : Engine → ℕ → MessagePlan → Engine → Type 0
 AcceptsPlan e position p new = (h : List Entry) (number : ℕ) (octets : List ℕ) → Stands e h → length h ≡ position → IsPlan e h number octets p → Stands new (after_cuts h p.cuts.items ++ Message p.session number octets ∷ [])
 
-pub received : {C : Type 0} (tells : C → List Entry → Type 0) (limits : C → Journaled) (old new : State C) (e : Engine) (count sizes : ℕ) (h : List Entry) (session number : ℕ) (octets : List ℕ) (p : Plan) (entries : List Entry) (r : Receipt) (position : ℕ)
+pub received : {C : Type 0} (tells : C → List Entry → Type 0) (limits : C → Journaled) (old new : State C) (e : Engine) (count sizes : ℕ) (h : List Entry) (session number : ℕ) (octets : List ℕ) (p : MessagePlan) (entries : List Entry) (r : Receipt) (position : ℕ)
     → StandsFor tells old h → IsCountOf h count sizes → position ≡ count → IsFound old.engine h session number octets p entries → HasRoom (limits old.chronicle) count sizes entries → IsSameEngine old.engine e → AuditHolds old.engine h (with_cuts old.engine h (Message session number octets))
     → tells new.chronicle (h ++ entries) → AcceptsPlan e position p new.engine → r ≡ receipt_of position (length p.cuts.items) p.reading.meaning → Receives old.engine session number octets r h (Accepts tells limits old new h)
 received tells limits old new e count sizes h session number octets p entries r position stands c at f room same held told accepts receipt =
@@ -387,7 +387,7 @@ pub room_where : (b : Bool) (limits : Journaled) (count sizes : ℕ) (seen entri
 room_where b limits count sizes seen entries exact is has = subst (λ (more : List Entry). HasRoom limits count sizes more) is (exact.0 has)
 
 -- what was found out, where the cuts were lent as a slice
-pub found : (e : Engine) (h : List Entry) (session number : ℕ) (octets : List ℕ) (p : Plan) (entries : List Entry) (seen : List ℕ) → IsPlan e h number octets p → p.session ≡ session → entries ≡ map Cut seen ++ Message session number octets ∷ [] → seen ≡ p.cuts.items → IsFound e h session number octets p entries
+pub found : (e : Engine) (h : List Entry) (session number : ℕ) (octets : List ℕ) (p : MessagePlan) (entries : List Entry) (seen : List ℕ) → IsPlan e h number octets p → p.session ≡ session → entries ≡ map Cut seen ++ Message session number octets ∷ [] → seen ≡ p.cuts.items → IsFound e h session number octets p entries
 found e h session number octets p entries seen plan is made lent = record {
   plan = plan;
   session_is = is;

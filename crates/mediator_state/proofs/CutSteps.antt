@@ -8,7 +8,7 @@ use Rattle.sequences.proofs.BeforeLaws.{last_of-push}
 use Rattle.ipfix_session.specs.Keeping.{at_key}
 use Rattle.ipfix_session.specs.Standing.{StandsFor}
 use Rattle.policy_text.specs.Policies.{nothing as no_policy}
-use Rattle.subscriber_stream.specs.declared.limits.Limits.{Limits}
+use Rattle.subscriber_stream.specs.declared.limits.StreamLimits.{StreamLimits}
 use Rattle.subscriber_stream.specs.Standing.{StandsAt}
 use Rattle.stream_meaning.specs.Served.{AreStreamable}
 use Rattle.disclosure_audit.specs.Queue.{StandsIn, Takes}
@@ -87,7 +87,7 @@ unserved_cut sub h number off = by_number (sub == number) refl where
   by_number false is = served_there sub h number is ∙ off
 
 -- what a cut leaves of a subscription in the table
-live_cut : (h : List Entry) (limits : Limits) (number sub : ℕ) (same : Bool) → (sub == number) ≡ same → (s : Option Subscription) → IsLiveAs h limits sub s
+live_cut : (h : List Entry) (limits : StreamLimits) (number sub : ℕ) (same : Bool) → (sub == number) ≡ same → (s : Option Subscription) → IsLiveAs h limits sub s
     → IsLiveAs (h ++ Cut number ∷ []) limits sub (cond same (option_map cut_off s) s)
 live_cut h limits number sub true is None so = is_live-cut sub h number ∙ so
 live_cut h limits number sub false is None so = is_live-cut sub h number ∙ so

@@ -12,7 +12,7 @@ use Rattle.policy_text.specs.Policies.{Meaning as Policy, nothing as no_policy}
 use Rattle.policy_text.specs.Parsing.{policy_of}
 use Rattle.ipfix_session.specs.Keeping.{at_key}
 use Rattle.ipfix_session.specs.Standing.{StandsFor}
-use Rattle.subscriber_stream.specs.declared.limits.Limits.{Limits}
+use Rattle.subscriber_stream.specs.declared.limits.StreamLimits.{StreamLimits}
 use Rattle.subscriber_stream.specs.Shapes.{shapes_of}
 use Rattle.subscriber_stream.specs.Standing.{StandsAt, Kept}
 use Rattle.stream_meaning.specs.Served.{AreStreamable}
@@ -75,7 +75,7 @@ fresh_session h session (Some o) on silent fresh = (
 
 -- ---- subscriptions
 
-subscription_stays : (h : List Entry) (x : Entry) (limits : Limits) (sub : ℕ) (o : Option Subscription) → begins sub x ≡ None → switched sub x ≡ None → named sub x ≡ None → given_at sub h x ≡ [] → IsLiveAs h limits sub o → IsLiveAs (h ++ x ∷ []) limits sub o
+subscription_stays : (h : List Entry) (x : Entry) (limits : StreamLimits) (sub : ℕ) (o : Option Subscription) → begins sub x ≡ None → switched sub x ≡ None → named sub x ≡ None → given_at sub h x ≡ [] → IsLiveAs h limits sub o → IsLiveAs (h ++ x ∷ []) limits sub o
 subscription_stays h x limits sub None begun on name given so = last_stays (begins sub) false h x begun ∙ so
 subscription_stays h x limits sub (Some s) begun on name given so = record {
   live = last_stays (begins sub) false h x begun ∙ so.live;
@@ -86,7 +86,7 @@ subscription_stays h x limits sub (Some s) begun on name given so = record {
 }
 
 -- none is live under a number that was not given out
-none_live : (h : List Entry) (limits : Limits) (sub : ℕ) (o : Option Subscription) → is_live sub h ≡ false → IsLiveAs h limits sub o → o ≡ None
+none_live : (h : List Entry) (limits : StreamLimits) (sub : ℕ) (o : Option Subscription) → is_live sub h ≡ false → IsLiveAs h limits sub o → o ≡ None
 none_live h limits sub None gone so = refl
 none_live h limits sub (Some s) gone so = let live : is_live sub h ≡ true = so.live in absurd cc
 
@@ -146,7 +146,7 @@ same_subscriptions : (e d : Engine) (h : List Entry) (x : Entry) → Stands e h 
     → ((sub : ℕ) → begins sub x ≡ None) → ((sub : ℕ) → switched sub x ≡ None) → ((sub : ℕ) → named sub x ≡ None) → ((sub : ℕ) → given_at sub h x ≡ [])
     → (sub : ℕ) → IsLiveAs (h ++ x ∷ []) d.limits sub (at d.subscriptions sub)
 same_subscriptions e d h x so table limits begun on name given sub =
-    subst (λ (l : Limits). IsLiveAs (h ++ x ∷ []) l sub (at d.subscriptions sub)) (sym limits)
+    subst (λ (l : StreamLimits). IsLiveAs (h ++ x ∷ []) l sub (at d.subscriptions sub)) (sym limits)
     (subst (λ (t : Table). IsLiveAs (h ++ x ∷ []) e.limits sub (at t sub)) (sym table)
     (subscription_stays h x e.limits sub (at e.subscriptions sub) (begun sub) (on sub) (name sub) (given sub) (so.subscriptions sub)))
 
@@ -293,7 +293,7 @@ stands-unsubscribe e d h n so in_force edits opened begun sessions audit limits 
   opened = opened ∙ so.opened ∙ sym (count_stays opened_in h x refl);
   begun = begun ∙ so.begun ∙ sym (count_stays subscribed_in h x refl);
   sessions = same_sessions e d h x so sessions (λ session. refl) (λ session. refl);
-  subscriptions = λ sub. subst (λ (l : Limits). IsLiveAs (h ++ Unsubscribe n ∷ []) l sub (at d.subscriptions sub)) (sym limits) (by_number sub (n == sub) refl);
+  subscriptions = λ sub. subst (λ (l : StreamLimits). IsLiveAs (h ++ Unsubscribe n ∷ []) l sub (at d.subscriptions sub)) (sym limits) (by_number sub (n == sub) refl);
   served_are = fewer ∙ ap (filter (λ q. not (q == n))) so.served_are ∙ sym (served-unsubscribe h n);
   audit = same_audit e d h x so audit refl;
   limits = subst AreInRange (sym limits) so.limits;
@@ -341,7 +341,7 @@ stands-subscribe e d h n name stream so next in_force groups edits opened begun 
   opened = opened ∙ so.opened ∙ sym (count_stays opened_in h x refl);
   begun = begun ∙ next ∙ ap (λ (m : ℕ). m + 1) so.begun ∙ sym (count_more subscribed_in h x n refl);
   sessions = same_sessions e d h x so sessions (λ session. refl) (λ session. refl);
-  subscriptions = λ sub. subst (λ (l : Limits). IsLiveAs (h ++ Subscribe n name ∷ []) l sub (at d.subscriptions sub)) (sym limits) (by_number sub (n == sub) refl);
+  subscriptions = λ sub. subst (λ (l : StreamLimits). IsLiveAs (h ++ Subscribe n name ∷ []) l sub (at d.subscriptions sub)) (sym limits) (by_number sub (n == sub) refl);
   served_are = more ∙ ap (λ (t : List ℕ). t ++ n ∷ []) so.served_are ∙ sym (served-subscribe h n name new);
   audit = same_audit e d h x so audit refl;
   limits = subst AreInRange (sym limits) so.limits;
@@ -467,7 +467,7 @@ stands-new d in_force groups edits opened begun sessions table audit range = rec
 -- ---- who has a name
 
 -- where no subscription in the table has the name, none that is live has it
-pub none_named : (h : List Entry) (limits : Limits) (sub : ℕ) (name : List ℕ) (o : Option Subscription) → IsLiveAs h limits sub o → IfSome o (λ s. s.name ≢ name) → is_live sub h ≡ true → name_of sub h ≢ name
+pub none_named : (h : List Entry) (limits : StreamLimits) (sub : ℕ) (name : List ℕ) (o : Option Subscription) → IsLiveAs h limits sub o → IfSome o (λ s. s.name ≢ name) → is_live sub h ≡ true → name_of sub h ≢ name
 none_named h limits sub name None so free live same = let gone : is_live sub h ≡ false = so in absurd cc
 none_named h limits sub name (Some s) so free live same = free (so.name ∙ same)
 

@@ -26,7 +26,7 @@ use Rattle.ipfix_session.specs.ReadAhead.{Ahead, IsReadingOf}
 use Rattle.ipfix_session.specs.Standing.{StandsFor}
 use Rattle.ipfix_session.specs.declared.read_error.ReadError.{ReadError}
 use Rattle.flow_aggregate.specs.Counts.{Count, count_of}
-use Rattle.subscriber_stream.specs.declared.limits.Limits.{Limits}
+use Rattle.subscriber_stream.specs.declared.limits.StreamLimits.{StreamLimits}
 use Rattle.subscriber_stream.specs.Shapes.{shapes_after}
 use Rattle.subscriber_stream.specs.Standing.{Kept, HasRoom, queued}
 use Rattle.subscriber_stream.proofs.ShapeLaws.{shapes_on}
@@ -61,7 +61,7 @@ use Rattle.mediator_tables.specs.declared.subscription.Subscription.{Subscriptio
 use Rattle.mediator_tables.specs.SubscriptionTable.{Table, at, told, told_in, lacks_room, lacks_room_at}
 use Rattle.mediator_state.specs.declared.engine.Engine.{Engine}
 use Rattle.mediator_state.specs.declared.plan.Judged.{Judged}
-use Rattle.mediator_state.specs.declared.plan.Plan.{Plan}
+use Rattle.mediator_state.specs.declared.plan.MessagePlan.{MessagePlan}
 use Rattle.mediator_state.specs.Standing.{Stands, IsSession, IsLiveAs}
 use Rattle.mediator_state.specs.Seen.{waiting_in, waiting_of}
 use Rattle.mediator_state.specs.Planning.{lacks, has, share_at, tally_at, AreTallied, HasRoomIn, AreStreamed, IsJudged, IsJudgedAs, IsJudgedFor, IsInTurn, IsNextReading, IsPlan}
@@ -269,7 +269,7 @@ lacks_over e h so sub on more = there (at e.subscriptions sub) (so.subscriptions
   there : (o : Option Subscription) → IsLiveAs h e.limits sub o → option_map_or (λ s. lacks_room s.stream more) o false ≡ overflows e.limits (disclosed sub h) (waiting_in o) more
   there None gone = let live : is_live sub h ≡ true = served_is_live sub h on in absurd cc
   there (Some s) is =
-      ap (λ (l : Limits). nat_lt 0 (length more) && (nat_lt l.queue (queued s.stream.standing + length more) || nat_lt l.shapes (length (shapes_after s.stream.standing.shapes more)))) is.limits_are
+      ap (λ (l : StreamLimits). nat_lt 0 (length more) && (nat_lt l.queue (queued s.stream.standing + length more) || nat_lt l.shapes (length (shapes_after s.stream.standing.shapes more)))) is.limits_are
       ∙ ap (λ (shapes : List Template). nat_lt 0 (length more) && (nat_lt e.limits.queue (queued s.stream.standing + length more) || nat_lt e.limits.shapes (length shapes)))
       (ap (λ (shapes : List Template). shapes_after shapes more) is.stream.shapes ∙ sym (shapes_on (disclosed sub h) more))
 
@@ -564,7 +564,7 @@ next_reading e h session number octets reading o so is reads =
     let turn : IsTurn h session number o = turn_of e h session number o so is in
     record { next = record { opened = turn.opened; turn = turn.turn }; read = reads (messages_of session h) turn.stands }
 
-pub planned : (e : Engine) (h : List Entry) (session number : ℕ) (octets : List ℕ) (p : Plan) (j : Judged) → p.session ≡ session → IsNextReading h session number octets p.reading
+pub planned : (e : Engine) (h : List Entry) (session number : ℕ) (octets : List ℕ) (p : MessagePlan) (j : Judged) → p.session ≡ session → IsNextReading h session number octets p.reading
     → IsJudgedFor e h p.reading.meaning j → p.cuts ≡ j.cuts → p.shares ≡ j.shares → p.tallies ≡ j.tallies → p.position ≡ j.position → p.notes ≡ j.notes
     → IsPlan e h number octets p
 planned e h session number octets p j is next judged cuts shares tallies at notes =

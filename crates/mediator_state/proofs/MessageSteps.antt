@@ -10,7 +10,7 @@ use Rattle.ipfix_template.specs.DataRecord.{DataRecord}
 use Rattle.ipfix_session.specs.Keeping.{at_key}
 use Rattle.ipfix_session.specs.ReadAhead.{Ahead, IsReadingOf}
 use Rattle.ipfix_session.specs.Standing.{StandsFor}
-use Rattle.subscriber_stream.specs.declared.limits.Limits.{Limits}
+use Rattle.subscriber_stream.specs.declared.limits.StreamLimits.{StreamLimits}
 use Rattle.subscriber_stream.specs.Standing.{Standing, StandsAt, HasRoom}
 use Rattle.subscriber_stream.proofs.Standings.{room_is_limits}
 use Rattle.stream_meaning.specs.Served.{AreStreamable}
@@ -158,7 +158,7 @@ session_taken h session number octets reading (Some s) (Some t) keeps read so = 
 pub place_kept : (old new : Standing) (listed more : List DataRecord) → StandsAt new (listed ++ more) (place old) → place new ≡ place old
 place_kept old new listed more so = so.place
 
-pub live_taken : (h : List Entry) (session number : ℕ) (octets : List ℕ) (limits : Limits) (sub : ℕ) (old new : Option Subscription)
+pub live_taken : (h : List Entry) (session number : ℕ) (octets : List ℕ) (limits : StreamLimits) (sub : ℕ) (old new : Option Subscription)
     → Related (TakesGiven (given_at sub h (Message session number octets))) old new → IsLiveAs h limits sub old → IsLiveAs (h ++ Message session number octets ∷ []) limits sub new
 live_taken h session number octets limits sub None None takes so = is_live-message sub h session number octets ∙ so
 live_taken h session number octets limits sub None (Some t) takes so = absurd takes
@@ -202,23 +202,23 @@ numbered_message h session number octets on so =
 
 -- ---- sizes
 
-pub few_given : (share : ℕ × List DataRecord) (limits : Limits) (h : List Entry) (s : Option Subscription) → AreInRange limits → IsLiveAs h limits share.0 s → (0 < length share.1 → IsSomeAnd s (λ x. HasRoom x.stream share.1)) → length share.1 ≤ MOST_QUEUE
+pub few_given : (share : ℕ × List DataRecord) (limits : StreamLimits) (h : List Entry) (s : Option Subscription) → AreInRange limits → IsLiveAs h limits share.0 s → (0 < length share.1 → IsSomeAnd s (λ x. HasRoom x.stream share.1)) → length share.1 ≤ MOST_QUEUE
 few_given share limits h s range so room = by_size (length share.1) refl where
   with_room : (o : Option Subscription) → IsLiveAs h limits share.0 o → IsSomeAnd o (λ x. HasRoom x.stream share.1) → length share.1 ≤ MOST_QUEUE
   with_room None so there = absurd there
-  with_room (Some x) so there = omega (arith, there.queue, range.queue, ap (λ (l : Limits). l.queue) so.limits_are)
+  with_room (Some x) so there = omega (arith, there.queue, range.queue, ap (λ (l : StreamLimits). l.queue) so.limits_are)
 
   by_size : (n : ℕ) → length share.1 ≡ n → length share.1 ≤ MOST_QUEUE
   by_size zero is = omega (arith, is)
   by_size (suc n) is = with_room s so (room (omega (arith, is)))
 
-streamable_given : (share : ℕ × List DataRecord) (limits : Limits) (h : List Entry) (s : Option Subscription) → AreInRange limits → IsLiveAs h limits share.0 s → (0 < length share.1 → IsSomeAnd s (λ x. HasRoom x.stream share.1))
+streamable_given : (share : ℕ × List DataRecord) (limits : StreamLimits) (h : List Entry) (s : Option Subscription) → AreInRange limits → IsLiveAs h limits share.0 s → (0 < length share.1 → IsSomeAnd s (λ x. HasRoom x.stream share.1))
     → AreStreamed share → AreStreamable (disclosed share.0 h) → AreStreamable (disclosed share.0 h ++ share.1)
 streamable_given share limits h s range so room each before = by_size (length share.1) refl where
   with_room : (o : Option Subscription) → IsLiveAs h limits share.0 o → IsSomeAnd o (λ x. HasRoom x.stream share.1) → AreStreamable (disclosed share.0 h ++ share.1)
   with_room None so there = absurd there
   with_room (Some x) so there =
-      streamable_more x.stream.limits (disclosed share.0 h) share.1 (place x.stream.standing) before each ((room_is_limits x.stream (disclosed share.0 h) (place x.stream.standing) share.1 so.stream).0 there) (omega (arith, range.shapes, ap (λ (l : Limits). l.shapes) so.limits_are))
+      streamable_more x.stream.limits (disclosed share.0 h) share.1 (place x.stream.standing) before each ((room_is_limits x.stream (disclosed share.0 h) (place x.stream.standing) share.1 so.stream).0 there) (omega (arith, range.shapes, ap (λ (l : StreamLimits). l.shapes) so.limits_are))
 
   by_size : (n : ℕ) → length share.1 ≡ n → AreStreamable (disclosed share.0 h ++ share.1)
   by_size zero is = subst AreStreamable (sym (ap (λ (l : List DataRecord). disclosed share.0 h ++ l) (nil_from_length share.1 is) ∙ append-nil (disclosed share.0 h))) before

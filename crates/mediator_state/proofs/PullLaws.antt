@@ -2,7 +2,7 @@
 use Rattle.std.proofs.Common.{◌≡◌, ℕ, Bool, true, false, List, Option, Some, None, refl, sym, ◌∙◌, subst}
 use Rattle.std.specs.Prelude.{◌≢◌, ◌==◌}
 use Rattle.std.proofs.lemmas.Bool.{eqb-true, eq-eqb}
-use Rattle.subscriber_stream.specs.declared.limits.Limits.{Limits}
+use Rattle.subscriber_stream.specs.declared.limits.StreamLimits.{StreamLimits}
 use Rattle.subscriber_stream.specs.Standing.{StandsAt}
 use Rattle.subscriber_stream.specs.Message.{built, place_after}
 use Rattle.event_journal.specs.declared.entry.Entry.{Entry}
@@ -18,13 +18,13 @@ use Rattle.mediator_state.specs.Calls.{StandsFor, Pulls}
 use Rattle.mediator_state.proofs.SameLaws.{stands_same}
 
 -- what a pull says of one subscription
-record IsPulled (h : List Entry) (limits : Limits) (sub now target : ℕ) (answer : Option (List ℕ)) (o n : Option Subscription) : Type 0 where
+record IsPulled (h : List Entry) (limits : StreamLimits) (sub now target : ℕ) (answer : Option (List ℕ)) (o n : Option Subscription) : Type 0 where
   pub live : is_live sub h ≡ true
   pub message : answer ≡ built (disclosed sub h) (place_in o) now target
   pub stands : IsLiveAs h limits sub n
   pub moved : place_in n ≡ place_after (disclosed sub h) (place_in o) target
 
-pulled : (h : List Entry) (limits : Limits) (sub now target : ℕ) (answer : Option (List ℕ)) (o n : Option Subscription) → is_live sub h ≡ true → Related (PullsOne now target answer) o n → IsLiveAs h limits sub o → IsPulled h limits sub now target answer o n
+pulled : (h : List Entry) (limits : StreamLimits) (sub now target : ℕ) (answer : Option (List ℕ)) (o n : Option Subscription) → is_live sub h ≡ true → Related (PullsOne now target answer) o n → IsLiveAs h limits sub o → IsPulled h limits sub now target answer o n
 pulled h limits sub now target answer None None live r is = absurd cc
 pulled h limits sub now target answer None (Some t) live r is = absurd r
 pulled h limits sub now target answer (Some s) None live r is = absurd r
@@ -44,7 +44,7 @@ pulled h limits sub now target answer (Some s) (Some t) live r is =
     }
 
 -- each of the others stays as it was
-each_as : (t u : Table) (h : List Entry) (limits : Limits) (sub : ℕ) → ((q : ℕ) → q ≢ sub → at u q ≡ at t q) → ((q : ℕ) → IsLiveAs h limits q (at t q)) → IsLiveAs h limits sub (at u sub) → (q : ℕ) → IsLiveAs h limits q (at u q)
+each_as : (t u : Table) (h : List Entry) (limits : StreamLimits) (sub : ℕ) → ((q : ℕ) → q ≢ sub → at u q ≡ at t q) → ((q : ℕ) → IsLiveAs h limits q (at t q)) → IsLiveAs h limits sub (at u sub) → (q : ℕ) → IsLiveAs h limits q (at u q)
 each_as t u h limits sub others all one q = by_number (q == sub) refl where
   by_number : (same : Bool) → (q == sub) ≡ same → IsLiveAs h limits q (at u q)
   by_number true is = subst (λ (n : ℕ). IsLiveAs h limits n (at u n)) (sym (eqb-true q sub is)) one

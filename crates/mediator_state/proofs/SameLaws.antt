@@ -6,7 +6,7 @@ use Rattle.std.specs.List.{AllByRecursion}
 use Rattle.ipfix_template.specs.DataRecord.{DataRecord}
 use Rattle.ipfix_session.specs.Keeping.{at_key}
 use Rattle.ipfix_session.specs.Standing.{Standing as SessionStanding, Stands as HoldsFor}
-use Rattle.subscriber_stream.specs.declared.limits.Limits.{Limits}
+use Rattle.subscriber_stream.specs.declared.limits.StreamLimits.{StreamLimits}
 use Rattle.subscriber_stream.specs.Shapes.{shapes_after}
 use Rattle.subscriber_stream.specs.Standing.{Standing, StandsAt, HasRoom, queued}
 use Rattle.disclosure_audit.specs.Queue.{StandsIn, Standing as Audited}
@@ -27,7 +27,7 @@ use Rattle.mediator_tables.specs.SubscriptionTable.{Seen, seen, at}
 use Rattle.mediator_shares.specs.InForce.{InForce}
 use Rattle.flow_aggregate.specs.Running.{Entries, StandsFor as StandsForRecords}
 use Rattle.mediator_state.specs.declared.engine.Engine.{Engine}
-use Rattle.mediator_state.specs.declared.plan.Plan.{Plan}
+use Rattle.mediator_state.specs.declared.plan.MessagePlan.{MessagePlan}
 use Rattle.mediator_state.specs.Standing.{place, IsSession, IsLiveAs, AreInRange, Stands}
 use Rattle.mediator_state.specs.Seen.{place_in, waiting_in, waiting_of, IsUntouched, IsSameEngine}
 use Rattle.mediator_shares.specs.Noting.{kept_of}
@@ -46,7 +46,7 @@ session_same h session (Some s) (Some t) e is =
     let same : session_seen t ≡ session_seen s = some_same (session_seen t) (session_seen s) e in
     (is.0, ap (λ (x : SeenSession). x.accepted) same ∙ is.1, subst (λ (x : SessionStanding). HoldsFor x (messages_of session h)) (sym (ap (λ (x : SeenSession). x.standing) same)) is.2)
 
-subscription_same : (h : List Entry) (limits : Limits) (sub : ℕ) (o n : Option Subscription) → option_map seen n ≡ option_map seen o → IsLiveAs h limits sub o → IsLiveAs h limits sub n
+subscription_same : (h : List Entry) (limits : StreamLimits) (sub : ℕ) (o n : Option Subscription) → option_map seen n ≡ option_map seen o → IsLiveAs h limits sub o → IsLiveAs h limits sub n
 subscription_same h limits sub None None e is = is
 subscription_same h limits sub None (Some t) e is = absurd cc
 subscription_same h limits sub (Some s) None e is = absurd cc
@@ -93,10 +93,10 @@ stands_same d e h same s = record {
   opened = same.opened ∙ s.opened;
   begun = same.begun ∙ s.begun;
   sessions = λ n. session_same h n (at_key n d.sessions) (at_key n e.sessions) (same.sessions n) (s.sessions n);
-  subscriptions = λ n. subst (λ (l : Limits). IsLiveAs h l n (at e.subscriptions n)) (sym same.limits) (subscription_same h d.limits n (at d.subscriptions n) (at e.subscriptions n) (same.subscriptions.each n) (s.subscriptions n));
+  subscriptions = λ n. subst (λ (l : StreamLimits). IsLiveAs h l n (at e.subscriptions n)) (sym same.limits) (subscription_same h d.limits n (at d.subscriptions n) (at e.subscriptions n) (same.subscriptions.each n) (s.subscriptions n));
   served_are = same.subscriptions.served ∙ s.served_are;
   audit = subst (λ (a : Audited). StandsIn a (audit_list h)) (sym same.audit) s.audit;
-  limits = subst (λ (l : Limits). AreInRange l) (sym same.limits) s.limits;
+  limits = subst (λ (l : StreamLimits). AreInRange l) (sym same.limits) s.limits;
   numbered = s.numbered;
   small = s.small;
 }
@@ -120,7 +120,7 @@ untouched_after a b c first then = record {
 cut_by_same : (d e : Engine) (h : List Entry) (entry : Entry) → IsSameEngine d e → (sub : ℕ) → is_cut_by d.limits h entry (waiting_of d) sub ≡ is_cut_by e.limits h entry (waiting_of e) sub
 cut_by_same d e h entry same sub =
     ap (λ (n : ℕ). overflows d.limits (disclosed sub h) n (given_at sub h entry)) (sym (waiting_same (at d.subscriptions sub) (at e.subscriptions sub) (same.subscriptions.each sub)))
-    ∙ ap (λ (l : Limits). overflows l (disclosed sub h) (waiting_of e sub) (given_at sub h entry)) (sym same.limits)
+    ∙ ap (λ (l : StreamLimits). overflows l (disclosed sub h) (waiting_of e sub) (given_at sub h entry)) (sym same.limits)
 
 rooms_same : (d e : Engine) → IsSameEngine d e → (shares : List (ℕ × List DataRecord)) → AllByRecursion (HasRoomIn d.subscriptions) shares → AllByRecursion (HasRoomIn e.subscriptions) shares
 rooms_same d e same [] all = tt
@@ -135,7 +135,7 @@ judged_same d e h entry cuts shares entries same j = record {
   streamable = j.streamable;
 }
 
-pub plan_same : (d e : Engine) (h : List Entry) (number : ℕ) (octets : List ℕ) (p : Plan) → IsSameEngine d e → IsPlan d h number octets p → IsPlan e h number octets p
+pub plan_same : (d e : Engine) (h : List Entry) (number : ℕ) (octets : List ℕ) (p : MessagePlan) → IsSameEngine d e → IsPlan d h number octets p → IsPlan e h number octets p
 plan_same d e h number octets p same plan = record {
   opened = plan.opened;
   turn = plan.turn;

@@ -22,7 +22,7 @@ use Rattle.mediator_tables.specs.SubscriptionTable.{HasSpare, AreReady}
 use Rattle.mediator_state.specs.declared.engine.Engine.{Engine}
 use Rattle.mediator_state.specs.declared.fault.Fault.{Fault}
 use Rattle.mediator_state.specs.declared.fault.Fault.TheVariants as fault
-use Rattle.mediator_state.specs.declared.plan.Plan.{Plan}
+use Rattle.mediator_state.specs.declared.plan.MessagePlan.{MessagePlan}
 use Rattle.mediator_state.specs.declared.receipt.Receipt.{Receipt}
 use Rattle.mediator_state.specs.Standing.{Stands}
 use Rattle.mediator_tables.specs.Adding.{AllReady, AreApart, AreCountable}
@@ -41,7 +41,7 @@ pub record HasAuditFor (audit : Kept) (more places : ℕ) : Type 0 where
   pub reserved : places ≤ audit.spare
 
 -- room was made for what a plan does, a place for each cut and one for all notes, and what it counts is ready so
-pub record HasRoomForPlan (e : Engine) (p : Plan) (added : List (ℕ × List Addition)) : Type 0 where
+pub record HasRoomForPlan (e : Engine) (p : MessagePlan) (added : List (ℕ × List Addition)) : Type 0 where
   pub audit : length e.audit.standing.entries + (length p.cuts.items + p.notes.count) ≤ e.audit.limit
   pub limit : e.audit.limit ≤ MOST_AUDITED
   pub reserved : length p.cuts.items + 1 ≤ e.audit.spare
@@ -50,7 +50,7 @@ pub record HasRoomForPlan (e : Engine) (p : Plan) (added : List (ℕ × List Add
   pub groups : AreApart (map tallied p.tallies.items) → AllReady e.groups added (map tallied p.tallies.items)
 
 -- it is the plan for a message behind some history of so many entries
-pub record IsPlannedFor (e : Engine) (position : ℕ) (p : Plan) : Type 0 where
+pub record IsPlannedFor (e : Engine) (position : ℕ) (p : MessagePlan) : Type 0 where
   pub history : List Entry
   pub number : ℕ
   pub octets : List ℕ

@@ -8,6 +8,7 @@ use Rattle.policy_text.specs.Policies.{Meaning as Policy}
 use Rattle.policy_text.specs.Parsing.{policy_of}
 use Rattle.policy_text.specs.Naming.{is_name}
 use Rattle.subscriber_stream.specs.declared.limits.TheConstants.{MOST_QUEUE, MOST_SHAPES}
+use Rattle.subscriber_stream.specs.declared.limits.StreamLimits.{StreamLimits}
 use Rattle.subscriber_stream.specs.Shapes.{shapes_of}
 use Rattle.subscriber_stream.specs.Parts.{parts, records_in}
 use Rattle.subscriber_stream.specs.Message.{built, place_after}
@@ -28,18 +29,18 @@ use Rattle.mediator_state.specs.declared.receipt.Receipt.{Receipt}
 use Rattle.mediator_state.specs.declared.receipt.Status.{Status}
 use Rattle.mediator_state.specs.declared.fault.Fault.{Fault}
 use Rattle.mediator_state.specs.declared.fault.Fault.TheVariants as fault
-use Rattle.mediator_state.specs.declared.state.Limits.{Limits}
 use Rattle.mediator_state.specs.declared.state.State.{State}
 use Rattle.mediator_state.specs.Standing.{Stands}
 use Rattle.mediator_state.specs.Seen.{place_of, waiting_of, IsUntouched}
 use Rattle.mediator_state.specs.Planning.{IsNext, RefusesMessage}
 use Rattle.mediator_state.specs.Accepting.{receipt_of}
 
-pub record AreLimits (limits : Limits) : Type 0 where
-  pub queue : limits.queue ≤ MOST_QUEUE
-  pub shapes : limits.shapes ≤ MOST_SHAPES
-  pub some_audit : 1 ≤ limits.audit
-  pub audit : limits.audit ≤ MOST_AUDITED
+-- what the stream of each subscription may hold, and how many audit entries may wait
+pub record AreLimits (streams : StreamLimits) (audit : ℕ) : Type 0 where
+  pub queue : streams.queue ≤ MOST_QUEUE
+  pub shapes : streams.shapes ≤ MOST_SHAPES
+  pub least : 1 ≤ audit
+  pub most : audit ≤ MOST_AUDITED
 
 -- the state stands for the history, which what keeps it tells
 pub record StandsFor {C : Type 0} (tells : C → List Entry → Type 0) (s : State C) (h : List Entry) : Type 0 where

@@ -32,7 +32,7 @@ use Rattle.mediator_state.specs.declared.engine.Engine.{Engine}
 use Rattle.mediator_state.specs.declared.fault.Fault.{Fault}
 use Rattle.mediator_state.specs.declared.fault.Fault.TheVariants as fault
 use Rattle.mediator_state.specs.declared.plan.Judged.{Judged}
-use Rattle.mediator_state.specs.declared.plan.Plan.{Plan}
+use Rattle.mediator_state.specs.declared.plan.MessagePlan.{MessagePlan}
 use Rattle.mediator_state.specs.Seen.{waiting_of}
 
 -- whether there is no room for the share of one that is served
@@ -81,7 +81,7 @@ abbrev pub IsJudgedFor : Engine → List Entry → Meaning → Judged → Type 0
 IsJudgedFor e h m j = (session number : ℕ) (octets : List ℕ) → meaning_of (messages_of session h) octets ≡ Ok m → IsJudgedAs e h (Message session number octets) j
 
 -- what a message would do behind a history
-pub record IsPlan (e : Engine) (h : List Entry) (number : ℕ) (octets : List ℕ) (p : Plan) : Type 0 where
+pub record IsPlan (e : Engine) (h : List Entry) (number : ℕ) (octets : List ℕ) (p : MessagePlan) : Type 0 where
   pub opened : is_open p.session h ≡ true
   pub turn : number ≡ length (messages_of p.session h)
   pub read : IsReadingOf (messages_of p.session h) octets p.reading

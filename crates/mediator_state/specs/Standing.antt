@@ -3,7 +3,7 @@ use Rattle.std.specs.Prelude.{◌≡◌, ℕ, ◌+◌, ◌*◌, ◌≤◌, ◌<�
 use Rattle.std.specs.List.{flat_map, AllByRecursion}
 use Rattle.ipfix_session.specs.Keeping.{at_key}
 use Rattle.ipfix_session.specs.Standing.{StandsFor}
-use Rattle.subscriber_stream.specs.declared.limits.Limits.{Limits}
+use Rattle.subscriber_stream.specs.declared.limits.StreamLimits.{StreamLimits}
 use Rattle.subscriber_stream.specs.declared.limits.TheConstants.{MOST_QUEUE, MOST_SHAPES}
 use Rattle.subscriber_stream.specs.Standing.{Standing, StandsAt}
 use Rattle.stream_meaning.specs.Served.{AreStreamable}
@@ -34,7 +34,7 @@ IsSession h session None = is_open session h ≡ false
 IsSession h session (Some o) = (is_open session h ≡ true) × (o.accepted ≡ length (messages_of session h)) × StandsFor o.session (messages_of session h)
 
 -- the subscription is live, and its stream stands in what is disclosed to it
-pub record IsSubscription (h : List Entry) (limits : Limits) (sub : ℕ) (s : Subscription) : Type 0 where
+pub record IsSubscription (h : List Entry) (limits : StreamLimits) (sub : ℕ) (s : Subscription) : Type 0 where
   pub live : is_live sub h ≡ true
   pub name : s.name ≡ name_of sub h
   pub cut : s.is_cut ≡ not (is_served sub h)
@@ -42,7 +42,7 @@ pub record IsSubscription (h : List Entry) (limits : Limits) (sub : ℕ) (s : Su
   pub limits_are : s.stream.limits ≡ limits
 
 -- so it is; or the subscription isn't live
-abbrev pub IsLiveAs : List Entry → Limits → ℕ → Option Subscription → Type 0
+abbrev pub IsLiveAs : List Entry → StreamLimits → ℕ → Option Subscription → Type 0
 IsLiveAs h limits sub None = is_live sub h ≡ false
 IsLiveAs h limits sub (Some s) = IsSubscription h limits sub s
 
@@ -73,7 +73,7 @@ pub record IsSmall (h : List Entry) : Type 0 where
   pub streamable : (sub : ℕ) → AreStreamable (disclosed sub h)
 
 -- the limits are ones that a mediator may have
-pub record AreInRange (limits : Limits) : Type 0 where
+pub record AreInRange (limits : StreamLimits) : Type 0 where
   pub queue : limits.queue ≤ MOST_QUEUE
   pub shapes : limits.shapes ≤ MOST_SHAPES
 

@@ -15,7 +15,7 @@ ghost use Rattle.mediator_history.specs.Cuts.{after_cuts};
 
 use crate::closing::Closing;
 use crate::fault::Fault;
-use crate::plan::Plan;
+use crate::plan::MessagePlan;
 use crate::receipt::Receipt;
 use disclosure_audit::{Audit, AuditEntry, Note, What};
 use hash_keys::HashKeys;
@@ -26,7 +26,7 @@ use policy_text::Policy;
 use prepared_message::Snapshot;
 use std::alloc::{AllocError, Global};
 use std::sync::Arc;
-use subscriber_stream::{Limits, Stream};
+use subscriber_stream::{Stream, StreamLimits};
 
 /// What a mediator keeps beside its history. Contracts say by `Stands` for which histories it stands. Its calls change
 /// it by one entry, or by none.
@@ -35,7 +35,7 @@ pub(crate) struct Engine {
     /// By what tables are hashed whose entries exporters choose.
     keys: HashKeys,
     /// How much each subscription's stream may hold.
-    pub(crate) limits: Limits,
+    pub(crate) limits: StreamLimits,
     /// The policy in force, and the time of the clock.
     pub(crate) in_force: InForce,
     /// How many edits there were.
@@ -89,7 +89,7 @@ impl Engine {
     ///
     /// # Errors
     /// Want of memory.
-    pub(crate) fn new(alloc: Global, limits: Limits, audit: u32) -> Result<Engine, AllocError>
+    pub(crate) fn new(alloc: Global, limits: StreamLimits, audit: u32) -> Result<Engine, AllocError>
         requires range { AreInRange limits }
         requires least { 1 ≤ audit }
         requires most { audit ≤ MOST_AUDITED }
@@ -383,7 +383,7 @@ impl Engine {
     /// # Errors
     /// [`Fault::AuditFull`] where the audit has no room for its cuts and notes; or [`Fault::OutOfMemory`]. Only
     /// reserved room has changed then.
-    pub(crate) fn make_room(&mut self, plan: &Plan) -> Result<Vec<Reserved>, Fault>
+    pub(crate) fn make_room(&mut self, plan: &MessagePlan) -> Result<Vec<Reserved>, Fault>
         ensures unchanged { IsSameEngine self.old self.new }
         ensures ok { IfOk result (λ reserved.
             HasRoomForPlan self.new plan.now (map reserved_for reserved.items)) }
@@ -400,7 +400,12 @@ impl Engine {
     /// Does what `plan` says, in the room that [`make_room`](Engine::make_room) made for it, behind a history of
     /// `position` entries. `reserved` is what that call made ready. The answer is the receipt of the message. It takes
     /// no memory and can't fail.
-    pub(crate) fn accept(&mut self, position: u64, plan: Plan, reserved: Vec<Reserved>) -> Receipt
+    pub(crate) fn accept(
+        &mut self,
+        position: u64,
+        plan: MessagePlan,
+        reserved: Vec<Reserved>,
+    ) -> Receipt
         requires room { HasRoomForPlan self.old plan (map reserved_for reserved.items) }
         requires planned { IsPlannedFor self.old position plan }
         // The message stands as the next entry, behind its cuts, and the receipt tells of it.

@@ -27,7 +27,7 @@ use stream_meaning::see_records;
 
 /// What a message would do.
 #[derive(Drop)]
-pub(crate) struct Plan {
+pub(crate) struct MessagePlan {
     /// The number of its session.
     pub(crate) session: u64,
     /// What it means, and what it changes of its session.
@@ -101,7 +101,7 @@ impl Engine {
         session: u64,
         reading: Reading,
         judgement: Option<Judgement>,
-    ) -> Result<Plan, AllocError>
+    ) -> Result<MessagePlan, AllocError>
         requires few { length reading.meaning.records ≤ 2 ^ 32 }
         requires short { position ≤ MOST_ENTRIES }
         requires judgement { IfSome judgement
@@ -115,7 +115,7 @@ impl Engine {
         ensures unchanged { self.new ≡ self.old }
     {
         let judged = self.judge(position, &reading, judgement)?;
-        Ok(Plan {
+        Ok(MessagePlan {
             session,
             reading,
             cuts: judged.cuts,

@@ -23,24 +23,13 @@ use policy_text::{FaultKind, Name, Policy, PolicyFault, is_name};
 use prepared_message::{JudgedAhead, Prepared, Snapshot};
 use std::alloc::{AllocError, Global};
 use std::slice::from_ref;
-use subscriber_stream::PullError;
+use subscriber_stream::{PullError, StreamLimits};
 
 /// How many records may wait for a subscription where nobody sets a limit: 65,536.
 pub const DEFAULT_QUEUE: u32 = 65_536;
 
 /// How many entries may wait in the audit where nobody sets a limit: 131,072.
 pub const DEFAULT_AUDIT: u32 = 131_072;
-
-/// How much a mediator may hold beside its history.
-#[derive(Clone, Copy, Debug, PartialEq, Eq)]
-pub struct Limits {
-    /// The most records that may wait for a subscription, 1 to 1,000,000.
-    pub queue: u32,
-    /// The most distinct templates of a subscription's records, 1 to 65,280.
-    pub shapes: u32,
-    /// The most audit entries that may wait, 1 to 10,000,000.
-    pub audit: u32,
-}
 
 /// A mediator's state: what keeps its history, and what it keeps beside that. Contracts say by `StandsFor` for which
 /// histories it stands. A call that is refused changes none of it.
@@ -53,28 +42,29 @@ pub struct State<C> {
 impl<C: Chronicle + Drop> State<C> {
     ghost use Rattle.mediator_state.specs.Calls.{StandsFor, StandsForSome, ForEachHistory, Proceeds, StaysSame, AreLimits, LacksRoom, Opens, RefusesOpen, Closes, RefusesClose};
 
-    /// A state before any entry: no session is open, nobody is subscribed, and the policy has no rules. It holds no
-    /// more than `limits` allow, each in its range, and its history is kept by `chronicle`, which has no entry. All of
+    /// A state before any entry: no session is open, nobody is subscribed, and the policy has no rules. The stream of
+    /// each subscription may hold what `streams` say, at most 1,000,000 records and 65,280 templates, and at most
+    /// `audit` audit entries may wait, 1 to 10,000,000. The history is kept by `chronicle`, which has no entry. All of
     /// it is in memory from `alloc`.
     ///
     /// # Errors
     /// Want of memory.
-    pub fn new(alloc: Global, limits: Limits, chronicle: C) -> Result<State<C>, AllocError>
-        requires range { AreLimits limits }
+    pub fn new(
+        alloc: Global,
+        streams: StreamLimits,
+        audit: u32,
+        chronicle: C,
+    ) -> Result<State<C>, AllocError>
+        requires range { AreLimits streams audit }
         // It stands for the history without an entry, which the chronicle keeps.
         ensures stands { IfOk result (λ s. C.tells chronicle [] → StandsFor C.tells s []) }
         ensures kept { IfOk result (λ s. s.chronicle ≡ chronicle) }
         // It holds what the limits say, and nothing was drained.
-        ensures limits { IfOk result (λ s.
-            s.engine.limits ≡ record { queue = limits.queue; shapes = limits.shapes }) }
-        ensures audit_limit { IfOk result (λ s. s.engine.audit.limit ≡ limits.audit) }
+        ensures limits { IfOk result (λ s. s.engine.limits ≡ streams) }
+        ensures audit_limit { IfOk result (λ s. s.engine.audit.limit ≡ audit) }
         ensures drained { IfOk result (λ s. s.engine.audit.standing.drained ≡ 0) }
     {
-        let streams = subscriber_stream::Limits {
-            queue: limits.queue,
-            shapes: limits.shapes,
-        };
-        let engine = Engine::new(alloc, streams, limits.audit)?;
+        let engine = Engine::new(alloc, streams, audit)?;
         Ok(State { chronicle, engine })
     }
 

@@ -4,7 +4,7 @@ use Rattle.std.specs.Option.{option_map, option_map_or}
 use Rattle.std.specs.List.{AllByRecursion, flat_map}
 use Rattle.ipfix_template.specs.DataRecord.{DataRecord}
 use Rattle.ipfix_session.specs.Keeping.{at_key}
-use Rattle.subscriber_stream.specs.declared.limits.Limits.{Limits}
+use Rattle.subscriber_stream.specs.declared.limits.StreamLimits.{StreamLimits}
 use Rattle.subscriber_stream.specs.Shapes.{shapes_after}
 use Rattle.subscriber_stream.specs.Standing.{Standing, Kept, HasRoom, queued}
 use Rattle.subscriber_stream.specs.Calls.{TakesRecords, Gives}
@@ -28,7 +28,7 @@ pub record Seen : Type 0 where
   pub name : List ℕ
   pub is_cut : Bool
   pub standing : Standing
-  pub limits : Limits
+  pub limits : StreamLimits
 
 abbrev pub seen : Subscription → Seen
 seen s = record { name = s.name; is_cut = s.is_cut; standing = s.stream.standing; limits = s.stream.limits }

@@ -6,7 +6,7 @@ use Rattle.sequences.specs.Before.{each_after, each_with_before}
 use Rattle.ipfix_template.specs.DataRecord.{DataRecord}
 use Rattle.subscriber_stream.specs.Parts.{parts, records_in}
 use Rattle.subscriber_stream.specs.Message.{run_length, built, place_after}
-use Rattle.subscriber_stream.specs.declared.limits.Limits.{Limits}
+use Rattle.subscriber_stream.specs.declared.limits.StreamLimits.{StreamLimits}
 use Rattle.subscriber_stream.specs.Shapes.{shapes_of}
 use Rattle.subscriber_stream.specs.Standing.{Standing, StandsAt, FitsLimits}
 use Rattle.subscriber_stream.specs.Calls.{Call, Given, Pulled, Pull, pulls_of, octets_from, Serves}
@@ -123,7 +123,7 @@ no_shapes = omega arith
 pub none_streamable : AreStreamable []
 none_streamable = record { each = tt; shapes = no_shapes }
 
-pub streamable_more : (limits : Limits) (records more : List DataRecord) (p : ℕ) → AreStreamable records → AllByRecursion IsStreamable more → FitsLimits limits records p more → limits.shapes ≤ MOST_SHAPES → AreStreamable (records ++ more)
+pub streamable_more : (limits : StreamLimits) (records more : List DataRecord) (p : ℕ) → AreStreamable records → AllByRecursion IsStreamable more → FitsLimits limits records p more → limits.shapes ≤ MOST_SHAPES → AreStreamable (records ++ more)
 streamable_more limits records more p may each fits few = record { each = AllByRecursion-append IsStreamable records more may.each each; shapes = omega (arith, fits.shapes, few) }
 
 -- ---- what is known of the messages

@@ -2,7 +2,7 @@
 //!
 //! Their premises are what the callers of a stream hold. Each record is one that a `Record` can be: it is
 //! sound, and the numbers of its template fit the octets that they are written in (`see_records` tells it
-//! of any records that there are). The distinct templates are at most the 65,280 that a stream's `Limits` allow.
+//! of any records that there are). The distinct templates are at most the 65,280 that `StreamLimits` allow.
 //! An Export Time is a `u32`, and a target a `u16`.
 ghost use Rattle.std.specs.Prelude.{◌≡◌, ◌≤◌, ◌<◌, ◌^◌, ◌++◌, ◌∷◌, [], ℕ, List, length, take, Option, None};
 ghost use Rattle.std.specs.List.{AllByRecursion};
@@ -10,7 +10,7 @@ ghost use Rattle.sequences.specs.Before.{each_with_before};
 ghost use Rattle.ipfix_template.specs.DataRecord.{DataRecord};
 ghost use Rattle.subscriber_stream.specs.Parts.{parts, records_in};
 ghost use Rattle.subscriber_stream.specs.Message.{built, place_after};
-ghost use Rattle.subscriber_stream.specs.declared.limits.Limits.{Limits};
+ghost use Rattle.subscriber_stream.specs.declared.limits.StreamLimits.{StreamLimits};
 ghost use Rattle.subscriber_stream.specs.declared.limits.TheConstants.{MOST_SHAPES};
 ghost use Rattle.subscriber_stream.specs.Standing.{Standing, StandsAt, FitsLimits};
 ghost use Rattle.subscriber_stream.specs.Calls.{Call, Serves, pulls_of};
@@ -75,7 +75,7 @@ pub fn holders_keep()
     // What is given, or pulled, leaves both true.
     ensures given { (messages : List (List ℕ)) (records more : List DataRecord) (p : ℕ)
         → AreHandedOut messages records p → AreHandedOut messages (records ++ more) p }
-    ensures streamable_more { (limits : Limits) (records more : List DataRecord) (p : ℕ)
+    ensures streamable_more { (limits : StreamLimits) (records more : List DataRecord) (p : ℕ)
         → AreStreamable records → AllByRecursion IsStreamable more
         → FitsLimits limits records p more → limits.shapes ≤ MOST_SHAPES
         → AreStreamable (records ++ more) }

@@ -1,7 +1,7 @@
 -- What a stream keeps where the first records of a run are handed out.
 use Rattle.std.proofs.Common.{◌≡◌, ℕ, zero, suc, ◌+◌, ◌-◌, ◌≤◌, List, [], ◌∷◌, ◌++◌, length, drop, refl, sym, ap, subst, arith, length-append}
 use Rattle.ipfix_template.specs.declared.template.Template.{Template}
-use Rattle.subscriber_stream.specs.declared.limits.Limits.{Limits}
+use Rattle.subscriber_stream.specs.declared.limits.StreamLimits.{StreamLimits}
 use Rattle.subscriber_stream.specs.declared.waiting.Waiting.{Waiting}
 use Rattle.subscriber_stream.specs.declared.waiting.Waiting.TheVariants.{Bring}
 use Rattle.subscriber_stream.specs.Table.{Table}
@@ -40,11 +40,11 @@ few_rest id [] = omega arith
 few_rest id (text ∷ texts) = omega arith
 
 -- no more are handed out than wait
-pub few_out : (table : Table) (queue others : List Waiting) (capacity : ℕ) (limits : Limits) (counts : Counts) (spare : ℕ) (id n : ℕ) (texts : List (List ℕ)) → IsConsistent table queue capacity limits counts spare → queue ≡ Bring id texts ∷ others → n ≤ length texts → n ≤ counts.waiting
+pub few_out : (table : Table) (queue others : List Waiting) (capacity : ℕ) (limits : StreamLimits) (counts : Counts) (spare : ℕ) (id n : ℕ) (texts : List (List ℕ)) → IsConsistent table queue capacity limits counts spare → queue ≡ Bring id texts ∷ others → n ≤ length texts → n ≤ counts.waiting
 few_out table queue others capacity limits counts spare id n texts is queue_is le =
     omega (arith, is.counted, ap (λ (ws : List Waiting). entries (items_in ws)) queue_is, entries_rest id n texts (items_in others) le)
 
-pub records_out : (table : Table) (queue others after : List Waiting) (capacity : ℕ) (limits : Limits) (counts : Counts) (spare : ℕ) (id n : ℕ) (texts : List (List ℕ)) → IsConsistent table queue capacity limits counts spare → queue ≡ Bring id texts ∷ others → after ≡ rest_of id (drop n texts) ++ others → n ≤ length texts
+pub records_out : (table : Table) (queue others after : List Waiting) (capacity : ℕ) (limits : StreamLimits) (counts : Counts) (spare : ℕ) (id n : ℕ) (texts : List (List ℕ)) → IsConsistent table queue capacity limits counts spare → queue ≡ Bring id texts ∷ others → after ≡ rest_of id (drop n texts) ++ others → n ≤ length texts
     → IsConsistent table after capacity limits (record { waiting = counts.waiting - n; handed = counts.handed + n; announced = counts.announced }) spare
 records_out table queue others after capacity limits counts spare id n texts is queue_is after_is le =
     let C : List Waiting → Type 0 = λ ws. IsConsistent table ws capacity limits counts spare in

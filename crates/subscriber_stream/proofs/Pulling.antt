@@ -5,7 +5,7 @@ use Rattle.ipfix_template.specs.declared.template.Template.{Template}
 use Rattle.subscriber_stream.specs.Parts.{Part, records_in}
 use Rattle.subscriber_stream.specs.Message.{message, run_length, next_message}
 use Rattle.subscriber_stream.specs.Items.{Item, Announced, Brought, part_of, parts_of, AreKept, AreFollowed, announcements, entries, total, fits}
-use Rattle.subscriber_stream.specs.declared.limits.Limits.{Limits}
+use Rattle.subscriber_stream.specs.declared.limits.StreamLimits.{StreamLimits}
 use Rattle.subscriber_stream.specs.declared.waiting.Waiting.{Waiting}
 use Rattle.subscriber_stream.specs.Table.{Table}
 use Rattle.subscriber_stream.specs.Waiting.{items_of, items_in, AreFilled}
@@ -60,7 +60,7 @@ length_items [] = refl
 length_items (Announced id octets ∷ ws) = omega (arith, length_items ws)
 length_items (Brought id octets ∷ ws) = omega (arith, length_items ws)
 
-pub few_wait : (table : Table) (queue : List Waiting) (capacity : ℕ) (limits : Limits) (counts : Counts) (spare : ℕ) → IsConsistent table queue capacity limits counts spare → length (items_in queue) ≤ limits.queue + MOST_SHAPES
+pub few_wait : (table : Table) (queue : List Waiting) (capacity : ℕ) (limits : StreamLimits) (counts : Counts) (spare : ℕ) → IsConsistent table queue capacity limits counts spare → length (items_in queue) ≤ limits.queue + MOST_SHAPES
 few_wait table queue capacity limits counts spare is =
     omega (arith, length_items (items_in queue), is.counted, is.few_waiting, is.announced_before, is.few_shapes, is.few_ids)
 

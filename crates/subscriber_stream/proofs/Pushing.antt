@@ -12,7 +12,7 @@ use Rattle.ipfix_template.specs.Template.{IsAccepted, is_options, template_recor
 use Rattle.ipfix_template.specs.Equality.{same_template}
 use Rattle.ipfix_template.specs.SameTemplate.{same_template-is, same_template-itself}
 use Rattle.ipfix_records.specs.Runs.{RunOf, records_of}
-use Rattle.subscriber_stream.specs.declared.limits.Limits.{Limits}
+use Rattle.subscriber_stream.specs.declared.limits.StreamLimits.{StreamLimits}
 use Rattle.subscriber_stream.specs.declared.waiting.Waiting.{Waiting}
 use Rattle.subscriber_stream.specs.Shapes.{is_among, with_shape, id_of}
 use Rattle.subscriber_stream.specs.Parts.{Part, Announcement, Entry}
@@ -215,7 +215,7 @@ followed_append (Announced id octets ∷ vs) ws first second =
 followed_append (Brought id octets ∷ vs) ws first second = followed_append vs ws first second
 
 -- the table and the queue before and after, and what the run asks for
-pub record Takes (table grown : Table) (limits : Limits) (waiting handed spare : ℕ) (t : Template) (texts : List (List ℕ)) (announced : ℕ) : Type 0 where
+pub record Takes (table grown : Table) (limits : StreamLimits) (waiting handed spare : ℕ) (t : Template) (texts : List (List ℕ)) (announced : ℕ) : Type 0 where
   pub accepted : IsAccepted t
   pub announces : IsAnnounced t announced
   pub announced_few : announced ≤ longest_body - set_header_octets
@@ -232,7 +232,7 @@ pub record Takes (table grown : Table) (limits : Limits) (waiting handed spare :
 abbrev pub new_run : List Template → Template → List (List ℕ) → ℕ → List Waiting
 new_run shapes t texts announced = new_waiting (256 + position_or_len (same_template t) shapes) (cond (is_among t shapes) None (Some announced)) texts
 
-pub taken : (table grown : Table) (queue : List Waiting) (capacity : ℕ) (limits : Limits) (counts : Counts) (spare : ℕ) (t : Template) (texts : List (List ℕ)) (announced_octets : ℕ)
+pub taken : (table grown : Table) (queue : List Waiting) (capacity : ℕ) (limits : StreamLimits) (counts : Counts) (spare : ℕ) (t : Template) (texts : List (List ℕ)) (announced_octets : ℕ)
     → IsConsistent table queue capacity limits counts spare → Takes table grown limits counts.waiting counts.handed spare t texts announced_octets
     → IsConsistent grown (queue ++ new_run table.shapes t texts announced_octets) capacity limits (record { waiting = counts.waiting + length texts; handed = counts.handed; announced = counts.announced }) (spare - length texts) × (parts_of grown.shapes (items_in (queue ++ new_run table.shapes t texts announced_octets)) ≡ parts_of table.shapes (items_in queue) ++ run_parts table.shapes t texts)
 taken table grown queue capacity limits counts spare t texts announced_octets is takes =
@@ -304,16 +304,16 @@ id_same shapes t = by_test (is_among t shapes) where
   by_test true = refl
   by_test false = ap (λ (n : ℕ). 256 + n) (position_same (same_template t) t shapes (same_template-itself t))
 
-abbrev kept_with : List Template → Limits → ℕ → ℕ → ℕ → List Part → Kept
+abbrev kept_with : List Template → StreamLimits → ℕ → ℕ → ℕ → List Part → Kept
 kept_with shapes limits spare handed announced waiting = record { standing = record { shapes = shapes; handed = handed; announced = announced; waiting = waiting }; limits = limits; spare = spare }
 
 -- a record of a shape that is known
-one_known : (shapes : List Template) (limits : Limits) (spare handed announced : ℕ) (waiting : List Part) (t : Template) (text : List ℕ) → is_among t shapes ≡ true
+one_known : (shapes : List Template) (limits : StreamLimits) (spare handed announced : ℕ) (waiting : List Part) (t : Template) (text : List ℕ) → is_among t shapes ≡ true
     → given_one (kept_with shapes limits spare handed announced waiting) (kept_record t text) ≡ kept_with shapes limits (spare - 1) handed announced (waiting ++ entry_of (id_of t shapes) t text ∷ [])
 unfolding given_one
 one_known shapes limits spare handed announced waiting t text is = rw is refl
 
-given_known : (shapes : List Template) (limits : Limits) (spare handed announced : ℕ) (waiting : List Part) (t : Template) (texts : List (List ℕ)) → is_among t shapes ≡ true
+given_known : (shapes : List Template) (limits : StreamLimits) (spare handed announced : ℕ) (waiting : List Part) (t : Template) (texts : List (List ℕ)) → is_among t shapes ≡ true
     → given (kept_with shapes limits spare handed announced waiting) (map (kept_record t) texts) ≡ kept_with shapes limits (spare - length texts) handed announced (waiting ++ map (entry_of (id_of t shapes) t) texts)
 given_known shapes limits spare handed announced waiting t [] is =
     let none : spare ≡ spare - 0 = omega arith in
@@ -331,12 +331,12 @@ with_first : (waiting : List Part) (id : ℕ) (t : Template) (text : List ℕ) (
 with_first waiting id t text es true = append_assoc waiting (entry_of id t text ∷ []) es
 with_first waiting id t text es false = append_assoc waiting (Announcement id t ∷ entry_of id t text ∷ []) es
 
-first_given : (shapes : List Template) (limits : Limits) (spare handed announced : ℕ) (waiting : List Part) (t : Template) (text : List ℕ)
+first_given : (shapes : List Template) (limits : StreamLimits) (spare handed announced : ℕ) (waiting : List Part) (t : Template) (text : List ℕ)
     → given_one (kept_with shapes limits spare handed announced waiting) (kept_record t text) ≡ kept_with (with_shape shapes t) limits (spare - 1) handed announced (waiting ++ cond (is_among t shapes) (entry_of (id_of t shapes) t text ∷ []) (Announcement (id_of t shapes) t ∷ entry_of (id_of t shapes) t text ∷ []))
 unfolding given_one
 first_given shapes limits spare handed announced waiting t text = refl
 
-pub given_run : (shapes : List Template) (limits : Limits) (spare handed announced : ℕ) (waiting : List Part) (t : Template) (texts : List (List ℕ)) → 0 < length texts
+pub given_run : (shapes : List Template) (limits : StreamLimits) (spare handed announced : ℕ) (waiting : List Part) (t : Template) (texts : List (List ℕ)) → 0 < length texts
     → given (kept_with shapes limits spare handed announced waiting) (map (kept_record t) texts) ≡ kept_with (with_shape shapes t) limits (spare - length texts) handed announced (waiting ++ run_parts shapes t texts)
 given_run shapes limits spare handed announced waiting t [] some = absurd (omega arith)
 given_run shapes limits spare handed announced waiting t (text ∷ texts) some =
@@ -350,7 +350,7 @@ given_run shapes limits spare handed announced waiting t (text ∷ texts) some =
     ∙ ap (kept_with (with_shape shapes t) limits (spare - suc (length texts)) handed announced) (with_first waiting id t text (map (entry_of id t) texts) (is_among t shapes))
 
 -- what a stream keeps after it
-pub given_run-view : (k : Kept) (run : RunOf) (shapes : List Template) (limits : Limits) (spare handed announced : ℕ) (waiting after : List Part) (grown : List Template) → k ≡ kept_with shapes limits spare handed announced waiting → 0 < length run.texts → grown ≡ with_shape shapes run.template → after ≡ waiting ++ run_parts shapes run.template run.texts
+pub given_run-view : (k : Kept) (run : RunOf) (shapes : List Template) (limits : StreamLimits) (spare handed announced : ℕ) (waiting after : List Part) (grown : List Template) → k ≡ kept_with shapes limits spare handed announced waiting → 0 < length run.texts → grown ≡ with_shape shapes run.template → after ≡ waiting ++ run_parts shapes run.template run.texts
     → kept_with grown limits (spare - length run.texts) handed announced after ≡ given k (records_of run)
 given_run-view k run shapes limits spare handed announced waiting after grown is some grown_is after_is =
     ap (λ (ss : List Template). kept_with ss limits (spare - length run.texts) handed announced after) grown_is

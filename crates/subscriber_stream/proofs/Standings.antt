@@ -6,7 +6,7 @@ use Rattle.sequences.proofs.BeforeLaws.{each_with_before-push}
 use Rattle.ipfix_template.specs.Equality.{same_template}
 use Rattle.ipfix_template.specs.declared.template.Template.{Template}
 use Rattle.ipfix_template.specs.DataRecord.{DataRecord}
-use Rattle.subscriber_stream.specs.declared.limits.Limits.{Limits}
+use Rattle.subscriber_stream.specs.declared.limits.StreamLimits.{StreamLimits}
 use Rattle.subscriber_stream.specs.Shapes.{is_among, with_shape, shapes_after, shapes_of}
 use Rattle.subscriber_stream.specs.Parts.{Part, Announcement, Entry, parts_for, parts_at, parts, record_in, records_in}
 use Rattle.subscriber_stream.specs.Message.{message, run_length, next_message, built, place_after}
@@ -203,21 +203,21 @@ IsHanding-next left n count k start le few is =
 
 -- ---- what the queue holds, handed out
 
-abbrev kept_of : List Template → Limits → ℕ → ℕ → ℕ → List Item → Kept
+abbrev kept_of : List Template → StreamLimits → ℕ → ℕ → ℕ → List Item → Kept
 kept_of shapes limits spare handed announced ws = record { standing = record { shapes = shapes; handed = handed; announced = announced; waiting = parts_of shapes ws }; limits = limits; spare = spare }
 
 -- an announcement
-pub announce_out : (shapes : List Template) (limits : Limits) (spare handed announced : ℕ) (queue others : List Waiting) (id octets : ℕ) → queue ≡ Announce id octets ∷ others
+pub announce_out : (shapes : List Template) (limits : StreamLimits) (spare handed announced : ℕ) (queue others : List Waiting) (id octets : ℕ) → queue ≡ Announce id octets ∷ others
     → kept_of shapes limits spare handed (announced + 1) (items_in others) ≡ handed_parts 1 (kept_of shapes limits spare handed announced (items_in queue))
 unfolding handed_one
 announce_out shapes limits spare handed announced queue others id octets is = rw is refl
 
-one_brought : (shapes : List Template) (limits : Limits) (spare handed announced id : ℕ) (text : List ℕ) (ws : List Item) → handed_one (kept_of shapes limits spare handed announced (Brought id text ∷ ws)) ≡ kept_of shapes limits spare (handed + 1) announced ws
+one_brought : (shapes : List Template) (limits : StreamLimits) (spare handed announced id : ℕ) (text : List ℕ) (ws : List Item) → handed_one (kept_of shapes limits spare handed announced (Brought id text ∷ ws)) ≡ kept_of shapes limits spare (handed + 1) announced ws
 unfolding handed_one
 one_brought shapes limits spare handed announced id text ws = refl
 
 -- the first records of a run
-brought_out : (n : ℕ) (shapes : List Template) (limits : Limits) (spare handed announced id : ℕ) (texts : List (List ℕ)) (ws : List Item) → n ≤ length texts
+brought_out : (n : ℕ) (shapes : List Template) (limits : StreamLimits) (spare handed announced id : ℕ) (texts : List (List ℕ)) (ws : List Item) → n ≤ length texts
     → kept_of shapes limits spare (handed + n) announced (brings id (drop n texts) ++ ws) ≡ handed_parts n (kept_of shapes limits spare handed announced (brings id texts ++ ws))
 brought_out zero shapes limits spare handed announced id texts ws le =
     let e : handed + 0 ≡ handed = omega arith in ap (λ (h : ℕ). kept_of shapes limits spare h announced (brings id texts ++ ws)) e
@@ -232,7 +232,7 @@ pub items_rest : (id : ℕ) (texts : List (List ℕ)) (others : List Waiting) �
 items_rest id [] others = refl
 items_rest id (text ∷ texts) others = refl
 
-pub bring_out : (shapes : List Template) (limits : Limits) (spare handed announced : ℕ) (queue others after : List Waiting) (id n : ℕ) (texts : List (List ℕ)) → queue ≡ Bring id texts ∷ others → after ≡ rest_of id (drop n texts) ++ others → n ≤ length texts
+pub bring_out : (shapes : List Template) (limits : StreamLimits) (spare handed announced : ℕ) (queue others after : List Waiting) (id n : ℕ) (texts : List (List ℕ)) → queue ≡ Bring id texts ∷ others → after ≡ rest_of id (drop n texts) ++ others → n ≤ length texts
     → kept_of shapes limits spare (handed + n) announced (items_in after) ≡ handed_parts n (kept_of shapes limits spare handed announced (items_in queue))
 bring_out shapes limits spare handed announced queue others after id n texts is after_is le =
     ap (kept_of shapes limits spare (handed + n) announced) (ap items_in after_is ∙ items_rest id (drop n texts) others)

@@ -2,7 +2,7 @@
 use Rattle.std.specs.Prelude.{◌≡◌, ℕ, ◌+◌, ◌≤◌, List, [], ◌++◌, length, take, drop}
 use Rattle.ipfix_template.specs.declared.template.Template.{Template}
 use Rattle.ipfix_template.specs.DataRecord.{DataRecord}
-use Rattle.subscriber_stream.specs.declared.limits.Limits.{Limits}
+use Rattle.subscriber_stream.specs.declared.limits.StreamLimits.{StreamLimits}
 use Rattle.subscriber_stream.specs.Shapes.{shapes_after, shapes_of}
 use Rattle.subscriber_stream.specs.Parts.{Part, parts, records_in}
 
@@ -21,7 +21,7 @@ at_start = record { shapes = []; handed = 0; announced = 0; waiting = [] }
 -- the standing, the limits, and how many more records have room reserved
 pub record Kept : Type 0 where
   pub standing : Standing
-  pub limits : Limits
+  pub limits : StreamLimits
   pub spare : ℕ
 
 -- it stands at place p of the parts of the list
@@ -42,6 +42,6 @@ pub record HasRoom (k : Kept) (more : List DataRecord) : Type 0 where
   pub shapes : length (shapes_after k.standing.shapes more) ≤ k.limits.shapes
 
 -- the same, said of the list that was given before, of which the parts from place p on wait
-pub record FitsLimits (limits : Limits) (records : List DataRecord) (p : ℕ) (more : List DataRecord) : Type 0 where
+pub record FitsLimits (limits : StreamLimits) (records : List DataRecord) (p : ℕ) (more : List DataRecord) : Type 0 where
   pub queue : length (records_in (drop p (parts records))) + length more ≤ limits.queue
   pub shapes : length (shapes_of (records ++ more)) ≤ limits.shapes

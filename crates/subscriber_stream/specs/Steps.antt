@@ -1,7 +1,7 @@
 -- What one record that is given, and one part that is handed out, make of a stream's standing.
 use Rattle.std.specs.Prelude.{◌≡◌, ◌≤◌, ◌<◌, ℕ, zero, suc, ◌+◌, ◌-◌, ◌*◌, ◌^◌, List, [], ◌∷◌, ◌++◌, length}
 use Rattle.ipfix_template.specs.DataRecord.{DataRecord}
-use Rattle.subscriber_stream.specs.declared.limits.Limits.{Limits}
+use Rattle.subscriber_stream.specs.declared.limits.StreamLimits.{StreamLimits}
 use Rattle.subscriber_stream.specs.declared.limits.TheConstants.{MOST_SHAPES}
 use Rattle.subscriber_stream.specs.Shapes.{with_shape}
 use Rattle.subscriber_stream.specs.Parts.{Part, Announcement, Entry, parts_for}
@@ -44,7 +44,7 @@ pub record Counts : Type 0 where
   pub announced : ℕ
 
 -- what a stream keeps of itself, by its parts: the table, the queue and its capacity, the limits, the counts and the reserved room
-pub record IsConsistent (table : Table) (queue : List Waiting) (capacity : ℕ) (limits : Limits) (counts : Counts) (spare : ℕ) : Type 0 where
+pub record IsConsistent (table : Table) (queue : List Waiting) (capacity : ℕ) (limits : StreamLimits) (counts : Counts) (spare : ℕ) : Type 0 where
   pub filled : AreFilled queue
   pub kept : AreKept table.shapes (items_in queue)
   pub followed : AreFollowed (items_in queue)

@@ -10,7 +10,7 @@ mod tests;
 
 use crate::announcing::announced_octets;
 use crate::fitting::fitting;
-use crate::limits::Limits;
+use crate::limits::StreamLimits;
 use crate::pull_error::PullError;
 use crate::room::has_shape_room;
 use crate::shape_table::ShapeTable;
@@ -32,7 +32,7 @@ use std::marker::Model;
 /// before it, modulo 2^32, and its Observation Domain is 0 (RFC 7011, section 3.1).
 pub struct Stream {
     alloc: Global,
-    limits: Limits,
+    limits: StreamLimits,
     shapes: ShapeTable,
     queue: VecDeque<Waiting>,
     waiting: u32,
@@ -80,7 +80,7 @@ impl Stream {
 
     /// A stream that was given no record, and that holds at most what `limits` allow. What it comes
     /// to keep is taken from `alloc`. Its templates are hashed with keys that everybody knows.
-    pub fn new(alloc: Global, limits: Limits) -> Stream
+    pub fn new(alloc: Global, limits: StreamLimits) -> Stream
         requires { limits.shapes ≤ MOST_SHAPES }
         ensures value { result ≡ record { standing = at_start; limits = limits; spare = 0 } }
         ensures stands { StandsAt result.standing [] 0 }
@@ -93,7 +93,7 @@ impl Stream {
     /// A stream that was given no record, and that holds at most what `limits` allow. What it comes
     /// to keep is taken from `alloc`. Its templates are hashed with `keys`, so that no exporter can
     /// choose templates that collide where these are secret.
-    pub fn hashed(alloc: Global, limits: Limits, keys: HashKeys) -> Stream
+    pub fn hashed(alloc: Global, limits: StreamLimits, keys: HashKeys) -> Stream
         requires { limits.shapes ≤ MOST_SHAPES }
         ensures value { result ≡ record { standing = at_start; limits = limits; spare = 0 } }
         ensures stands { StandsAt result.standing [] 0 }
@@ -287,12 +287,12 @@ impl Stream {
     ///
     /// ```rust
     /// use ipfix_session::Session;
-    /// use subscriber_stream::{Limits, Stream};
+    /// use subscriber_stream::{Stream, StreamLimits};
     ///
     /// let message: &[u8] = b"\x00\x0a\x00\x24\x65\x53\xf1\x00\x00\x00\x00\x00\x00\x00\x00\x07\
     ///     \x00\x02\x00\x0c\x01\x00\x00\x01\x00\x01\x00\x04\x01\x00\x00\x08\x00\x00\x05\xdc";
     /// let read = Session::new(alloc).apply(message)?;
-    /// let limits = Limits {
+    /// let limits = StreamLimits {
     ///     queue: 10,
     ///     shapes: 10,
     /// };

@@ -5,7 +5,7 @@ use ipfix_session::Session;
 use std::alloc::{AllocError, Global};
 use std::process::Abort;
 use std::test::Fail;
-use subscriber_stream::{Limits, PullError, Stream};
+use subscriber_stream::{PullError, Stream, StreamLimits};
 
 /// The Export Time of the worked cases.
 const NOW: u32 = 0x6553_f13c;
@@ -472,7 +472,7 @@ fn holds(alloc: Global, stream: &mut Stream, step: &Step) -> Result<bool, Fail> 
 /// That what the steps of a case say is so.
 fn expect_case(rt: &impl Abort, alloc: Global, case: &Case) -> Result<(), Fail> {
     assert!(rt; case.shapes <= 65_280);
-    let limits = Limits {
+    let limits = StreamLimits {
         queue: case.queue,
         shapes: case.shapes,
     };

@@ -3,9 +3,7 @@ use crate::aggregates::AGGREGATES;
 use crate::cases::{CASES, Case, Step};
 use crate::worked::{are_lines, is_message, plain, status};
 use bytes::Bytes;
-use mediator_core::{
-    Call, Fault, Limits, Receipt, Reply, RunFault, SessionId, SubId, Transcript, run,
-};
+use mediator_core::{Call, Fault, Receipt, Reply, RunFault, SessionId, SubId, Transcript, run};
 use std::alloc::{AllocError, Global};
 use std::process::Abort;
 use std::test::Fail;
@@ -130,19 +128,9 @@ fn calls_of(alloc: Global, case: &Case) -> Result<Vec<Call>, AllocError> {
     Ok(calls)
 }
 
-fn limits_of(case: &Case) -> Limits {
-    Limits {
-        queue: case.limits.queue,
-        shapes: case.limits.shapes,
-        audit: case.limits.audit,
-        entries: case.entries,
-        octets: case.octets,
-    }
-}
-
 /// A run of a case's calls.
 fn run_case(alloc: Global, case: &Case) -> Result<Transcript, RunFault> {
-    run(alloc, limits_of(case), calls_of(alloc, case)?)
+    run(alloc, case.limits, calls_of(alloc, case)?)
 }
 
 /// Whether memory was refused to a call.

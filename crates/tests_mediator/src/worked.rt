@@ -9,10 +9,12 @@ use bytes::Bytes;
 use disclosure_audit::{AuditEntry, line};
 use event_journal::{Chronicle, Journal, MOST_ENTRIES, MOST_OCTETS, Tally};
 use ipfix_session::Skips;
-use mediator_state::{Fault, Limits, Receipt, State, Status};
+use mediator_core::Limits;
+use mediator_state::{Fault, Receipt, State, Status};
 use std::alloc::{AllocError, Global};
 use std::process::Abort;
 use std::test::Fail;
+use subscriber_stream::StreamLimits;
 
 /// A state over a chronicle of no entry.
 fn begin<C: Chronicle + Drop>(
@@ -28,7 +30,11 @@ fn begin<C: Chronicle + Drop>(
     assert!(rt; limits.shapes <= 65_280);
     assert!(rt; 1 <= limits.audit);
     assert!(rt; limits.audit <= 10_000_000);
-    State::new(alloc, limits, chronicle)
+    let streams = StreamLimits {
+        queue: limits.queue,
+        shapes: limits.shapes,
+    };
+    State::new(alloc, streams, limits.audit, chronicle)
 }
 
 /// Whether a message is the one that is wanted, or both are none.
@@ -169,7 +175,7 @@ fn expect_case<C: Chronicle + Drop>(
 
 /// That a case's calls answer what is wanted over a journal, and over a tally.
 fn expect_both(rt: &impl Abort, alloc: Global, case: &Case) -> Result<(), AllocError> {
-    let (entries, octets) = (case.entries, case.octets);
+    let (entries, octets) = (case.limits.entries, case.limits.octets);
     assert!(rt; 1 <= entries);
     assert!(rt; entries <= MOST_ENTRIES);
     assert!(rt; 1 <= octets);
