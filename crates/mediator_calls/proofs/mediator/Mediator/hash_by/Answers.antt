@@ -6,4 +6,4 @@ pub invariant_of-self : goal.invariant_of-self
 invariant_of-self c = kept_same c.self.inside.state c.hash_by.new.self c.self.invariant c.hash_by.ensures.unchanged
 
 pub returns : goal.returns
-returns c = record { same = same_on c.self.inside.state c.hash_by.new.self c.self.invariant.stands c.hash_by.ensures.unchanged ∙ c.self.view_is }
+returns c = record { unchanged = same_on c.self.inside.state c.hash_by.new.self c.self.invariant.stands c.hash_by.ensures.unchanged ∙ c.self.view_is }
