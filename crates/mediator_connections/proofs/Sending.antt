@@ -1,5 +1,5 @@
 -- Messages that are pulled and written one after another.
-use Rattle.std.proofs.Common.{◌≡◌, ℕ, zero, suc, ◌+◌, ◌-◌, ◌*◌, ◌≤◌, ◌<◌, ◌^◌, Bool, List, [], ◌∷◌, ◌++◌, length, take, drop, Option, Some, None, refl, sym, ap, ◌∙◌, subst, arith, append-nil, append_assoc, length-append, get_or}
+use Rattle.std.proofs.Common.{◌≡◌, ℕ, zero, suc, ◌+◌, ◌*◌, ◌≤◌, ◌<◌, ◌^◌, Bool, List, [], ◌∷◌, ◌++◌, length, take, drop, Option, Some, None, refl, sym, ap, ◌∙◌, subst, arith, append-nil, append_assoc, length-append, get_or}
 use Rattle.std.specs.List.{AllByRecursion}
 use Rattle.std.specs.Io.KnownBytes.{Appends}
 use Rattle.std.proofs.KnownBytes.{Appends-trans, Appends-nil}
@@ -68,35 +68,13 @@ pub record Pulled (Shows : ℕ → Type 0) (target : ℕ) (old new : Delivering)
   pub kept : new.kept ≡ old.kept ++ messages
   pub short : length (octets_of messages) ≤ length messages * 65535
 
-pub pulled : (Shows : ℕ → Type 0) (now target count : ℕ) (old new : Delivering) → Shows now → target < 2 ^ 16 → (k : KeepsSome old.kept now target count new.kept) → new.sub ≡ old.sub → Pulled Shows target old new k.messages
-pulled Shows now target count old new shown below k same = record {
-  due = all_due Shows now target k.messages shown k.built;
+pub pulled : (Shows : ℕ → Type 0) (now target : ℕ) (old new : Delivering) (messages : List Handed) → Shows now → target < 2 ^ 16 → KeepsSome old.kept now target messages new.kept → new.sub ≡ old.sub → Pulled Shows target old new messages
+pulled Shows now target old new messages shown below k same = record {
+  due = all_due Shows now target messages shown k.built;
   sub = same;
   kept = k.kept;
-  short = all_short now target k.messages below k.built;
+  short = all_short now target messages below k.built;
 }
-
-pub kept_same : (now target count : ℕ) (old new : Delivering) → count ≤ 0 → KeepsSome old.kept now target count new.kept → new.kept ≡ old.kept
-kept_same now target count old new none k = k.kept ∙ ap (λ t. old.kept ++ t) (empty k.messages (omega (arith, none, k.counted))) ∙ append-nil old.kept
-  where
-    empty : (hs : List Handed) → length hs ≡ 0 → hs ≡ []
-    empty [] l = refl
-    empty (h ∷ hs) l = absurd (omega (arith, l))
-
--- those that were pulled stand behind as many as were there
-pub pulled_are : (before old shown new messages : List Handed) → before ≡ old → shown ≡ new → new ≡ old ++ messages → take (length shown - length before) (drop (length before) shown) ≡ messages
-pulled_are before old shown new messages was is kept =
-    ap (take (length shown - length before)) dropped ∙ take_all (length shown - length before) messages (omega (arith, ap length whole, ap length was, length-append old messages))
-  where
-    behind : (xs ys : List Handed) → drop (length xs) (xs ++ ys) ≡ ys
-    behind [] ys = refl
-    behind (x ∷ xs) ys = behind xs ys
-
-    whole : shown ≡ old ++ messages
-    whole = is ∙ kept
-
-    dropped : drop (length before) shown ≡ messages
-    dropped = ap (λ (xs : List Handed). drop (length xs) shown) was ∙ ap (drop (length old)) whole ∙ behind old messages
 
 -- ---- messages one after another
 

@@ -118,14 +118,15 @@ fn send_messages<E: EntryLedger, H: RecordLedger, W: Sink, C: Clock>(
         (writer_of (W.contents writer.old) (W.contents writer.new)) (W.has_failed writer.new)) }
     ensures fails { IfErr result (λ e. W.has_failed writer.new ≡ writer_after e) }
 {
+    let alloc = handle.allocator();
     let mut sent = 0u64;
     'pulls: for _ in rt.forever() {
         if sent > u64::MAX - MOST_AT_ONCE * LONGEST_MESSAGE {
             return Err(ServeFault::Core(PullFault::HandedFull));
         }
-        let before = handle.kept().len();
-        if handle.pull_some(rt, shared, clock.now(), target, MOST_AT_ONCE)? > 0 {
-            sent = send_all(handle.allocator(), &handle.kept()[before..], writer, sent)?;
+        let messages = handle.pull_some(rt, shared, clock.now(), target, MOST_AT_ONCE)?;
+        if !messages.is_empty() {
+            sent = send_all(alloc, messages, writer, sent)?;
         } else if handle.wait(rt, shared) != Waited::Queued {
             return Ok(sent);
         }

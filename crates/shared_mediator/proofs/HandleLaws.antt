@@ -1,5 +1,5 @@
 -- What handles keep, as they keep more.
-use Rattle.std.proofs.Common.{◌≡◌, ℕ, ◌+◌, ◌<◌, Bool, true, List, [], ◌∷◌, ◌++◌, length, take, get_or, refl, sym, ap, ◌∙◌, subst, arith, append-nil, append_assoc}
+use Rattle.std.proofs.Common.{◌≡◌, ℕ, ◌+◌, ◌<◌, List, [], ◌∷◌, ◌++◌, length, take, get_or, refl, sym, ap, ◌∙◌, subst, arith, append-nil}
 use Rattle.std.specs.List.{AllByRecursion}
 use Rattle.std.proofs.lemmas.List.{length-append, take_more}
 use Rattle.sequences.proofs.ListLaws.{AllByRecursion-append}
@@ -8,7 +8,7 @@ use Rattle.shared_mediator.specs.declared.kept.KeptEntry.{KeptEntry}
 use Rattle.shared_mediator.specs.declared.handed.Handed.{Handed}
 use Rattle.shared_mediator.specs.Counted.{has_receipt}
 use Rattle.shared_mediator.specs.Locked.{Exporting}
-use Rattle.shared_mediator.specs.Handles.{HasReceipt, IsMessage, AreMessages, IsExporting, IsBuilt, KeepsHanded, KeepsSome}
+use Rattle.shared_mediator.specs.Handles.{HasReceipt, IsMessage, AreMessages, IsExporting, KeepsSome}
 use Rattle.shared_mediator.specs.Closing.{KeepsMessages}
 
 -- messages have receipts
@@ -42,22 +42,11 @@ entries_more xs i x low is before next = all_more (AllByRecursion HasReceipt) xs
 
 -- ---- several messages are kept
 
-pub keeps_none : (kept : List Handed) (now target : ℕ) → KeepsSome kept now target 0 kept
-keeps_none kept now target = record { messages = []; built = tt; kept = sym (append-nil kept); counted = refl }
+-- so many messages are kept behind the others
+pub record KeepsMany (old : List Handed) (now target count : ℕ) (new : List Handed) : Type 0 where
+  pub messages : List Handed
+  pub some : KeepsSome old now target messages new
+  pub counted : count ≡ length messages
 
-pub keeps_more : (old mid new : List Handed) (now target count : ℕ) (some_message : Bool) → KeepsSome old now target count mid → some_message ≡ true → KeepsHanded mid now target some_message new
-    → KeepsSome old now target (count + 1) new
-keeps_more old mid new now target count some_message so is keeps =
-    let k : (h : Handed) × IsBuilt now target h × (new ≡ mid ++ h ∷ []) = subst (λ b. KeepsHanded mid now target b new) is keeps in record {
-      messages = so.messages ++ k.0 ∷ [];
-      built = AllByRecursion-append (IsBuilt now target) so.messages (k.0 ∷ []) so.built (k.1, tt);
-      kept = k.2 ∙ ap (λ t. t ++ k.0 ∷ []) so.kept ∙ append_assoc old so.messages (k.0 ∷ []);
-      counted = omega (arith, so.counted, length-append so.messages (k.0 ∷ []));
-    }
-
-pub keeps_zero : (old new : List Handed) (now target count : ℕ) → KeepsSome old now target count new → count ≡ 0 → new ≡ old
-keeps_zero old new now target count so none = so.kept ∙ ap (λ t. old ++ t) (empty so.messages (sym so.counted ∙ none)) ∙ append-nil old
-  where
-    empty : (hs : List Handed) → length hs ≡ 0 → hs ≡ []
-    empty [] l = refl
-    empty (h ∷ hs) l = absurd (omega (arith, l))
+pub keeps_none : (kept : List Handed) (now target : ℕ) → KeepsMany kept now target 0 kept
+keeps_none kept now target = record { messages = []; some = record { built = tt; kept = sym (append-nil kept) }; counted = refl }

@@ -1,5 +1,5 @@
 -- What handles keep.
-use Rattle.std.specs.Prelude.{◌≡◌, ℕ, ◌+◌, Bool, true, false, List, [], ◌∷◌, ◌++◌, length, take, drop, sum_by, Some}
+use Rattle.std.specs.Prelude.{◌≡◌, ℕ, ◌+◌, true, List, [], ◌∷◌, ◌++◌, length, take, drop, sum_by, Option, Some, None}
 use Rattle.std.specs.List.{AllByRecursion}
 use Rattle.ipfix_template.specs.DataRecord.{DataRecord}
 use Rattle.subscriber_stream.specs.Parts.{parts, records_in}
@@ -62,14 +62,12 @@ pub record IsBuilt (now target : ℕ) (h : Handed) : Type 0 where
   pub message : Some h.message ≡ built listed place now target
   pub records : h.records ≡ length (records_in (take (taken listed place target) (drop place (parts listed))))
 
--- such a message is kept behind the others; or none is
-abbrev pub KeepsHanded : List Handed → ℕ → ℕ → Bool → List Handed → Type 0
-KeepsHanded old now target false new = new ≡ old
-KeepsHanded old now target true new = (h : Handed) × IsBuilt now target h × (new ≡ old ++ h ∷ [])
+-- the message is such a one, and is kept behind the others; or there is none
+abbrev pub KeepsHanded : List Handed → ℕ → ℕ → Option Handed → List Handed → Type 0
+KeepsHanded old now target None new = new ≡ old
+KeepsHanded old now target (Some h) new = IsBuilt now target h × (new ≡ old ++ h ∷ [])
 
--- so many such messages are kept behind the others
-pub record KeepsSome (old : List Handed) (now target count : ℕ) (new : List Handed) : Type 0 where
-  pub messages : List Handed
+-- the messages are such ones, and are kept behind the others, in their order
+pub record KeepsSome (old : List Handed) (now target : ℕ) (messages new : List Handed) : Type 0 where
   pub built : AllByRecursion (IsBuilt now target) messages
   pub kept : new ≡ old ++ messages
-  pub counted : count ≡ length messages
