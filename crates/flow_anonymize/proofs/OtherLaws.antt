@@ -14,7 +14,7 @@ use Rattle.policy_judge.specs.Laws.{concerning}
 use Rattle.policy_judge.proofs.NeverLaws.{acts_alone}
 use Rattle.disclosure_audit.specs.declared.entry.RemovedField.{RemovedField}
 use Rattle.flow_anonymize.proofs.Sound.{removed_from}
-use Rattle.flow_anonymize.specs.declared.disclosure.Reason.TheVariants as because
+use Rattle.disclosure_audit.specs.declared.reason.Reason.TheVariants as because
 use Rattle.flow_anonymize.specs.Outcome.{Outcome, Passes, Withholds}
 use Rattle.flow_anonymize.specs.Remaining.{verdicts_of, keeps, is_kept, shown_value, kept_fields, kept_values, removed_fields}
 use Rattle.flow_anonymize.specs.Disclosed.{remaining_template, remaining, first_lost, first_rule_of, unless_lost, transformed, by_action}

@@ -19,7 +19,7 @@ use Rattle.policy_judge.specs.Match.{matches_field}
 use Rattle.policy_judge.specs.Verdicts.{first_rule, element_verdict_by, record_verdict_of, element_verdict_of}
 use Rattle.disclosure_audit.specs.declared.entry.RemovedField.{RemovedField}
 use Rattle.std.proofs.lemmas.List.{length-map}
-use Rattle.flow_anonymize.specs.declared.disclosure.Reason.TheVariants as because
+use Rattle.disclosure_audit.specs.declared.reason.Reason.TheVariants as because
 use Rattle.flow_anonymize.specs.Outcome.{Passes, Withholds}
 use Rattle.flow_anonymize.specs.Remaining.{verdicts_of, keeps, is_kept, shown_value, kept_fields, kept_values, removed_fields}
 use Rattle.flow_anonymize.specs.Disclosed.{remaining, first_lost, first_rule_of, unless_lost, by_action}

@@ -10,7 +10,7 @@ use Rattle.policy_judge.specs.declared.verdict.RecordAction.TheVariants.{Pass, W
 use Rattle.policy_judge.specs.declared.verdict.RecordVerdict.{RecordVerdict}
 use Rattle.policy_judge.specs.declared.verdict.ElementVerdict.{ElementVerdict}
 use Rattle.policy_judge.specs.Verdicts.{record_verdict_of}
-use Rattle.flow_anonymize.specs.declared.disclosure.Reason.TheVariants as because
+use Rattle.disclosure_audit.specs.declared.reason.Reason.TheVariants as because
 use Rattle.disclosure_audit.specs.declared.entry.RemovedField.{RemovedField}
 use Rattle.flow_anonymize.specs.Outcome.{Outcome, Passes, Aggregates, Withholds}
 use Rattle.flow_anonymize.specs.Remaining.{verdicts_of, kept_fields, kept_values, removed_fields}

@@ -4,7 +4,7 @@ use Rattle.ipfix_template.specs.Values.{record_text}
 use Rattle.ipfix_template.specs.DataRecord.{DataRecord, IsKept, kept_record}
 use Rattle.flow_anonymize.specs.declared.disclosure.Disclosure.{Disclosure}
 use Rattle.flow_anonymize.specs.declared.disclosure.Disclosure.TheVariants.{Passed, Aggregated, Withheld}
-use Rattle.flow_anonymize.specs.declared.disclosure.Reason.{Reason}
+use Rattle.disclosure_audit.specs.declared.reason.Reason.{Reason}
 use Rattle.flow_anonymize.specs.declared.decision.Decision.{Decision}
 use Rattle.flow_anonymize.specs.declared.decision.Decision.TheVariants as decided
 use Rattle.disclosure_audit.specs.declared.entry.RemovedField.{RemovedField}

@@ -1,7 +1,6 @@
 //! What becomes of a record, but for what is handed on of it.
 
-use crate::disclosure::Reason;
-use disclosure_audit::RemovedFields;
+use disclosure_audit::{Reason, RemovedFields};
 
 /// What a policy makes of a record: as [`Disclosure`](crate::Disclosure) says it, but for the record that is handed on.
 #[derive(Debug, Drop)]

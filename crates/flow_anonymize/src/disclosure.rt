@@ -1,18 +1,7 @@
 //! What is disclosed of a record.
 
-use disclosure_audit::RemovedFields;
+use disclosure_audit::{Reason, RemovedFields};
 use ipfix_template::Record;
-
-/// Why nothing of a record is handed on.
-#[derive(Clone, Copy, Debug, PartialEq, Eq)]
-pub enum Reason {
-    /// The first matching rule on records withholds it, or none matches.
-    Rule,
-    /// A scope field is removed, without which the others say nothing (RFC 7011, section 3.4.2).
-    ScopeLost,
-    /// No octets are left of its shortest record, so no template can announce it.
-    Empty,
-}
 
 /// What a policy discloses of a record to a subscriber.
 #[derive(Drop)]
@@ -27,7 +16,8 @@ pub enum Disclosure {
         rule: u32,
         definition: usize,
     },
-    /// Nothing, by the rule of this number; it is 0 where no rule matches.
+    /// Nothing, by the rule of this number; it is 0 where no rule matches. The reason is one of rules alone: `Rule`, `ScopeLost` or
+    /// `Empty`.
     Withheld {
         rule: u32,
         reason: Reason,

@@ -8,11 +8,11 @@ ghost use Rattle.flow_anonymize.specs.Within.{AreJudged};
 ghost use Rattle.flow_anonymize.specs.Disclosed.{remaining_template, first_lost, first_rule_of, by_verdict};
 
 use crate::decision::Decision;
-use crate::disclosure::{Disclosure, Reason};
+use crate::disclosure::Disclosure;
 use crate::fields::{kept_fields, removed_fields};
 use crate::steps::{Step, put_by_steps, steps_of};
 use crate::values::kept_text;
-use disclosure_audit::{RemovedField, RemovedFields};
+use disclosure_audit::{Reason, RemovedField, RemovedFields};
 use ipfix_template::{Fields, Record, RecordView, Template};
 use policy_judge::{ElementVerdict, RecordAction, RecordVerdict};
 use std::alloc::{AllocError, Global};

@@ -4,14 +4,11 @@ use Rattle.std.specs.List.{flat_map}
 use Rattle.sequences.specs.Before.{each_with_before}
 use Rattle.ipfix_template.specs.DataRecord.{DataRecord}
 use Rattle.policy_text.specs.Policies.{Aggregate}
-use Rattle.disclosure_audit.specs.declared.reason.Reason.{Reason}
-use Rattle.disclosure_audit.specs.declared.reason.Reason.TheVariants as named
+use Rattle.disclosure_audit.specs.declared.reason.Reason.TheVariants as because
 use Rattle.disclosure_audit.specs.declared.entry.RemovedField.{RemovedField}
 use Rattle.disclosure_audit.specs.declared.entry.What.{What}
 use Rattle.disclosure_audit.specs.declared.entry.What.TheVariants.{Withheld, Aggregated, Removed, Cut as CutOff}
 use Rattle.disclosure_audit.specs.declared.entry.AuditEntry.{AuditEntry}
-use Rattle.flow_anonymize.specs.declared.disclosure.Reason.{Reason as Because}
-use Rattle.flow_anonymize.specs.declared.disclosure.Reason.TheVariants as because
 use Rattle.flow_anonymize.specs.Outcome.{Outcome, Passes, Aggregates, Withholds}
 use Rattle.flow_aggregate.specs.declared.timing.Timing.{Timing}
 use Rattle.flow_aggregate.specs.declared.timing.Timing.TheVariants as timing
@@ -21,11 +18,6 @@ use Rattle.mediator_history.specs.Subscriptions.{policy_in_force, served}
 use Rattle.mediator_history.specs.Accepted.{Accepted, accepted_at}
 use Rattle.mediator_history.specs.Counting.{outcome_for, clock_of, timing_at}
 
-abbrev pub reason_named : Because → Reason
-reason_named because.Rule = named.Rule
-reason_named because.ScopeLost = named.ScopeLost
-reason_named because.Empty = named.Empty
-
 -- what was kept back of a record; nothing of one that passes with all its fields
 abbrev pub removed_of : List RemovedField → List What
 removed_of [] = []
@@ -34,14 +26,14 @@ removed_of (field ∷ fields) = Removed (field ∷ fields) ∷ []
 -- of a record that an aggregate rule names: that it counts, or why it doesn't
 abbrev pub told_of : ℕ → Timing → What
 told_of rule (timing.Placed start) = Aggregated rule
-told_of rule timing.NoTime = Withheld rule named.NoTime
-told_of rule timing.NoKey = Withheld rule named.NoKey
-told_of rule timing.Late = Withheld rule named.Late
+told_of rule timing.NoTime = Withheld rule because.NoTime
+told_of rule timing.NoKey = Withheld rule because.NoKey
+told_of rule timing.Late = Withheld rule because.Late
 
 abbrev pub kept_back : List Aggregate → ℕ → DataRecord → Outcome → List What
 kept_back aggregates clock r (Passes kept removed) = removed_of removed
 kept_back aggregates clock r (Aggregates rule place) = told_of rule (timing_at aggregates place r clock) ∷ []
-kept_back aggregates clock r (Withholds rule reason) = Withheld rule (reason_named reason) ∷ []
+kept_back aggregates clock r (Withholds rule reason) = Withheld rule reason ∷ []
 
 abbrev pub audit_entry : ℕ → ℕ → ℕ → What → AuditEntry
 audit_entry position index sub what = record { position = position; index = index; sub = sub; what = what }

@@ -13,7 +13,7 @@ use Rattle.flow_anonymize.specs.declared.decision.Decision.{Decision}
 use Rattle.flow_anonymize.specs.declared.decision.Decision.TheVariants.{Passed, Aggregated, Withheld}
 use Rattle.flow_aggregate.specs.Groups.{Counted}
 use Rattle.mediator_history.specs.Counting.{counts, counted_in, timing_at}
-use Rattle.mediator_history.specs.Auditing.{kept_back, removed_of, told_of, reason_named}
+use Rattle.mediator_history.specs.Auditing.{kept_back, removed_of, told_of}
 use Rattle.mediator_shares.specs.InForce.{InForce}
 use Rattle.mediator_tables.specs.declared.served.Served.{Served}
 use Rattle.disclosure_audit.specs.declared.entry.Note.{Note}
@@ -59,7 +59,7 @@ tallies_of domain f records served = map (tally_of domain f records) served
 abbrev pub kept_back_by : List Aggregate → ℕ → DataRecord → Decision → List What
 kept_back_by aggregates clock r (Passed removed) = removed_of removed
 kept_back_by aggregates clock r (Aggregated rule place) = told_of rule (timing_at aggregates place r clock) ∷ []
-kept_back_by aggregates clock r (Withheld rule reason) = what.Withheld rule (reason_named reason) ∷ []
+kept_back_by aggregates clock r (Withheld rule reason) = what.Withheld rule reason ∷ []
 
 abbrev pub counts_by : List Aggregate → ℕ → DataRecord → Decision → List Counted
 counts_by aggregates clock r (Aggregated rule place) = counted_in (slice_get aggregates place) r (timing_at aggregates place r clock)
