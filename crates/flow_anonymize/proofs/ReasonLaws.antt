@@ -10,7 +10,8 @@ use Rattle.policy_judge.specs.declared.verdict.ElementVerdict.{ElementVerdict}
 use Rattle.policy_judge.specs.Verdicts.{record_verdict_of}
 use Rattle.disclosure_audit.specs.declared.entry.RemovedField.{RemovedField}
 use Rattle.disclosure_audit.specs.declared.reason.Reason.TheVariants as because
-use Rattle.flow_anonymize.specs.Outcome.{Outcome, Passes, Withholds}
+use Rattle.flow_anonymize.specs.declared.disclosure.Disclosure.TheVariants.{Passed, Withheld}
+use Rattle.flow_anonymize.specs.Outcome.{Outcome}
 use Rattle.flow_anonymize.specs.Remaining.{verdicts_of, removed_fields}
 use Rattle.flow_anonymize.specs.Disclosed.{remaining, first_lost, first_rule_of, unless_lost, by_action}
 use Rattle.flow_anonymize.specs.Reasons.{IsByRules, ReasonsAreOfRules}
@@ -23,7 +24,7 @@ by_action_withheld (Aggregate definition) rule passing is = tt
 left_by : (o : Option RemovedField) (left : DataRecord) (removed : List RemovedField) → IsByRules (unless_lost o left removed)
 left_by (Some field) left removed = tt
 left_by None left removed = by (shortest_record left.template == 0) where
-  by : (b : Bool) → IsByRules (cond b (Withholds (first_rule_of removed) because.Empty) (Passes left removed))
+  by : (b : Bool) → IsByRules (cond b (Withheld (first_rule_of removed) because.Empty) (Passed left removed))
   by true = tt
   by false = tt
 

@@ -3,8 +3,7 @@
 //! of it, or its count in an aggregate (RFC 6235: truncation, in sections 4.1.1 and 4.2.1,
 //! precision degradation, in section 4.3.1, and black-marker anonymization, which removes a field).
 //!
-//! - `disclosure`: [`Disclosure`], with [`RemovedFields`] and [`Reason`] of the audit; `decision`:
-//!   [`Decision`], which has all of that but the record.
+//! - `disclosure`: [`Disclosure`], with [`RemovedFields`] and [`Reason`] of the audit.
 //! - `transform`: [`disclose`]; `by_table`: [`disclose_by`], by a table of the rules.
 //! - `fields`: the verdict on each field, and which fields stay; `plan`: what becomes of all
 //!   records for which the verdicts are equal; `steps`, `change`, `values`: what is shown of a
@@ -32,7 +31,6 @@
 
 mod by_table;
 mod change;
-mod decision;
 mod disclosure;
 mod fields;
 mod laws;
@@ -47,7 +45,6 @@ mod transform;
 mod values;
 
 pub use by_table::disclose_by;
-pub use decision::Decision;
 pub use disclosure::Disclosure;
 pub use disclosure_audit::{Reason, RemovedField, RemovedFields};
 pub use laws::{

@@ -17,10 +17,11 @@ use Rattle.policy_text.proofs.OneFaultLaws.{spelled_kept}
 use Rattle.policy_text.proofs.SpellLaws.{policy_of-found}
 use Rattle.disclosure_audit.specs.declared.entry.RemovedField.{RemovedField}
 use Rattle.disclosure_audit.specs.declared.entry.What.{What}
-use Rattle.disclosure_audit.specs.declared.entry.What.TheVariants.{Withheld, Removed, Cut as CutOff}
+use Rattle.disclosure_audit.specs.declared.entry.What.TheVariants as what
 use Rattle.disclosure_audit.specs.declared.reason.Reason.{Reason}
 use Rattle.disclosure_audit.specs.declared.reason.Reason.TheVariants as because
-use Rattle.flow_anonymize.specs.Outcome.{Outcome, Passes, Aggregates, Withholds}
+use Rattle.flow_anonymize.specs.declared.disclosure.Disclosure.TheVariants.{Passed, Aggregated, Withheld}
+use Rattle.flow_anonymize.specs.Outcome.{Outcome}
 use Rattle.flow_anonymize.specs.Reasons.{IsOfRules, IsByRules}
 use Rattle.flow_anonymize.proofs.ReasonLaws.{reasons_are_of_rules}
 use Rattle.flow_aggregate.specs.declared.timing.Timing.{Timing}
@@ -124,7 +125,7 @@ timing_early (a ∷ aggregates) (suc place) r last late = timing_early aggregate
 
 -- what is said of a record isn't that it is late
 abbrev SaysOther : What → Type 0
-SaysOther what = (rule : ℕ) → what ≢ Withheld rule because.Late
+SaysOther said = (rule : ℕ) → said ≢ what.Withheld rule because.Late
 
 told_other : (rule : ℕ) (timing : Timing) → timing ≢ Late → SaysOther (told_of rule timing)
 told_other rule (Placed start) early other is = absurd cc
@@ -135,10 +136,10 @@ told_other rule Late early other is = early refl
 removed_other : (removed : List RemovedField) → AllByRecursion SaysOther (removed_of removed)
 removed_other [] = tt
 removed_other (field ∷ fields) = (λ rule is. absurd (no rule is), tt) where
-  no : (rule : ℕ) → Removed (field ∷ fields) ≡ Withheld rule because.Late → ⊥
+  no : (rule : ℕ) → what.Removed (field ∷ fields) ≡ what.Withheld rule because.Late → ⊥
   no rule is = absurd cc
 
-withheld_other : (rule : ℕ) (reason : Reason) → IsOfRules reason → SaysOther (Withheld rule reason)
+withheld_other : (rule : ℕ) (reason : Reason) → IsOfRules reason → SaysOther (what.Withheld rule reason)
 withheld_other rule because.Rule by other is = absurd cc
 withheld_other rule because.ScopeLost by other is = absurd cc
 withheld_other rule because.Empty by other is = absurd cc
@@ -147,13 +148,13 @@ withheld_other rule because.NoKey by other is = by
 withheld_other rule because.Late by other is = by
 
 kept_other : (aggregates : List Aggregate) (r : DataRecord) (outcome : Outcome) → HaveIntervals aggregates → IsByRules outcome → AllByRecursion SaysOther (kept_back aggregates 0 r outcome)
-kept_other aggregates r (Passes kept removed) last by = removed_other removed
-kept_other aggregates r (Aggregates rule place) last by = (told_other rule (timing_at aggregates place r 0) (timing_early aggregates place r last), tt)
-kept_other aggregates r (Withholds rule reason) last by = (withheld_other rule reason by, tt)
+kept_other aggregates r (Passed kept removed) last by = removed_other removed
+kept_other aggregates r (Aggregated rule place) last by = (told_other rule (timing_at aggregates place r 0) (timing_early aggregates place r last), tt)
+kept_other aggregates r (Withheld rule reason) last by = (withheld_other rule reason by, tt)
 
 stamped : (position index sub : ℕ) (said : List What) → AllByRecursion SaysOther said → AllByRecursion IsNotLate (map (audit_entry position index sub) said)
 stamped position index sub [] other = tt
-stamped position index sub (what ∷ said) other = (other.0, stamped position index sub said other.1)
+stamped position index sub (one ∷ said) other = (other.0, stamped position index sub said other.1)
 
 noted : (before : List Entry) (a : Accepted) (sub : ℕ) → HasNone clock_in before → AllByRecursion IsNotLate (audit_of before a sub)
 noted before a sub none =
@@ -172,7 +173,7 @@ noted_at before (Message session number octets) none =
     all_flat IsNotLate (λ a. flat_map (audit_of before a) (served before)) (λ a. all_flat IsNotLate (audit_of before a) (λ sub. noted before a sub none) (served before))
     (accepted_at before (Message session number octets))
 noted_at before (Cut sub) none = (λ rule is. absurd (no rule is), tt) where
-  no : (rule : ℕ) → CutOff ≡ Withheld rule because.Late → ⊥
+  no : (rule : ℕ) → what.Cut ≡ what.Withheld rule because.Late → ⊥
   no rule is = absurd cc
 noted_at before _ none = tt
 

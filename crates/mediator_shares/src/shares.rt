@@ -17,7 +17,7 @@ use crate::judges::Judges;
 use crate::notes::Notes;
 use disclosure_audit::{Note, Reason, RemovedFields, What};
 use flow_aggregate::{Count, Timing};
-use flow_anonymize::Decision;
+use flow_anonymize::Disclosure;
 use ipfix_records::{Records, Run};
 use ipfix_template::RecordView;
 use mediator_tables::{Served, Share, Tally};
@@ -247,7 +247,7 @@ impl Sums {
         sub: u64,
         in_force: &InForce,
         flow_record: &RecordView<'_>,
-        found: Decision,
+        found: Disclosure<()>,
     ) -> Result<(), AllocError>
         requires within { place < length self.old.tallies.items }
         ensures tallies { (before after : List (ℕ × List OneCount)) (s : ℕ × List OneCount)
@@ -264,8 +264,8 @@ impl Sums {
             flow_record.now found))) }
     {
         match found {
-            Decision::Passed { removed } => self.note_removed(index, sub, removed),
-            Decision::Aggregated { rule, definition } => {
+            Disclosure::Passed { kept: _, removed } => self.note_removed(index, sub, removed),
+            Disclosure::Aggregated { rule, definition } => {
                 let flow_record = flow_record.to_record()?;
                 let what = told(rule, in_force.timing(definition, &flow_record));
                 self.note(index, sub, what)?;
@@ -274,7 +274,7 @@ impl Sums {
                     None => Ok(()),
                 }
             }
-            Decision::Withheld { rule, reason } => {
+            Disclosure::Withheld { rule, reason } => {
                 self.note(index, sub, What::Withheld { rule, reason })
             }
         }
