@@ -28,13 +28,12 @@ use Rattle.rule_table.specs.Cuts.{HasCuts, HaveCuts, most_cuts}
 use Rattle.rule_table.specs.Classes.{key_of}
 use Rattle.rule_table.proofs.ClassLaws.{same_key}
 use Rattle.flow_anonymize.specs.declared.record_classes.RecordClasses.{RecordClasses}
-use Rattle.flow_anonymize.specs.declared.plan.Plan.{Plan}
 use Rattle.flow_anonymize.specs.declared.slot.Slot.{Slot}
 use Rattle.flow_anonymize.specs.Remaining.{verdicts_of}
 use Rattle.flow_anonymize.specs.Disclosed.{disclosure_of}
 use Rattle.flow_anonymize.specs.Secrecy.{AreInsideAlike, AreCoveredAlike}
 use Rattle.flow_anonymize.specs.Classes.{both, classes_of}
-use Rattle.flow_anonymize.specs.Planning.{planned, IsShowable, IsPlan}
+use Rattle.flow_anonymize.specs.Planning.{Plan, planned, IsShowable, IsPlan}
 use Rattle.flow_anonymize.specs.Plans.{PlansFor, is_for, Discloses, IsSlot, AreKept}
 use Rattle.flow_anonymize.specs.PlanCache.{IsPut}
 use Rattle.flow_anonymize.proofs.Bounds.{verdicts_are_judged}

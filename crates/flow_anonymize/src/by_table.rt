@@ -2,7 +2,6 @@
 ghost use Rattle.std.specs.Prelude.{◌≡◌, ◌≢◌, IsOk, IfOk};
 ghost use Rattle.policy_judge.specs.declared.verdict.RecordAction.TheVariants as on_record;
 ghost use Rattle.policy_judge.specs.Verdicts.{record_verdict_of};
-ghost use Rattle.flow_anonymize.specs.Outcome.{shown};
 ghost use Rattle.flow_anonymize.specs.Disclosed.{disclosure_of};
 
 use crate::disclosure::Disclosure;
@@ -25,9 +24,9 @@ pub fn disclose_by(
     name: &str,
     domain: u32,
     flow_record: &Record,
-) -> Result<Disclosure, AllocError>
+) -> Result<Disclosure<Record>, AllocError>
     ensures exact { IfOk result
-        (λ d. shown d ≡ disclosure_of name.now domain flow_record.now table.now) }
+        (λ d. d ≡ disclosure_of name.now domain flow_record.now table.now) }
     // What is said of a record that doesn't pass takes no memory.
     ensures no_memory { (record_verdict_of name.now domain flow_record.now table.now).action
         ≢ on_record.Pass

@@ -5,7 +5,7 @@ ghost use Rattle.flow_anonymize.specs.Planning.{planned, IsShowable};
 ghost use Rattle.flow_anonymize.specs.Plans.{is_for};
 ghost use Rattle.flow_anonymize.specs.PlanCache.{IsPut};
 
-use crate::decision::Decision;
+use crate::disclosure::Disclosure;
 use crate::output::Output;
 use crate::plan::Plan;
 use crate::record_classes::RecordClasses;
@@ -95,7 +95,7 @@ impl PlanCache {
         &mut self,
         place: usize,
         flow_record: &RecordView<'_>,
-    ) -> Result<Decision, AllocError>
+    ) -> Result<Disclosure<()>, AllocError>
         requires there { place < length self.old.slots }
         requires showable { (slot : Slot) → slice_get self.old.slots place ≡ Some slot
             → IsShowable slot.plan flow_record.now }

@@ -7,7 +7,6 @@ ghost use Rattle.flow_anonymize.specs.Classes.{classes_of};
 ghost use Rattle.flow_anonymize.specs.Plans.{outcome_for, IsSlot};
 
 use crate::by_table::{disclose_by, plan_by};
-use crate::decision::Decision;
 use crate::disclosure::Disclosure;
 use crate::plan_cache::PlanCache;
 use crate::record_classes::RecordClasses;
@@ -165,7 +164,7 @@ impl Plans {
         alloc: Global,
         classes: Option<RecordClasses>,
         flow_record: &RecordView<'_>,
-    ) -> Result<Decision, AllocError>
+    ) -> Result<Disclosure<()>, AllocError>
         requires template { self.old.for.template ≡ Some flow_record.now.template }
         requires classes { classes ≡ classes_of self.old.for.cuts flow_record.now }
         // What passes comes behind the other records, and what is said of the record is so.
@@ -193,7 +192,7 @@ impl Plans {
         alloc: Global,
         classes: Option<RecordClasses>,
         flow_record: &RecordView<'_>,
-    ) -> Result<Decision, AllocError>
+    ) -> Result<Disclosure<()>, AllocError>
         requires template { self.old.for.template ≡ Some flow_record.now.template }
         requires classes { classes ≡ classes_of self.old.for.cuts flow_record.now }
         // What passes comes behind the other records, and what is said of the record is so.
@@ -223,7 +222,7 @@ impl Plans {
         alloc: Global,
         classes: RecordClasses,
         flow_record: &RecordView<'_>,
-    ) -> Result<Decision, AllocError>
+    ) -> Result<Disclosure<()>, AllocError>
         requires template { self.old.for.template ≡ Some flow_record.now.template }
         requires classes { Some classes ≡ classes_of self.old.for.cuts flow_record.now }
         // What passes comes behind the other records, and what is said of the record is so.
@@ -269,7 +268,7 @@ impl Plans {
         &mut self,
         alloc: Global,
         flow_record: &Record,
-    ) -> Result<Decision, AllocError>
+    ) -> Result<Disclosure<()>, AllocError>
         ensures given { OnOk result
             (self.new.given ≡ self.old.given ++ passed (outcome_for self.old.for flow_record.now)) }
         ensures decision { IfOk result
@@ -285,12 +284,12 @@ impl Plans {
         )? {
             Disclosure::Passed { kept, removed } => {
                 self.cache.push(kept)?;
-                Ok(Decision::Passed { removed })
+                Ok(Disclosure::Passed { kept: (), removed })
             }
             Disclosure::Aggregated { rule, definition } => {
-                Ok(Decision::Aggregated { rule, definition })
+                Ok(Disclosure::Aggregated { rule, definition })
             }
-            Disclosure::Withheld { rule, reason } => Ok(Decision::Withheld { rule, reason }),
+            Disclosure::Withheld { rule, reason } => Ok(Disclosure::Withheld { rule, reason }),
         }
     }
 

@@ -16,7 +16,8 @@ use Rattle.ipfix_session.specs.Meaning.{Meaning, meaning_of, contents_of, domain
 use Rattle.ipfix_session.specs.ReadAhead.{Ahead}
 use Rattle.ipfix_session.specs.declared.read_error.ReadError.{ReadError}
 use Rattle.policy_text.specs.Policies.{Aggregate}
-use Rattle.flow_anonymize.specs.Outcome.{Outcome, Passes, Aggregates, Withholds, passed}
+use Rattle.flow_anonymize.specs.declared.disclosure.Disclosure.TheVariants.{Passed, Aggregated, Withheld}
+use Rattle.flow_anonymize.specs.Outcome.{Outcome, passed}
 use Rattle.flow_aggregate.specs.Counts.{Count, count_of}
 use Rattle.flow_aggregate.specs.declared.timing.Timing.{Timing}
 use Rattle.flow_aggregate.specs.declared.timing.Timing.TheVariants.{Placed, NoTime, NoKey, Late}
@@ -382,15 +383,15 @@ as_many h ws domain f records left shares tells are = omega (
 -- ---- how much it brings
 
 few_of : (aggregates : List Aggregate) (clock : ℕ) (r : DataRecord) (o : Outcome) → length (passed o) + length (counts aggregates clock r o) ≤ 1
-few_of aggregates clock r (Passes kept removed) = omega arith
-few_of aggregates clock r (Aggregates rule place) = omega (arith, one (slice_get aggregates place) (timing_at aggregates place r clock)) where
+few_of aggregates clock r (Passed kept removed) = omega arith
+few_of aggregates clock r (Aggregated rule place) = omega (arith, one (slice_get aggregates place) (timing_at aggregates place r clock)) where
   one : (a : Option Aggregate) (t : Timing) → length (counted_in a r t) ≤ 1
   one None t = omega arith
   one (Some a) (Placed start) = omega arith
   one (Some a) NoTime = omega arith
   one (Some a) NoKey = omega arith
   one (Some a) Late = omega arith
-few_of aggregates clock r (Withholds rule reason) = omega arith
+few_of aggregates clock r (Withheld rule reason) = omega arith
 
 few_of_all : {A B C : Type 0} (f : A → List B) (g : A → List C) → ((x : A) → length (f x) + length (g x) ≤ 1) → (xs : List A) → length (flat_map f xs) + length (flat_map g xs) ≤ length xs
 few_of_all f g few [] = omega arith

@@ -21,8 +21,9 @@ use Rattle.policy_judge.specs.declared.verdict.ElementVerdict.{ElementVerdict}
 use Rattle.policy_judge.specs.Verdicts.{record_verdict_of}
 use Rattle.policy_judge.specs.Laws.{concerning}
 use Rattle.disclosure_audit.specs.declared.entry.RemovedField.{RemovedField}
-use Rattle.flow_anonymize.specs.declared.disclosure.Reason.TheVariants as because
-use Rattle.flow_anonymize.specs.Outcome.{Outcome, Passes, Aggregates, Withholds, passed}
+use Rattle.disclosure_audit.specs.declared.reason.Reason.TheVariants as because
+use Rattle.flow_anonymize.specs.declared.disclosure.Disclosure.TheVariants.{Passed, Aggregated, Withheld}
+use Rattle.flow_anonymize.specs.Outcome.{Outcome, passed}
 use Rattle.flow_anonymize.specs.Remaining.{verdicts_of, removed_fields}
 use Rattle.flow_anonymize.specs.Disclosed.{remaining_template, remaining, first_lost, first_rule_of, unless_lost, transformed, by_action, disclosure_of}
 use Rattle.flow_anonymize.specs.OtherRules.{unnumbered}
@@ -230,7 +231,7 @@ none_counts aggregates clock q r verdicts = by_lost (first_lost r.template.scope
   removed : List RemovedField
   removed = removed_fields verdicts
 
-  by_test : (b : Bool) → counts aggregates clock q (cond b (Withholds (first_rule_of removed) because.Empty) (Passes (remaining r verdicts) removed)) ≡ []
+  by_test : (b : Bool) → counts aggregates clock q (cond b (Withheld (first_rule_of removed) because.Empty) (Passed (remaining r verdicts) removed)) ≡ []
   by_test true = refl
   by_test false = refl
 
@@ -242,7 +243,7 @@ counts_by_action : (policy : Policy) (clock : ℕ) (r s : DataRecord) (action : 
     → ((place : ℕ) → action ≡ Aggregate place → r ≡ s) → counts policy.aggregates clock r (by_action action rule passing) ≡ counts policy.aggregates clock s (by_action action rule passing)
 counts_by_action policy clock r s Pass rule passing none same = none r ∙ sym (none s)
 counts_by_action policy clock r s Withhold rule passing none same = refl
-counts_by_action policy clock r s (Aggregate place) rule passing none same = ap (λ (q : DataRecord). counts policy.aggregates clock q (Aggregates rule place)) (same place refl)
+counts_by_action policy clock r s (Aggregate place) rule passing none same = ap (λ (q : DataRecord). counts policy.aggregates clock q (Aggregated rule place)) (same place refl)
 
 counts_alike : (name : List ℕ) (domain : ℕ) (policy : Policy) (clock : ℕ) (r s : DataRecord) → IsAlike name domain policy.rules r s → counting name domain policy clock r ≡ counting name domain policy clock s
 counts_alike name domain policy clock r s is =
@@ -315,14 +316,14 @@ denied_values sub h g alike = alike_from sub h g [] [] (record { judged = record
 -- ---- rules that name others
 
 passed_unnumbered : (o : Outcome) → passed (unnumbered o) ≡ passed o
-passed_unnumbered (Passes kept removed) = refl
-passed_unnumbered (Aggregates rule definition) = refl
-passed_unnumbered (Withholds rule reason) = refl
+passed_unnumbered (Passed kept removed) = refl
+passed_unnumbered (Aggregated rule definition) = refl
+passed_unnumbered (Withheld rule reason) = refl
 
 counts_unnumbered : (aggregates : List Definition) (clock : ℕ) (r : DataRecord) (o : Outcome) → counts aggregates clock r (unnumbered o) ≡ counts aggregates clock r o
-counts_unnumbered aggregates clock r (Passes kept removed) = refl
-counts_unnumbered aggregates clock r (Aggregates rule place) = refl
-counts_unnumbered aggregates clock r (Withholds rule reason) = refl
+counts_unnumbered aggregates clock r (Passed kept removed) = refl
+counts_unnumbered aggregates clock r (Aggregated rule place) = refl
+counts_unnumbered aggregates clock r (Withheld rule reason) = refl
 
 -- both policies say the same of each record to the subscriber of this name, by other numbers of rules at most, and count it alike
 record JudgeAlike (name : List ℕ) (p q : Policy) : Type 0 where

@@ -10,7 +10,8 @@ use Rattle.sequences.proofs.BeforeLaws.{each_with_before-push, last_of-push}
 use Rattle.ipfix_template.specs.DataRecord.{DataRecord}
 use Rattle.ipfix_session.specs.Meaning.{meaning_of, domain_of}
 use Rattle.policy_text.specs.Policies.{Meaning as Policy, Aggregate}
-use Rattle.flow_anonymize.specs.Outcome.{Outcome, Passes, Aggregates, Withholds}
+use Rattle.flow_anonymize.specs.declared.disclosure.Disclosure.TheVariants.{Passed, Aggregated, Withheld}
+use Rattle.flow_anonymize.specs.Outcome.{Outcome}
 use Rattle.flow_anonymize.specs.Disclosed.{disclosure_of}
 use Rattle.flow_aggregate.specs.declared.timing.Timing.{Timing}
 use Rattle.flow_aggregate.specs.declared.timing.Timing.TheVariants.{Placed, NoTime, NoKey, Late}
@@ -81,9 +82,9 @@ one_stays clock (Some a) r NoKey is = refl
 one_stays clock (Some a) r Late is = refl
 
 counts_stay : (clock : ℕ) (aggregates : List Aggregate) (r : DataRecord) (outcome : Outcome) → staying clock (counts aggregates clock r outcome) ≡ counts aggregates clock r outcome
-counts_stay clock aggregates r (Passes kept removed) = refl
-counts_stay clock aggregates r (Aggregates rule place) = one_stays clock (slice_get aggregates place) r (timing_at aggregates place r clock) refl
-counts_stay clock aggregates r (Withholds rule reason) = refl
+counts_stay clock aggregates r (Passed kept removed) = refl
+counts_stay clock aggregates r (Aggregated rule place) = one_stays clock (slice_get aggregates place) r (timing_at aggregates place r clock) refl
+counts_stay clock aggregates r (Withheld rule reason) = refl
 
 staying-append : (t : ℕ) (cs ds : List Counted) → staying t (cs ++ ds) ≡ staying t cs ++ staying t ds
 staying-append t cs ds = filter-append (λ (c : Counted). not (is_due t (group_of c))) cs ds

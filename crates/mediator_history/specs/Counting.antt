@@ -6,7 +6,8 @@ use Rattle.sequences.specs.Before.{each_with_before, last_of}
 use Rattle.ipfix_template.specs.DataRecord.{DataRecord}
 use Rattle.ipfix_session.specs.Meaning.{domain_of}
 use Rattle.policy_text.specs.Policies.{Aggregate}
-use Rattle.flow_anonymize.specs.Outcome.{Outcome, Passes, Aggregates, Withholds}
+use Rattle.flow_anonymize.specs.declared.disclosure.Disclosure.TheVariants.{Passed, Aggregated, Withheld}
+use Rattle.flow_anonymize.specs.Outcome.{Outcome}
 use Rattle.flow_anonymize.specs.Disclosed.{disclosure_of}
 use Rattle.flow_aggregate.specs.declared.timing.Timing.{Timing}
 use Rattle.flow_aggregate.specs.declared.timing.Timing.TheVariants.{Placed, NoTime}
@@ -48,9 +49,9 @@ counted_in _ r _ = []
 
 -- the record, if it counts in an aggregate
 abbrev pub counts : List Aggregate → ℕ → DataRecord → Outcome → List Counted
-counts aggregates clock r (Aggregates rule place) = counted_in (slice_get aggregates place) r (timing_at aggregates place r clock)
-counts aggregates clock r (Passes kept removed) = []
-counts aggregates clock r (Withholds rule reason) = []
+counts aggregates clock r (Aggregated rule place) = counted_in (slice_get aggregates place) r (timing_at aggregates place r clock)
+counts aggregates clock r (Passed kept removed) = []
+counts aggregates clock r (Withheld rule reason) = []
 
 -- the same for a subscription, by what stands before the record's message
 abbrev pub counts_for : ℕ → List Entry → ℕ → DataRecord → List Counted

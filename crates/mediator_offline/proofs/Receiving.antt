@@ -13,7 +13,8 @@ use Rattle.ipfix_session.specs.Meaning.{meaning_of, domain_of}
 use Rattle.subscriber_stream.specs.declared.limits.StreamLimits.{StreamLimits}
 use Rattle.subscriber_stream.specs.Parts.{parts, records_in}
 use Rattle.policy_text.specs.Policies.{Aggregate}
-use Rattle.flow_anonymize.specs.Outcome.{Outcome, Passes, Aggregates, Withholds}
+use Rattle.flow_anonymize.specs.declared.disclosure.Disclosure.TheVariants.{Passed, Aggregated, Withheld}
+use Rattle.flow_anonymize.specs.Outcome.{Outcome}
 use Rattle.disclosure_audit.specs.declared.entry.AuditEntry.{AuditEntry}
 use Rattle.disclosure_audit.specs.declared.entry.What.TheVariants.{Cut as CutOff}
 use Rattle.disclosure_audit.specs.Queue.{StandsIn}
@@ -115,10 +116,10 @@ few_each f few [] = omega arith
 few_each f few (x ∷ xs) = rw (flat_map-cons f x xs) (omega (arith, length-append (f x) (flat_map f xs), few x, few_each f few xs))
 
 noted-few : (aggregates : List Aggregate) (clock : ℕ) (a : Accepted) (o : Outcome) → length (map (audit_entry a.position a.index 1) (kept_back aggregates clock a.flow o)) ≤ 1
-noted-few aggregates clock a (Passes kept []) = omega arith
-noted-few aggregates clock a (Passes kept (field ∷ fields)) = omega arith
-noted-few aggregates clock a (Aggregates rule place) = omega arith
-noted-few aggregates clock a (Withholds rule reason) = omega arith
+noted-few aggregates clock a (Passed kept []) = omega arith
+noted-few aggregates clock a (Passed kept (field ∷ fields)) = omega arith
+noted-few aggregates clock a (Aggregated rule place) = omega arith
+noted-few aggregates clock a (Withheld rule reason) = omega arith
 
 accepted-many : (h : List Entry) (octets : List ℕ) → length (accepted_at h (next_message h octets)) ≡ length (records_meant (meaning_of (messages_of 1 h) octets))
 accepted-many h octets =

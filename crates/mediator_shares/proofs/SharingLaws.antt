@@ -10,10 +10,10 @@ use Rattle.mediator_history.proofs.HistoryLaws.{flat_map-push}
 use Rattle.ipfix_template.specs.DataRecord.{DataRecord, kept_record}
 use Rattle.ipfix_records.specs.Runs.{RunOf, records_of, records_in}
 use Rattle.flow_aggregate.specs.Counts.{count_of}
-use Rattle.flow_anonymize.specs.declared.decision.Decision.{Decision}
 use Rattle.policy_text.specs.Policies.{Aggregate}
 use Rattle.flow_anonymize.specs.Outcome as outcome
-use Rattle.flow_anonymize.specs.Outcome.{Outcome, Passes, Aggregates, Withholds}
+use Rattle.flow_anonymize.specs.declared.disclosure.Disclosure.TheVariants.{Passed, Aggregated, Withheld}
+use Rattle.flow_anonymize.specs.Outcome.{Outcome, Decision}
 use Rattle.mediator_history.specs.Counting.{counts}
 use Rattle.mediator_history.specs.Auditing.{kept_back}
 use Rattle.mediator_shares.specs.InForce.{InForce}
@@ -139,14 +139,14 @@ added old new told tnew before notes domain f index r served place so over = rec
 }
 
 counts_same : (aggregates : List Aggregate) (clock : ℕ) (r : DataRecord) (o : Outcome) → counts_by aggregates clock r (outcome.decision_of o) ≡ counts aggregates clock r o
-counts_same aggregates clock r (Passes kept removed) = refl
-counts_same aggregates clock r (Aggregates rule definition) = refl
-counts_same aggregates clock r (Withholds rule reason) = refl
+counts_same aggregates clock r (Passed kept removed) = refl
+counts_same aggregates clock r (Aggregated rule definition) = refl
+counts_same aggregates clock r (Withheld rule reason) = refl
 
 kept_back_same : (aggregates : List Aggregate) (clock : ℕ) (r : DataRecord) (o : Outcome) → kept_back_by aggregates clock r (outcome.decision_of o) ≡ kept_back aggregates clock r o
-kept_back_same aggregates clock r (Passes kept removed) = refl
-kept_back_same aggregates clock r (Aggregates rule definition) = refl
-kept_back_same aggregates clock r (Withholds rule reason) = refl
+kept_back_same aggregates clock r (Passed kept removed) = refl
+kept_back_same aggregates clock r (Aggregated rule definition) = refl
+kept_back_same aggregates clock r (Withheld rule reason) = refl
 
 -- one subscription more, for which this is decided of the record
 pub adding_step : (old new new2 : List (ℕ × List DataRecord)) (told tnew tnew2 : List Tally) (before notes notes2 : Kept) (domain : ℕ) (f : InForce) (index : ℕ) (r : DataRecord) (served : List Served) (place : ℕ) (who other : Served) (found : Decision)

@@ -8,7 +8,7 @@ ghost use Rattle.flow_anonymize.specs.Classes.{classes_of};
 ghost use Rattle.flow_anonymize.specs.Plans.{PlansFor, outcome_for};
 ghost use Rattle.mediator_tables.specs.SubscriptionTable.{shown};
 
-use flow_anonymize::{Decision, Plans, RecordClasses};
+use flow_anonymize::{Disclosure, Plans, RecordClasses};
 use ipfix_records::Run;
 use ipfix_template::{RecordView, Template};
 use mediator_tables::{Served, Share};
@@ -152,7 +152,7 @@ impl Judges {
         place: usize,
         classes: Option<RecordClasses>,
         flow_record: &RecordView<'_>,
-    ) -> Result<Decision, AllocError>
+    ) -> Result<Disclosure<()>, AllocError>
         requires there { place < length self.old.fors }
         requires template { (p : PlansFor) → slice_get self.old.fors place ≡ Some p
             → p.template ≡ Some flow_record.now.template }

@@ -4,9 +4,8 @@ use Rattle.ipfix_template.specs.DataRecord.{DataRecord}
 use Rattle.policy_text.specs.declared.rule.Rule.{Rule}
 use Rattle.rule_table.specs.OfPolicy.{AreOfPolicy}
 use Rattle.policy_judge.specs.Verdicts.{record_verdict_of}
-use Rattle.flow_anonymize.specs.declared.plan.Plan.{Plan}
 use Rattle.flow_anonymize.specs.Remaining.{verdicts_of}
-use Rattle.flow_anonymize.specs.Planning.{IsPlan}
+use Rattle.flow_anonymize.specs.Planning.{Plan, IsPlan}
 use Rattle.flow_anonymize.specs.Plans.{PlansOf}
 use Rattle.flow_anonymize.proofs.PlanLaws.{planned_slot}
 use Rattle.flow_anonymize.proofs.plans.Plans.planned.Goals as goal

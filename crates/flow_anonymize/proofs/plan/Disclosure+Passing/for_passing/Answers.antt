@@ -4,7 +4,7 @@ use Rattle.ipfix_template.specs.Template.{shortest_record}
 use Rattle.flow_anonymize.specs.Remaining.{removed_fields}
 use Rattle.flow_anonymize.proofs.Sound.{found_sound}
 use Rattle.flow_anonymize.proofs.Planning.{steps_for}
-use Rattle.flow_anonymize.proofs.plan.Plan.for_passing.Goals as goal
+use Rattle.flow_anonymize.proofs.plan.Disclosure+Passing.for_passing.Goals as goal
 
 pub returns-clause-showable : goal.returns-clause-showable
 returns-clause-showable c =
