@@ -20,5 +20,5 @@ returns-clause-err c = if_err_gives c.advance.result c.advance.ensures.err
     (λ e refused. subst (λ (m : Mediation). RefusesAdvance e m c.args.t) c.self.view_is
     (refuses_advance e c.self.inside.state c.args.t c.self.invariant.stands (refused c.self.inside.state.chronicle.entries c.self.invariant.stands)))
 
-pub returns-clause-same : goal.returns-clause-same
-returns-clause-same c = refused_same c.advance.result c.self.inside.state c.advance.new.self c.args.self.now c.self.invariant.stands c.self.view_is c.advance.ensures.unchanged
+pub returns-clause-unchanged : goal.returns-clause-unchanged
+returns-clause-unchanged c = refused_same c.advance.result c.self.inside.state c.advance.new.self c.args.self.now c.self.invariant.stands c.self.view_is c.advance.ensures.unchanged

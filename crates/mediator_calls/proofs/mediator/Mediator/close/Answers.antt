@@ -15,5 +15,5 @@ returns-clause-ok c = on_ok_gives c.close.result c.close.ensures.ok
     (λ ok. subst (λ (m : Mediation). Closes m c.args.session.0 (view_of c.close.new.self)) c.self.view_is
     (closes c.self.inside.state c.close.new.self c.args.session.0 c.self.invariant.stands (ok.goes_on c.self.inside.state.chronicle.entries c.self.invariant.stands) ok.untouched ok.journaled))
 
-pub returns-clause-same : goal.returns-clause-same
-returns-clause-same c = refused_same c.close.result c.self.inside.state c.close.new.self c.args.self.now c.self.invariant.stands c.self.view_is c.close.ensures.unchanged
+pub returns-clause-unchanged : goal.returns-clause-unchanged
+returns-clause-unchanged c = refused_same c.close.result c.self.inside.state c.close.new.self c.args.self.now c.self.invariant.stands c.self.view_is c.close.ensures.unchanged

@@ -15,5 +15,5 @@ returns-clause-ok c = if_ok_gives c.edit.result c.edit.ensures.ok
     (λ x ok. subst (λ (m : Mediation). Edits m c.args.text.now x (view_of c.edit.new.self)) c.self.view_is
     (edits c.self.inside.state c.edit.new.self c.args.text.now x c.self.invariant.stands (ok.goes_on c.self.inside.state.chronicle.entries c.self.invariant.stands) ok.untouched ok.journaled))
 
-pub returns-clause-same : goal.returns-clause-same
-returns-clause-same c = refused_same c.edit.result c.self.inside.state c.edit.new.self c.args.self.now c.self.invariant.stands c.self.view_is c.edit.ensures.unchanged
+pub returns-clause-unchanged : goal.returns-clause-unchanged
+returns-clause-unchanged c = refused_same c.edit.result c.self.inside.state c.edit.new.self c.args.self.now c.self.invariant.stands c.self.view_is c.edit.ensures.unchanged

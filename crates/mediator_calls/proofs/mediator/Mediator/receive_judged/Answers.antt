@@ -20,5 +20,5 @@ returns-clause-err c = if_err_gives c.receive_judged.result c.receive_judged.ens
     (λ e refused. subst (λ (m : Mediation). RefusesReceive e m c.args.session.0 c.args.number c.args.message) c.self.view_is
     (refuses_receive e c.self.inside.state c.args.session.0 c.args.number c.args.message c.self.invariant.stands (refused c.self.inside.state.chronicle.entries c.self.invariant.stands)))
 
-pub returns-clause-same : goal.returns-clause-same
-returns-clause-same c = refused_same c.receive_judged.result c.self.inside.state c.receive_judged.new.self c.args.self.now c.self.invariant.stands c.self.view_is c.receive_judged.ensures.unchanged
+pub returns-clause-unchanged : goal.returns-clause-unchanged
+returns-clause-unchanged c = refused_same c.receive_judged.result c.self.inside.state c.receive_judged.new.self c.args.self.now c.self.invariant.stands c.self.view_is c.receive_judged.ensures.unchanged

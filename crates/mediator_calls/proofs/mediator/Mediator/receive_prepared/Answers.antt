@@ -20,5 +20,5 @@ returns-clause-err c = if_err_gives c.receive_prepared.result c.receive_prepared
     (λ e refused. subst (λ (m : Mediation). RefusesReceivePrepared e.0 m c.args.session.0 c.args.number c.args.prepared) c.self.view_is
     (refuses_prepared e.0 c.self.inside.state c.args.session.0 c.args.number c.args.prepared c.self.invariant.stands (refused c.self.inside.state.chronicle.entries c.self.invariant.stands)))
 
-pub returns-clause-same : goal.returns-clause-same
-returns-clause-same c = refused_same c.receive_prepared.result c.self.inside.state c.receive_prepared.new.self c.args.self.now c.self.invariant.stands c.self.view_is c.receive_prepared.ensures.unchanged
+pub returns-clause-unchanged : goal.returns-clause-unchanged
+returns-clause-unchanged c = refused_same c.receive_prepared.result c.self.inside.state c.receive_prepared.new.self c.args.self.now c.self.invariant.stands c.self.view_is c.receive_prepared.ensures.unchanged

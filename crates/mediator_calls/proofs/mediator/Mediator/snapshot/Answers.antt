@@ -12,8 +12,8 @@ pub returns-clause-ok : goal.returns-clause-ok
 returns-clause-ok c = if_ok_gives c.snapshot.result c.snapshot.ensures.ok
     (λ x ok. subst (λ (m : Mediation). IsSnapshot m.history c.args.session.0 x) c.self.view_is (ok c.self.inside.state.chronicle.entries c.self.invariant.stands))
 
-pub returns-clause-same : goal.returns-clause-same
-returns-clause-same c = same_on c.self.inside.state c.snapshot.new.self c.self.invariant.stands c.snapshot.ensures.unchanged ∙ c.self.view_is
+pub returns-clause-unchanged : goal.returns-clause-unchanged
+returns-clause-unchanged c = same_on c.self.inside.state c.snapshot.new.self c.self.invariant.stands c.snapshot.ensures.unchanged ∙ c.self.view_is
 
 pub returns-clause-err : goal.returns-clause-err
 returns-clause-err c = if_err_gives c.snapshot.result c.snapshot.ensures.err

@@ -20,8 +20,8 @@ returns-clause-ok c = elim c.match-subscribe.branch [
   | in-Err w ↦ if_ok_none _ c.match-subscribe.result _ w.result-is
 ]
 
-pub returns-clause-same : goal.returns-clause-same
-returns-clause-same c = elim c.match-subscribe.branch [
+pub returns-clause-unchanged : goal.returns-clause-unchanged
+returns-clause-unchanged c = elim c.match-subscribe.branch [
   | in-Ok w ↦ on_err_none _ c.match-subscribe.result _ w.result-is
   | in-Err w ↦ on_err_at c.match-subscribe.result _ w.result-is (same_on c.self.inside.state c.subscribe.new.self c.self.invariant.stands w.in-Err.ensures.unchanged ∙ c.self.view_is)
 ]

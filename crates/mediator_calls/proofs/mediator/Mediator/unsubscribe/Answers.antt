@@ -15,5 +15,5 @@ returns-clause-ok c = on_ok_gives c.unsubscribe.result c.unsubscribe.ensures.ok
     (λ ok. subst (λ (m : Mediation). Unsubscribes m c.args.sub.0 (view_of c.unsubscribe.new.self)) c.self.view_is
     (unsubscribes c.self.inside.state c.unsubscribe.new.self c.args.sub.0 c.self.invariant.stands (ok c.self.inside.state.chronicle.entries c.self.invariant.stands) c.unsubscribe.ensures.others c.unsubscribe.ensures.drained c.unsubscribe.ensures.limits c.unsubscribe.ensures.audit_limit c.unsubscribe.ensures.journaled))
 
-pub returns-clause-same : goal.returns-clause-same
-returns-clause-same c = refused_same c.unsubscribe.result c.self.inside.state c.unsubscribe.new.self c.args.self.now c.self.invariant.stands c.self.view_is c.unsubscribe.ensures.unchanged
+pub returns-clause-unchanged : goal.returns-clause-unchanged
+returns-clause-unchanged c = refused_same c.unsubscribe.result c.self.inside.state c.unsubscribe.new.self c.args.self.now c.self.invariant.stands c.self.view_is c.unsubscribe.ensures.unchanged

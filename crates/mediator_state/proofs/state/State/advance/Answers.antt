@@ -10,17 +10,17 @@ use Rattle.mediator_state.proofs.CallLaws.{full_where, room_where, same_state, s
 use Rattle.mediator_state.proofs.AdvanceCalls.{ahead_of, ahead_memory, closing_held, closing_found, closing_full, closing_audit, closing_for, advanced}
 use Rattle.mediator_state.proofs.state.State.advance.Goals as goal
 
-pub returns-then-t-last-clause-same : goal.returns-then-t-last-clause-same
-returns-then-t-last-clause-same g c = same_state g.C.Chronicle.tells g.C.Chronicle.limits c.args.self.now
+pub returns-then-t-last-clause-unchanged : goal.returns-then-t-last-clause-unchanged
+returns-then-t-last-clause-unchanged g c = same_state g.C.Chronicle.tells g.C.Chronicle.limits c.args.self.now
 
-pub returns-in_err-closing-clause-same : goal.returns-in_err-closing-clause-same
-returns-in_err-closing-clause-same g c = on_err c.from_residual.result (same_state g.C.Chronicle.tells g.C.Chronicle.limits c.args.self.now)
+pub returns-in_err-closing-clause-unchanged : goal.returns-in_err-closing-clause-unchanged
+returns-in_err-closing-clause-unchanged g c = on_err c.from_residual.result (same_state g.C.Chronicle.tells g.C.Chronicle.limits c.args.self.now)
 
-pub returns-in_err-entries-clause-same : goal.returns-in_err-entries-clause-same
-returns-in_err-entries-clause-same g c = on_err c.from_residual-in_err-entries.result (same_state g.C.Chronicle.tells g.C.Chronicle.limits c.args.self.now)
+pub returns-in_err-entries-clause-unchanged : goal.returns-in_err-entries-clause-unchanged
+returns-in_err-entries-clause-unchanged g c = on_err c.from_residual-in_err-entries.result (same_state g.C.Chronicle.tells g.C.Chronicle.limits c.args.self.now)
 
-pub returns-then-not-room-clause-same : goal.returns-then-not-room-clause-same
-returns-then-not-room-clause-same g c = same_state g.C.Chronicle.tells g.C.Chronicle.limits c.args.self.now
+pub returns-then-not-room-clause-unchanged : goal.returns-then-not-room-clause-unchanged
+returns-then-not-room-clause-unchanged g c = same_state g.C.Chronicle.tells g.C.Chronicle.limits c.args.self.now
 
 pub returns-in_err-closing-clause-err : goal.returns-in_err-closing-clause-err
 returns-in_err-closing-clause-err g c =
@@ -40,8 +40,8 @@ returns-then-not-room-clause-err g c = λ h s.
     (closing_found c.args.self.now.engine h c.args.t c.in_ok-closing.closing c.in_ok-entries.entries.items c.deref.result.now (ahead_of c.args.self.now.engine h c.args.t c.clock-last.result s.stands c.clock-last.ensures (omega (arith, c.if-t-last.false))) (c.in_ok-closing.ensures h s.stands) c.in_ok-entries.ensures c.deref.ensures.value)
     (full_where c.room.result (g.C.Chronicle.limits c.args.self.now.chronicle) (g.C.Chronicle.count c.args.self.now.chronicle) (g.C.Chronicle.octets c.args.self.now.chronicle) c.deref-2.result.now c.in_ok-entries.entries.items c.room.ensures c.deref-2.ensures.value c.if-not-room.true)
 
-pub returns-in_err-make_room_to_close-clause-same : goal.returns-in_err-make_room_to_close-clause-same
-returns-in_err-make_room_to_close-clause-same g c = on_err c.from_residual-in_err-make_room_to_close.result (same_roomed g.C.Chronicle.tells g.C.Chronicle.limits c.args.self.now c.args.self.now.chronicle c.make_room_to_close.new.self (λ h told. told) c.make_room_to_close.ensures.unchanged refl)
+pub returns-in_err-make_room_to_close-clause-unchanged : goal.returns-in_err-make_room_to_close-clause-unchanged
+returns-in_err-make_room_to_close-clause-unchanged g c = on_err c.from_residual-in_err-make_room_to_close.result (same_roomed g.C.Chronicle.tells g.C.Chronicle.limits c.args.self.now c.args.self.now.chronicle c.make_room_to_close.new.self (λ h told. told) c.make_room_to_close.ensures.unchanged refl)
 
 pub returns-in_err-make_room_to_close-clause-err : goal.returns-in_err-make_room_to_close-clause-err
 returns-in_err-make_room_to_close-clause-err g c =
@@ -53,8 +53,8 @@ returns-in_err-make_room_to_close-clause-err g c =
     (room_where c.room.result (g.C.Chronicle.limits c.args.self.now.chronicle) (g.C.Chronicle.count c.args.self.now.chronicle) (g.C.Chronicle.octets c.args.self.now.chronicle) c.deref-2.result.now c.in_ok-entries.entries.items c.room.ensures c.deref-2.ensures.value c.if-not-room.false)
     c.in_err-make_room_to_close.ensures.err))
 
-pub returns-in_err-reserve-clause-same : goal.returns-in_err-reserve-clause-same
-returns-in_err-reserve-clause-same g c = on_err c.from_residual-in_err-reserve.result (same_roomed g.C.Chronicle.tells g.C.Chronicle.limits c.args.self.now c.reserve.new.self c.make_room_to_close.new.self c.reserve.ensures.tells c.make_room_to_close.ensures.unchanged c.reserve.ensures.limits)
+pub returns-in_err-reserve-clause-unchanged : goal.returns-in_err-reserve-clause-unchanged
+returns-in_err-reserve-clause-unchanged g c = on_err c.from_residual-in_err-reserve.result (same_roomed g.C.Chronicle.tells g.C.Chronicle.limits c.args.self.now c.reserve.new.self c.make_room_to_close.new.self c.reserve.ensures.tells c.make_room_to_close.ensures.unchanged c.reserve.ensures.limits)
 
 pub returns-in_err-reserve-clause-err : goal.returns-in_err-reserve-clause-err
 returns-in_err-reserve-clause-err g c =

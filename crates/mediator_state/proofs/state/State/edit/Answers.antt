@@ -10,17 +10,17 @@ use Rattle.mediator_state.specs.Calls.{RefusesEdit}
 use Rattle.mediator_state.proofs.CallLaws.{accepts_one, same_state, same_kept, err_gives, on_err, refused_edit, somewhere}
 use Rattle.mediator_state.proofs.state.State.edit.Goals as goal
 
-pub returns-in_err-policy-clause-same : goal.returns-in_err-policy-clause-same
-returns-in_err-policy-clause-same g c = on_err c.from_residual.result (same_state g.C.Chronicle.tells g.C.Chronicle.limits c.args.self.now)
+pub returns-in_err-policy-clause-unchanged : goal.returns-in_err-policy-clause-unchanged
+returns-in_err-policy-clause-unchanged g c = on_err c.from_residual.result (same_state g.C.Chronicle.tells g.C.Chronicle.limits c.args.self.now)
 
-pub returns-in_err-in_force-clause-same : goal.returns-in_err-in_force-clause-same
-returns-in_err-in_force-clause-same g c = on_err c.from_residual-in_err-in_force.result (same_state g.C.Chronicle.tells g.C.Chronicle.limits c.args.self.now)
+pub returns-in_err-in_force-clause-unchanged : goal.returns-in_err-in_force-clause-unchanged
+returns-in_err-in_force-clause-unchanged g c = on_err c.from_residual-in_err-in_force.result (same_state g.C.Chronicle.tells g.C.Chronicle.limits c.args.self.now)
 
-pub returns-in_err-text-clause-same : goal.returns-in_err-text-clause-same
-returns-in_err-text-clause-same g c = on_err c.from_residual-in_err-text.result (same_state g.C.Chronicle.tells g.C.Chronicle.limits c.args.self.now)
+pub returns-in_err-text-clause-unchanged : goal.returns-in_err-text-clause-unchanged
+returns-in_err-text-clause-unchanged g c = on_err c.from_residual-in_err-text.result (same_state g.C.Chronicle.tells g.C.Chronicle.limits c.args.self.now)
 
-pub returns-in_err-make_room-clause-same : goal.returns-in_err-make_room-clause-same
-returns-in_err-make_room-clause-same g c = on_err c.from_residual-in_err-make_room.result (same_kept g.C.Chronicle.tells g.C.Chronicle.limits c.args.self.now c.make_room.new.self.chronicle c.make_room.new.self.engine c.make_room.ensures.tells c.make_room.ensures.engine c.make_room.ensures.limits)
+pub returns-in_err-make_room-clause-unchanged : goal.returns-in_err-make_room-clause-unchanged
+returns-in_err-make_room-clause-unchanged g c = on_err c.from_residual-in_err-make_room.result (same_kept g.C.Chronicle.tells g.C.Chronicle.limits c.args.self.now c.make_room.new.self.chronicle c.make_room.new.self.engine c.make_room.ensures.tells c.make_room.ensures.engine c.make_room.ensures.limits)
 
 pub returns-in_err-make_room-clause-err : goal.returns-in_err-make_room-clause-err
 returns-in_err-make_room-clause-err g c =

@@ -5,11 +5,11 @@ use Rattle.mediator_state.specs.Seen.{IsSameEngine, IsUntouched}
 use Rattle.mediator_state.proofs.CallLaws.{accepts_one, same_kept, same_roomed, on_err}
 use Rattle.mediator_state.proofs.state.State.open.Goals as goal
 
-pub returns-in_err-make_room-clause-same : goal.returns-in_err-make_room-clause-same
-returns-in_err-make_room-clause-same g c = on_err c.from_residual.result (same_kept g.C.Chronicle.tells g.C.Chronicle.limits c.args.self.now c.make_room.new.self.chronicle c.make_room.new.self.engine c.make_room.ensures.tells c.make_room.ensures.engine c.make_room.ensures.limits)
+pub returns-in_err-make_room-clause-unchanged : goal.returns-in_err-make_room-clause-unchanged
+returns-in_err-make_room-clause-unchanged g c = on_err c.from_residual.result (same_kept g.C.Chronicle.tells g.C.Chronicle.limits c.args.self.now c.make_room.new.self.chronicle c.make_room.new.self.engine c.make_room.ensures.tells c.make_room.ensures.engine c.make_room.ensures.limits)
 
-pub returns-in_err-open-clause-same : goal.returns-in_err-open-clause-same
-returns-in_err-open-clause-same g c =
+pub returns-in_err-open-clause-unchanged : goal.returns-in_err-open-clause-unchanged
+returns-in_err-open-clause-unchanged g c =
     on_err c.from_residual-in_err-open.result
     (same_roomed g.C.Chronicle.tells g.C.Chronicle.limits c.args.self.now c.make_room.new.self.chronicle c.open.new.self c.make_room.ensures.tells
     (subst (λ (e : Engine). IsSameEngine e c.open.new.self) c.make_room.ensures.engine c.in_err-open.ensures.err) c.make_room.ensures.limits)

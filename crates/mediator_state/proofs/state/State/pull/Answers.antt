@@ -12,9 +12,9 @@ returns-in-Ok-clause-keeps g c = λ h s. pull_keeps g.C.Chronicle.tells c.args.s
 pub returns-in-Err-OutOfMemory-clause-keeps : goal.returns-in-Err-OutOfMemory-clause-keeps
 returns-in-Err-OutOfMemory-clause-keeps g c = λ h s. pull_fails g.C.Chronicle.tells c.args.self.now c.pull.new.self h c.in-Err-OutOfMemory.ensures.err s
 
-pub returns-then-not-is_live-clause-same : goal.returns-then-not-is_live-clause-same
-returns-then-not-is_live-clause-same g c = same_state g.C.Chronicle.tells g.C.Chronicle.limits c.args.self.now
+pub returns-then-not-is_live-clause-unchanged : goal.returns-then-not-is_live-clause-unchanged
+returns-then-not-is_live-clause-unchanged g c = same_state g.C.Chronicle.tells g.C.Chronicle.limits c.args.self.now
 
-pub returns-in-Err-OutOfMemory-clause-same : goal.returns-in-Err-OutOfMemory-clause-same
-returns-in-Err-OutOfMemory-clause-same g c =
+pub returns-in-Err-OutOfMemory-clause-unchanged : goal.returns-in-Err-OutOfMemory-clause-unchanged
+returns-in-Err-OutOfMemory-clause-unchanged g c =
     same_roomed g.C.Chronicle.tells g.C.Chronicle.limits c.args.self.now c.args.self.now.chronicle (record c.args.self.now.engine { subscriptions = c.pull.new.self }) (λ h told. told) (same_table c.args.self.now.engine c.pull.new.self c.in-Err-OutOfMemory.ensures.err) refl

@@ -7,17 +7,17 @@ use Rattle.mediator_state.specs.Calls.{RefusesSubscribe}
 use Rattle.mediator_state.proofs.CallLaws.{refused_memory, refused_subscribe, accepts_one, same_state, same_kept, same_roomed, err_gives, on_err}
 use Rattle.mediator_state.proofs.state.State.subscribe.Goals as goal
 
-pub returns-then-not-is_name-clause-same : goal.returns-then-not-is_name-clause-same
-returns-then-not-is_name-clause-same g c = same_state g.C.Chronicle.tells g.C.Chronicle.limits c.args.self.now
+pub returns-then-not-is_name-clause-unchanged : goal.returns-then-not-is_name-clause-unchanged
+returns-then-not-is_name-clause-unchanged g c = same_state g.C.Chronicle.tells g.C.Chronicle.limits c.args.self.now
 
-pub returns-in-Some-clause-same : goal.returns-in-Some-clause-same
-returns-in-Some-clause-same g c = same_state g.C.Chronicle.tells g.C.Chronicle.limits c.args.self.now
+pub returns-in-Some-clause-unchanged : goal.returns-in-Some-clause-unchanged
+returns-in-Some-clause-unchanged g c = same_state g.C.Chronicle.tells g.C.Chronicle.limits c.args.self.now
 
-pub returns-in_err-copy-clause-same : goal.returns-in_err-copy-clause-same
-returns-in_err-copy-clause-same g c = on_err c.from_residual.result (same_state g.C.Chronicle.tells g.C.Chronicle.limits c.args.self.now)
+pub returns-in_err-copy-clause-unchanged : goal.returns-in_err-copy-clause-unchanged
+returns-in_err-copy-clause-unchanged g c = on_err c.from_residual.result (same_state g.C.Chronicle.tells g.C.Chronicle.limits c.args.self.now)
 
-pub returns-in_err-make_room-clause-same : goal.returns-in_err-make_room-clause-same
-returns-in_err-make_room-clause-same g c = on_err c.from_residual-in_err-make_room.result (same_kept g.C.Chronicle.tells g.C.Chronicle.limits c.args.self.now c.make_room.new.self.chronicle c.make_room.new.self.engine c.make_room.ensures.tells c.make_room.ensures.engine c.make_room.ensures.limits)
+pub returns-in_err-make_room-clause-unchanged : goal.returns-in_err-make_room-clause-unchanged
+returns-in_err-make_room-clause-unchanged g c = on_err c.from_residual-in_err-make_room.result (same_kept g.C.Chronicle.tells g.C.Chronicle.limits c.args.self.now c.make_room.new.self.chronicle c.make_room.new.self.engine c.make_room.ensures.tells c.make_room.ensures.engine c.make_room.ensures.limits)
 
 pub returns-in_err-copy-clause-err : goal.returns-in_err-copy-clause-err
 returns-in_err-copy-clause-err g c =

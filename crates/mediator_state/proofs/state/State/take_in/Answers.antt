@@ -12,14 +12,14 @@ use Rattle.mediator_state.proofs.SameLaws.{untouched_same, untouched_after}
 use Rattle.mediator_state.proofs.CallLaws.{found, next_of, next_memory, message_held, refused_full, refused_audit, full_where, room_where, planned_for, received, same_kept, same_roomed, err_gives, on_err}
 use Rattle.mediator_state.proofs.state.State.take_in.Goals as goal
 
-pub returns-in_err-plan-clause-same : goal.returns-in_err-plan-clause-same
-returns-in_err-plan-clause-same g c = on_err c.from_residual.result (same_kept g.C.Chronicle.tells g.C.Chronicle.limits c.args.self.now c.args.self.now.chronicle c.plan.new.self (λ h told. told) c.plan.ensures.unchanged refl)
+pub returns-in_err-plan-clause-unchanged : goal.returns-in_err-plan-clause-unchanged
+returns-in_err-plan-clause-unchanged g c = on_err c.from_residual.result (same_kept g.C.Chronicle.tells g.C.Chronicle.limits c.args.self.now c.args.self.now.chronicle c.plan.new.self (λ h told. told) c.plan.ensures.unchanged refl)
 
-pub returns-in_err-entries-clause-same : goal.returns-in_err-entries-clause-same
-returns-in_err-entries-clause-same g c = on_err c.from_residual-in_err-entries.result (same_kept g.C.Chronicle.tells g.C.Chronicle.limits c.args.self.now c.args.self.now.chronicle c.plan.new.self (λ h told. told) c.plan.ensures.unchanged refl)
+pub returns-in_err-entries-clause-unchanged : goal.returns-in_err-entries-clause-unchanged
+returns-in_err-entries-clause-unchanged g c = on_err c.from_residual-in_err-entries.result (same_kept g.C.Chronicle.tells g.C.Chronicle.limits c.args.self.now c.args.self.now.chronicle c.plan.new.self (λ h told. told) c.plan.ensures.unchanged refl)
 
-pub returns-then-not-room-clause-same : goal.returns-then-not-room-clause-same
-returns-then-not-room-clause-same g c = same_kept g.C.Chronicle.tells g.C.Chronicle.limits c.args.self.now c.args.self.now.chronicle c.plan.new.self (λ h told. told) c.plan.ensures.unchanged refl
+pub returns-then-not-room-clause-unchanged : goal.returns-then-not-room-clause-unchanged
+returns-then-not-room-clause-unchanged g c = same_kept g.C.Chronicle.tells g.C.Chronicle.limits c.args.self.now c.args.self.now.chronicle c.plan.new.self (λ h told. told) c.plan.ensures.unchanged refl
 
 pub returns-then-not-room-clause-err : goal.returns-then-not-room-clause-err
 returns-then-not-room-clause-err g c = λ h s.
@@ -35,8 +35,8 @@ returns-in_err-entries-clause-err g c =
     (next_of c.args.self.now.engine h c.args.session c.args.number c.args.message c.in_ok-plan.plan c.in_ok-plan.ensures.session
     (c.in_ok-plan.ensures.ok h c.args.number c.args.message s.stands (sym (c.len-position.ensures.value ∙ (g.met.C.Chronicle.counted c.args.self.now.chronicle h s.told).entries)) (c.requires.read h s))))
 
-pub returns-in_err-reserved-clause-same : goal.returns-in_err-reserved-clause-same
-returns-in_err-reserved-clause-same g c = on_err c.from_residual-in_err-reserved.result (same_roomed g.C.Chronicle.tells g.C.Chronicle.limits c.args.self.now c.args.self.now.chronicle c.make_room.new.self (λ h told. told) (subst (λ (e : Engine). IsSameEngine e c.make_room.new.self) c.plan.ensures.unchanged c.make_room.ensures.unchanged) refl)
+pub returns-in_err-reserved-clause-unchanged : goal.returns-in_err-reserved-clause-unchanged
+returns-in_err-reserved-clause-unchanged g c = on_err c.from_residual-in_err-reserved.result (same_roomed g.C.Chronicle.tells g.C.Chronicle.limits c.args.self.now c.args.self.now.chronicle c.make_room.new.self (λ h told. told) (subst (λ (e : Engine). IsSameEngine e c.make_room.new.self) c.plan.ensures.unchanged c.make_room.ensures.unchanged) refl)
 
 pub returns-in_err-reserved-clause-err : goal.returns-in_err-reserved-clause-err
 returns-in_err-reserved-clause-err g c =
@@ -49,8 +49,8 @@ returns-in_err-reserved-clause-err g c =
     (room_where c.room.result (g.C.Chronicle.limits c.args.self.now.chronicle) (g.C.Chronicle.count c.args.self.now.chronicle) (g.C.Chronicle.octets c.args.self.now.chronicle) c.deref-3.result.now c.in_ok-entries.entries.items c.room.ensures c.deref-3.ensures.value c.if-not-room.false)
     (subst (λ (e : Engine). LacksAudit c.in_err-reserved.field-0.0 e.audit (length c.in_ok-plan.plan.cuts.items + c.in_ok-plan.plan.notes.count)) c.plan.ensures.unchanged c.in_err-reserved.ensures.err)))
 
-pub returns-in_err-reserve-clause-same : goal.returns-in_err-reserve-clause-same
-returns-in_err-reserve-clause-same g c = on_err c.from_residual-in_err-reserve.result (same_roomed g.C.Chronicle.tells g.C.Chronicle.limits c.args.self.now c.reserve.new.self c.make_room.new.self c.reserve.ensures.tells (subst (λ (e : Engine). IsSameEngine e c.make_room.new.self) c.plan.ensures.unchanged c.make_room.ensures.unchanged) c.reserve.ensures.limits)
+pub returns-in_err-reserve-clause-unchanged : goal.returns-in_err-reserve-clause-unchanged
+returns-in_err-reserve-clause-unchanged g c = on_err c.from_residual-in_err-reserve.result (same_roomed g.C.Chronicle.tells g.C.Chronicle.limits c.args.self.now c.reserve.new.self c.make_room.new.self c.reserve.ensures.tells (subst (λ (e : Engine). IsSameEngine e c.make_room.new.self) c.plan.ensures.unchanged c.make_room.ensures.unchanged) c.reserve.ensures.limits)
 
 pub returns-in_err-reserve-clause-err : goal.returns-in_err-reserve-clause-err
 returns-in_err-reserve-clause-err g c =

@@ -3,11 +3,11 @@ use Rattle.mediator_state.specs.Calls.{Proceeds, Receives, RefusesReceive}
 use Rattle.mediator_state.proofs.CallLaws.{if_ok_gives, if_err_gives, refused_as_prepared, same_state, on_err}
 use Rattle.mediator_state.proofs.state.State.take_prepared.Goals as goal
 
-pub returns-in_err-reading-clause-same : goal.returns-in_err-reading-clause-same
-returns-in_err-reading-clause-same g c = on_err c.from_residual.result (same_state g.C.Chronicle.tells g.C.Chronicle.limits c.args.self.now)
+pub returns-in_err-reading-clause-unchanged : goal.returns-in_err-reading-clause-unchanged
+returns-in_err-reading-clause-unchanged g c = on_err c.from_residual.result (same_state g.C.Chronicle.tells g.C.Chronicle.limits c.args.self.now)
 
-pub returns-in_err-message-clause-same : goal.returns-in_err-message-clause-same
-returns-in_err-message-clause-same g c = on_err c.from_residual-in_err-message.result (same_state g.C.Chronicle.tells g.C.Chronicle.limits c.args.self.now)
+pub returns-in_err-message-clause-unchanged : goal.returns-in_err-message-clause-unchanged
+returns-in_err-message-clause-unchanged g c = on_err c.from_residual-in_err-message.result (same_state g.C.Chronicle.tells g.C.Chronicle.limits c.args.self.now)
 
 pub returns-clause-ok : goal.returns-clause-ok
 returns-clause-ok g c = if_ok_gives c.take_in.result c.take_in.ensures.ok
