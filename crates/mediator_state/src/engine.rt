@@ -130,7 +130,8 @@ impl Engine {
         ensures value { result.0 ≡ self.now.opened + 1 }
         ensures next { (h : List Entry) → Stands self.now h → result.0 ≡ sessions_opened h + 1 }
     {
-        SessionId(self.opened + 1)
+        let number = self.opened + 1;
+        SessionId(number)
     }
 
     /// Opens the next session, whose number is `session`.
@@ -249,7 +250,8 @@ impl Engine {
         ensures value { result.0 ≡ self.now.begun + 1 }
         ensures next { (h : List Entry) → Stands self.now h → result.0 ≡ subscriptions_begun h + 1 }
     {
-        SubId(self.begun + 1)
+        let number = self.begun + 1;
+        SubId(number)
     }
 
     /// The number of the live subscription whose subscriber has this `name`, or `None`.

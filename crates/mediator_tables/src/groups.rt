@@ -97,10 +97,11 @@ impl RunningGroups {
         ensures numbers { IfOk result (λ subs. map (λ s. s.0) subs.items ≡ keys_of self.now) }
         ensures once { IsDistinct eqb (keys_of self.now) }
     {
-        self.by_number
-            .keys()
-            .map(|sub| SubId(*sub))
-            .collect(self.alloc)
+        let mut subs = Vec::new(self.alloc);
+        'numbers: for number in self.by_number.keys() {
+            subs.push(SubId(*number))?;
+        }
+        Ok(subs)
     }
 
     /// Makes ready for all of `tallies`, what one message adds, where no subscription stands twice.
