@@ -1,5 +1,5 @@
 use Rattle.std.proofs.Common.{ℕ, Some, None, subst}
-use Rattle.std.specs.Prelude.{IfSome, IfNone, IsSomeAnd, ◌≢◌}
+use Rattle.std.specs.Prelude.{IfSome, IsSomeAnd, ◌≢◌}
 use Rattle.mediator_tables.specs.SubscriptionTable.{Table, at, HasName}
 use Rattle.mediator_tables.specs.Naming.{number_of}
 use Rattle.mediator_tables.proofs.NameLaws.{named_found, named_none}
