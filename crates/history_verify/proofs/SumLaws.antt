@@ -109,6 +109,11 @@ ready_without s d subs is (r ∷ rs) (t ∷ ts) ready none = (
 abbrev pub closing_shares : (ℕ → List DataRecord) → List ℕ → List (ℕ × List DataRecord)
 closing_shares closes subs = map (λ sub. (sub, closes sub)) subs
 
+-- the same of what has the numbers
+pub closing_by : {X : Type 0} (number : X → ℕ) (closes : ℕ → List DataRecord) (xs : List X) → map (λ x. (number x, closes (number x))) xs ≡ closing_shares closes (map number xs)
+closing_by number closes [] = refl
+closing_by number closes (x ∷ xs) = ap (λ (ss : List (ℕ × List DataRecord)). (number x, closes (number x)) ∷ ss) (closing_by number closes xs)
+
 pub one_closing : (closes : ℕ → List DataRecord) (subs : List ℕ) (i sub : ℕ) (shares shares2 : List (ℕ × List DataRecord)) (share : ℕ × List DataRecord) → i < length subs → sub ≡ get_or subs i sub
     → share ≡ (sub, closes sub) → shares2 ≡ shares ++ share ∷ [] → shares ≡ closing_shares closes (take i subs) → shares2 ≡ closing_shares closes (take (i + 1) subs)
 one_closing closes subs i sub shares shares2 share within at is pushed so =

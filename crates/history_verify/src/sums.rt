@@ -11,7 +11,7 @@ ghost use Rattle.mediator_history.specs.Counting.{running};
 ghost use Rattle.mediator_history.specs.Numbers.{is_in};
 ghost use Rattle.mediator_tables.specs.SubscriptionTable.{shown, given_to};
 
-use mediator_tables::{Reserved, RunningGroups, Share, Tally};
+use mediator_tables::{Reserved, RunningGroups, Share, SubId, Tally};
 use std::alloc::{AllocError, Global};
 
 /// The running groups of a history. Contracts say by `AreSums` of which histories.
@@ -68,7 +68,7 @@ impl Sums {
         ensures given { IfOk result (λ share. (h : List Entry) → AreSums self.now h
             → share.given ≡ closed_by t (running sub h)) }
     {
-        let given = self.groups.closing(sub, t)?;
+        let given = self.groups.closing(SubId(sub), t)?;
         Ok(Share { sub, given })
     }
 
@@ -83,7 +83,7 @@ impl Sums {
         let subs = self.groups.subs()?;
         let mut shares = Vec::new(self.alloc);
         'subs: for sub in &subs {
-            shares.push(self.closing_of(*sub, t)?)?;
+            shares.push(self.closing_of(sub.0, t)?)?;
         }
         Ok(shares)
     }
@@ -119,6 +119,6 @@ impl Sums {
             → ((q : ℕ) → q ≢ sub → running q g ≡ running q h) → AreSums self.new g }
         ensures without { IsWithout self.old sub self.new }
     {
-        self.groups.remove(sub);
+        self.groups.remove(SubId(sub));
     }
 }

@@ -51,15 +51,6 @@ if_err_gives (Err e) p f = f e p
 pub if_ok_at : {X E : Type 0} (P : X → Type 0) (r : Result X E) (x : X) → r ≡ Ok x → P x → IfOk r P
 if_ok_at P r x is p = rw is p
 
-pub if_ok_none : {X E : Type 0} (P : X → Type 0) (r : Result X E) (e : E) → r ≡ Err e → IfOk r P
-if_ok_none P r e is = rw is tt
-
-pub on_err_at : {X E P : Type 0} (r : Result X E) (e : E) → r ≡ Err e → P → OnErr r P
-on_err_at r e is p = rw is p
-
-pub on_err_none : {X E : Type 0} (P : Type 0) (r : Result X E) (x : X) → r ≡ Ok x → OnErr r P
-on_err_none P r x is = rw is tt
-
 -- ---- the same mediator
 
 limits_same : (s t : State Kept) → t.engine.limits ≡ s.engine.limits → t.engine.audit.limit ≡ s.engine.audit.limit → t.chronicle.limits ≡ s.chronicle.limits → (view_of t).limits ≡ (view_of s).limits

@@ -2,7 +2,8 @@
 //!
 //! - `mediator`: [`Mediator`], with its calls. `finished`: [`Finished`], the journal that stays of a run.
 //! - `call`: [`Call`] and [`Reply`].
-//! - `ids`: [`SessionId`] and [`SubId`]. `limits`: [`Limits`], with the ranges that a mediator allows.
+//! - `limits`: [`Limits`], with the ranges that a mediator allows.
+//! - [`SessionId`] and [`SubId`], by which calls name sessions and subscriptions, are those of [`mediator_tables`].
 //! - `fault`: [`RunFault`] and [`UnknownSub`]; the other refusals are [`mediator_state::Fault`].
 //!
 //! Proved of each call, by what contracts see of a mediator (its history, the places of its live subscriptions, how
@@ -18,14 +19,13 @@
 mod call;
 mod fault;
 mod finished;
-mod ids;
 mod limits;
 mod mediator;
 
 pub use call::{Call, Reply};
 pub use fault::{RunFault, UnknownSub};
 pub use finished::Finished;
-pub use ids::{SessionId, SubId};
 pub use limits::Limits;
 pub use mediator::Mediator;
 pub use mediator_state::{Fault, Receipt, Status};
+pub use mediator_tables::{SessionId, SubId};

@@ -8,13 +8,13 @@ ghost use Rattle.mediator_calls.specs.Sound.{IsSound};
 ghost use Rattle.mediator_calls.specs.Calls.{Opens, RefusesOpen, Closes, Receives, RefusesReceive, RefusesReceivePrepared, Edits, Subscribes, Unsubscribes, Advances, RefusesAdvance, Pulls, IsStatusOf, Drains};
 
 use crate::finished::Finished;
-use crate::{Limits, RunFault, SessionId, SubId, UnknownSub};
+use crate::{Limits, RunFault, UnknownSub};
 use bytes::Bytes;
 use disclosure_audit::AuditEntry;
 use event_journal::Journal;
 use hash_keys::HashKeys;
 use mediator_state::{Fault, Receipt, State, Status};
-use mediator_tables::Share;
+use mediator_tables::{SessionId, Share, SubId};
 use prepared_message::{JudgedAhead, Prepared, Snapshot};
 use std::alloc::{AllocError, Global};
 use std::marker::Model;
@@ -125,10 +125,7 @@ impl Mediator {
         ensures unchanged { OnErr result (self.new ≡ self.old) }
         ensures err { IfErr result (λ e. RefusesOpen e self.old) }
     {
-        match self.state.open() {
-            Ok(session) => Ok(SessionId(session)),
-            Err(fault) => Err(fault),
-        }
+        self.state.open()
     }
 
     /// Closes the session with the number `session`, which never comes again.
@@ -142,7 +139,7 @@ impl Mediator {
         ensures err { IfErr result (λ e.
             RefusesClose e (journal_limits self.old.limits) self.old.history session.0) }
     {
-        self.state.close(session.0)
+        self.state.close(session)
     }
 
     /// Accepts `message` as the next one of the session with the number `session`. `number` is to be how many messages
@@ -186,7 +183,7 @@ impl Mediator {
         ensures unchanged { OnErr result (self.new ≡ self.old) }
         ensures err { IfErr result (λ e. RefusesReceive e self.old session.0 number message) }
     {
-        self.state.receive_judged(session.0, number, message, ahead)
+        self.state.receive_judged(session, number, message, ahead)
     }
 
     /// The templates of the open session with the number `session` as they stand, by which its messages can be prepared
@@ -199,7 +196,7 @@ impl Mediator {
         ensures unchanged { self.new ≡ self.old }
         ensures err { IfErr result (λ e. RefusesSnapshot e self.old.history session.0) }
     {
-        self.state.snapshot(session.0)
+        self.state.snapshot(session)
     }
 
     /// Accepts `prepared`, a message that was prepared without the mediator, as the next one of the session with the
@@ -223,7 +220,7 @@ impl Mediator {
             RefusesReceivePrepared e.0 self.old session.0 number prepared) }
         ensures handed_back { IfErr result (λ e. e.1 ≡ prepared) }
     {
-        self.state.receive_prepared(session.0, number, prepared)
+        self.state.receive_prepared(session, number, prepared)
     }
 
     /// Puts the policy that `text` spells in force, and answers how many edits there were then. What was accepted
@@ -251,10 +248,7 @@ impl Mediator {
         ensures err { IfErr result (λ e.
             RefusesSubscribe e (journal_limits self.old.limits) self.old.history name.now) }
     {
-        match self.state.subscribe(name) {
-            Ok(sub) => Ok(SubId(sub)),
-            Err(fault) => Err(fault),
-        }
+        self.state.subscribe(name)
     }
 
     /// Ends the subscription with the number `sub`, which never comes again: what waits for it is gone, and its name is
@@ -268,7 +262,7 @@ impl Mediator {
         ensures err { IfErr result (λ e.
             RefusesUnsubscribe e (journal_limits self.old.limits) self.old.history sub.0) }
     {
-        self.state.unsubscribe(sub.0)
+        self.state.unsubscribe(sub)
     }
 
     /// Advances the clock to `t`, in milliseconds since 1970. Each running group is closed whose interval's end, and
@@ -297,7 +291,7 @@ impl Mediator {
         ensures unchanged { OnErr result (self.new ≡ self.old) }
         ensures err { IfErr result (λ e. RefusesPull e self.old.history sub.0) }
     {
-        self.state.pull(sub.0, now, target)
+        self.state.pull(sub, now, target)
     }
 
     /// How the live subscription with the number `sub` stands. It takes no memory.
@@ -308,7 +302,7 @@ impl Mediator {
         ensures ok { IfOk result (λ status. IsStatusOf self.now sub.0 status) }
         ensures err { OnErr result (is_live sub.0 self.now.history ≡ false) }
     {
-        match self.state.status(sub.0) {
+        match self.state.status(sub) {
             Some(status) => Ok(status),
             None => Err(UnknownSub),
         }

@@ -6,6 +6,7 @@ use crate::job::OfflineJob;
 use bytes::Bytes;
 use event_journal::{MOST_ENTRIES, MOST_OCTETS, Tally};
 use mediator_state::{DEFAULT_AUDIT, DEFAULT_QUEUE, Fault, State};
+use mediator_tables::{SessionId, SubId};
 use std::alloc::Global;
 use subscriber_stream::{MOST_SHAPES, StreamLimits};
 
@@ -16,10 +17,10 @@ const LIMITS: StreamLimits = StreamLimits {
 };
 
 /// The number of the one session.
-const SESSION: u64 = 1;
+const SESSION: SessionId = SessionId(1);
 
 /// The number of the one subscription.
-pub(crate) const SUBSCRIPTION: u64 = 1;
+pub(crate) const SUBSCRIPTION: SubId = SubId(1);
 
 /// A run: the state of a mediator with one session and one subscription, and what is counted for the report.
 #[derive(Drop)]

@@ -194,10 +194,10 @@ all_kept e h number octets p plan few =
 
 -- behind the cuts the message is what the plan says
 pub is_message : (d e : Engine) (h : List Entry) (number : ℕ) (octets : List ℕ) (p : MessagePlan) (reserved : List (ℕ × List Addition)) → IsPlan d h number octets p → HasRoomForPlan d p reserved → CutsInARow p.cuts.items d e
-    → IsMessage e (after_cuts h p.cuts.items) p.session number octets (record { reading = p.reading; shares = map shown p.shares.items; tallies = map tallied p.tallies.items; entries = map (stamp p.position) p.notes.notes })
+    → IsMessage e (after_cuts h p.cuts.items) p.session.0 number octets (record { reading = p.reading; shares = map shown p.shares.items; tallies = map tallied p.tallies.items; entries = map (stamp p.position) p.notes.notes })
 is_message d e h number octets p reserved plan room row = record {
-  opened = is_open-cuts p.session h p.cuts.items ∙ plan.opened;
-  read = subst (λ ms. IsReadingOf ms octets p.reading) (sym (messages-cuts p.session h p.cuts.items)) plan.read;
+  opened = is_open-cuts p.session.0 h p.cuts.items ∙ plan.opened;
+  read = subst (λ ms. IsReadingOf ms octets p.reading) (sym (messages-cuts p.session.0 h p.cuts.items)) plan.read;
   shares_are = plan.judged.shares_are;
   tallies_are = plan.tallied_are;
   entries_are = ap (map (stamp p.position)) (all_kept d h number octets p plan whole) ∙ plan.judged.entries_are;
@@ -219,19 +219,19 @@ cuts_room d position p reserved planned room = record {
 
 -- and behind them for the message
 pub ready : (d e : Engine) (position : ℕ) (p : MessagePlan) (reserved : List (ℕ × List Addition)) → IsPlannedFor d position p → HasRoomForPlan d p reserved → CutsInARow p.cuts.items d e
-    → ((h : List Entry) → Stands d h → length h ≡ position → Stands e (after_cuts h p.cuts.items)) → IsReadyToTake e p.session p.reading (map shown p.shares.items) reserved (length p.notes.notes)
+    → ((h : List Entry) → Stands d h → length h ≡ position → Stands e (after_cuts h p.cuts.items)) → IsReadyToTake e p.session.0 p.reading (map shown p.shares.items) reserved (length p.notes.notes)
 ready d e position p reserved planned room row stands =
     let h = planned.history in
     let cuts = p.cuts.items in
     let so : Stands e (after_cuts h cuts) = stands h planned.stands planned.counted in
     let long : length (after_cuts h cuts) ≤ 2 * MOST_ENTRIES = omega (arith, length-cuts h cuts, planned.counted, planned.short, room.audit, room.limit) in
-    let E : Entry = Message p.session planned.number planned.octets in
+    let E : Entry = Message p.session.0 planned.number planned.octets in
     let few = few_kept d h planned.number planned.octets p planned.plan in
     record {
       history = after_cuts h cuts;
       stands = so;
-      session_room = subst (λ ss. IsSomeAnd (at_key p.session ss) (λ o. HasRoomFor o.session p.reading)) (sym row.rest.sessions) (session_room h p.session p.reading (at_key p.session d.sessions) (planned.stands.sessions p.session) planned.plan.opened room.session);
-      session_count = subst (λ ss. IfSome (at_key p.session ss) (λ o. o.accepted + 1 < 2 ^ 64)) (sym row.rest.sessions) (session_count h p.session (at_key p.session d.sessions) (omega (arith, planned.counted, planned.short)) (planned.stands.sessions p.session));
+      session_room = subst (λ ss. IsSomeAnd (at_key p.session.0 ss) (λ o. HasRoomFor o.session p.reading)) (sym row.rest.sessions) (session_room h p.session.0 p.reading (at_key p.session.0 d.sessions) (planned.stands.sessions p.session.0) planned.plan.opened room.session);
+      session_count = subst (λ ss. IfSome (at_key p.session.0 ss) (λ o. o.accepted + 1 < 2 ^ 64)) (sym row.rest.sessions) (session_count h p.session.0 (at_key p.session.0 d.sessions) (omega (arith, planned.counted, planned.short)) (planned.stands.sessions p.session.0));
       streams = streams_ready d e h E cuts (map shown p.shares.items) so long row planned.plan.judged.shares_are planned.plan.judged.room room.streams;
       groups = let made = groups_ready d e h E cuts reserved (map tallied p.tallies.items) so row planned.plan.tallied_are room.groups in (map tallied p.tallies.items, made.0, made.1);
       audit = omega (arith, row.entries, row.rest.audit_limit, room.audit, few);

@@ -79,21 +79,21 @@ lacks_after (fault.AuditFull need room) limits count octets h more c lacks = abs
 
 -- ---- a message and its cuts
 
-pub next_of : (e : Engine) (h : List Entry) (session number : ℕ) (octets : List ℕ) (p : MessagePlan) → p.session ≡ session → IsPlan e h number octets p → IsNext h session number
+pub next_of : (e : Engine) (h : List Entry) (session number : ℕ) (octets : List ℕ) (p : MessagePlan) → p.session.0 ≡ session → IsPlan e h number octets p → IsNext h session number
 next_of e h session number octets p is plan = record {
   opened = subst (λ (s : ℕ). is_open s h ≡ true) is plan.opened;
   turn = subst (λ (s : ℕ). number ≡ length (messages_of s h)) is plan.turn;
 }
 
-means_of : (e : Engine) (h : List Entry) (session number : ℕ) (octets : List ℕ) (p : MessagePlan) → p.session ≡ session → IsPlan e h number octets p → meaning_of (messages_of session h) octets ≡ Ok p.reading.meaning
+means_of : (e : Engine) (h : List Entry) (session number : ℕ) (octets : List ℕ) (p : MessagePlan) → p.session.0 ≡ session → IsPlan e h number octets p → meaning_of (messages_of session h) octets ≡ Ok p.reading.meaning
 means_of e h session number octets p is plan = ap (λ (s : ℕ). meaning_of (messages_of s h) octets) (sym is) ∙ plan.read.means
 
-cuts_of : (e : Engine) (h : List Entry) (session number : ℕ) (octets : List ℕ) (p : MessagePlan) → p.session ≡ session → IsPlan e h number octets p → map Cut p.cuts.items ≡ cuts_before e.limits h (Message session number octets) (waiting_of e)
+cuts_of : (e : Engine) (h : List Entry) (session number : ℕ) (octets : List ℕ) (p : MessagePlan) → p.session.0 ≡ session → IsPlan e h number octets p → map Cut p.cuts.items ≡ cuts_before e.limits h (Message session number octets) (waiting_of e)
 cuts_of e h session number octets p is plan =
     ap (λ (cuts : List ℕ). map Cut cuts) plan.judged.cuts_are ∙ ap (λ (s : ℕ). cuts_before e.limits h (Message s number octets) (waiting_of e)) is
 
 -- the entries that are appended
-pub entries_are : (e : Engine) (h : List Entry) (session number : ℕ) (octets : List ℕ) (p : MessagePlan) (entries : List Entry) → p.session ≡ session → entries ≡ map Cut p.cuts.items ++ Message session number octets ∷ [] → IsPlan e h number octets p → entries ≡ with_cuts e h (Message session number octets)
+pub entries_are : (e : Engine) (h : List Entry) (session number : ℕ) (octets : List ℕ) (p : MessagePlan) (entries : List Entry) → p.session.0 ≡ session → entries ≡ map Cut p.cuts.items ++ Message session number octets ∷ [] → IsPlan e h number octets p → entries ≡ with_cuts e h (Message session number octets)
 entries_are e h session number octets p entries is made plan =
     made ∙ ap (λ (cuts : List Entry). cuts ++ Message session number octets ∷ []) (cuts_of e h session number octets p is plan)
 
@@ -112,7 +112,7 @@ length-named : (e : Engine) (h : List Entry) (number : ℕ) (octets : List ℕ) 
 length-named e h number octets p plan =
     omega (arith, length-append (cut_entries (length h) p.cuts.items) (entries_of e h number octets p plan), length-cut_entries (length h) p.cuts.items, length-map plan.named (stamp p.position), ap (λ (k : Kept). k.count) plan.kept)
 
-noted_of : (e : Engine) (h : List Entry) (session number : ℕ) (octets : List ℕ) (p : MessagePlan) → p.session ≡ session → (plan : IsPlan e h number octets p)
+noted_of : (e : Engine) (h : List Entry) (session number : ℕ) (octets : List ℕ) (p : MessagePlan) → p.session.0 ≡ session → (plan : IsPlan e h number octets p)
     → audit_list (h ++ with_cuts e h (Message session number octets)) ≡ audit_list h ++ (cut_entries (length h) p.cuts.items ++ entries_of e h number octets p plan)
 noted_of e h session number octets p is plan =
     let message : Entry = Message session number octets in
@@ -159,10 +159,10 @@ refused_as_prepared (fault.AuditFull need room) limits e h session number p read
 -- what was found out of a message before it is accepted
 pub record IsFound (e : Engine) (h : List Entry) (session number : ℕ) (octets : List ℕ) (p : MessagePlan) (entries : List Entry) : Type 0 where
   pub plan : IsPlan e h number octets p
-  pub session_is : p.session ≡ session
+  pub session_is : p.session.0 ≡ session
   pub entries_made : entries ≡ map Cut p.cuts.items ++ Message session number octets ∷ []
 
-has_meaning : (e : Engine) (h : List Entry) (session number : ℕ) (octets : List ℕ) (p : MessagePlan) → p.session ≡ session → IsPlan e h number octets p → HasMeaning h session octets
+has_meaning : (e : Engine) (h : List Entry) (session number : ℕ) (octets : List ℕ) (p : MessagePlan) → p.session.0 ≡ session → IsPlan e h number octets p → HasMeaning h session octets
 has_meaning e h session number octets p is plan = record { meaning = p.reading.meaning; means = means_of e h session number octets p is plan }
 
 pub refused_full : (limits : Journaled) (count sizes : ℕ) (e : Engine) (h : List Entry) (session number : ℕ) (octets : List ℕ) (p : MessagePlan) (entries : List Entry) → IsCountOf h count sizes → IsFound e h session number octets p entries → (HasRoom limits count sizes entries → ⊥) → RefusesReceive fault.JournalFull limits e h session number octets
@@ -240,7 +240,7 @@ planned_for d e h number octets position p same stands counted short plan = reco
 
 -- what accept says of the engine
 abbrev pub AcceptsPlan : Engine → ℕ → MessagePlan → Engine → Type 0
-AcceptsPlan e position p new = (h : List Entry) (number : ℕ) (octets : List ℕ) → Stands e h → length h ≡ position → IsPlan e h number octets p → Stands new (after_cuts h p.cuts.items ++ Message p.session number octets ∷ [])
+AcceptsPlan e position p new = (h : List Entry) (number : ℕ) (octets : List ℕ) → Stands e h → length h ≡ position → IsPlan e h number octets p → Stands new (after_cuts h p.cuts.items ++ Message p.session.0 number octets ∷ [])
 
 pub received : {C : Type 0} (tells : C → List Entry → Type 0) (limits : C → Journaled) (old new : State C) (e : Engine) (count sizes : ℕ) (h : List Entry) (session number : ℕ) (octets : List ℕ) (p : MessagePlan) (entries : List Entry) (r : Receipt) (position : ℕ)
     → StandsFor tells old h → IsCountOf h count sizes → position ≡ count → IsFound old.engine h session number octets p entries → HasRoom (limits old.chronicle) count sizes entries → IsSameEngine old.engine e → AuditHolds old.engine h (with_cuts old.engine h (Message session number octets))
@@ -248,9 +248,9 @@ pub received : {C : Type 0} (tells : C → List Entry → Type 0) (limits : C �
 received tells limits old new e count sizes h session number octets p entries r position stands c at f room same held told accepts receipt =
     let counted : length h ≡ position = sym (at ∙ c.entries) in
     let same_entries : entries ≡ with_cuts old.engine h (Message session number octets) = entries_are old.engine h session number octets p entries f.session_is f.entries_made f.plan in
-    let after : Stands new.engine (after_cuts h p.cuts.items ++ Message p.session number octets ∷ []) = accepts h number octets (stands_same old.engine e h same stands.stands) counted (plan_same old.engine e h number octets p same f.plan) in
-    let history : after_cuts h p.cuts.items ++ Message p.session number octets ∷ [] ≡ h ++ entries =
-    append_assoc h (map Cut p.cuts.items) (Message p.session number octets ∷ []) ∙ ap (λ (s : ℕ). h ++ (map Cut p.cuts.items ++ Message s number octets ∷ [])) f.session_is ∙ ap (λ (more : List Entry). h ++ more) (sym f.entries_made) in
+    let after : Stands new.engine (after_cuts h p.cuts.items ++ Message p.session.0 number octets ∷ []) = accepts h number octets (stands_same old.engine e h same stands.stands) counted (plan_same old.engine e h number octets p same f.plan) in
+    let history : after_cuts h p.cuts.items ++ Message p.session.0 number octets ∷ [] ≡ h ++ entries =
+    append_assoc h (map Cut p.cuts.items) (Message p.session.0 number octets ∷ []) ∙ ap (λ (s : ℕ). h ++ (map Cut p.cuts.items ++ Message s number octets ∷ [])) f.session_is ∙ ap (λ (more : List Entry). h ++ more) (sym f.entries_made) in
     record {
       next = next_of old.engine h session number octets p f.session_is f.plan;
       meaning = p.reading.meaning;
@@ -387,7 +387,7 @@ pub room_where : (b : Bool) (limits : Journaled) (count sizes : ℕ) (seen entri
 room_where b limits count sizes seen entries exact is has = subst (λ (more : List Entry). HasRoom limits count sizes more) is (exact.0 has)
 
 -- what was found out, where the cuts were lent as a slice
-pub found : (e : Engine) (h : List Entry) (session number : ℕ) (octets : List ℕ) (p : MessagePlan) (entries : List Entry) (seen : List ℕ) → IsPlan e h number octets p → p.session ≡ session → entries ≡ map Cut seen ++ Message session number octets ∷ [] → seen ≡ p.cuts.items → IsFound e h session number octets p entries
+pub found : (e : Engine) (h : List Entry) (session number : ℕ) (octets : List ℕ) (p : MessagePlan) (entries : List Entry) (seen : List ℕ) → IsPlan e h number octets p → p.session.0 ≡ session → entries ≡ map Cut seen ++ Message session number octets ∷ [] → seen ≡ p.cuts.items → IsFound e h session number octets p entries
 found e h session number octets p entries seen plan is made lent = record {
   plan = plan;
   session_is = is;

@@ -564,22 +564,22 @@ next_reading e h session number octets reading o so is reads =
     let turn : IsTurn h session number o = turn_of e h session number o so is in
     record { next = record { opened = turn.opened; turn = turn.turn }; read = reads (messages_of session h) turn.stands }
 
-pub planned : (e : Engine) (h : List Entry) (session number : ℕ) (octets : List ℕ) (p : MessagePlan) (j : Judged) → p.session ≡ session → IsNextReading h session number octets p.reading
+pub planned : (e : Engine) (h : List Entry) (session number : ℕ) (octets : List ℕ) (p : MessagePlan) (j : Judged) → p.session.0 ≡ session → IsNextReading h session number octets p.reading
     → IsJudgedFor e h p.reading.meaning j → p.cuts ≡ j.cuts → p.shares ≡ j.shares → p.tallies ≡ j.tallies → p.position ≡ j.position → p.notes ≡ j.notes
     → IsPlan e h number octets p
 planned e h session number octets p j is next judged cuts shares tallies at notes =
-    let here : IsNextReading h p.session number octets p.reading = subst (λ (s : ℕ). IsNextReading h s number octets p.reading) (sym is) next in
-    let found : IsJudgedAs e h (Message p.session number octets) j = judged p.session number octets here.read.means in
+    let here : IsNextReading h p.session.0 number octets p.reading = subst (λ (s : ℕ). IsNextReading h s number octets p.reading) (sym is) next in
+    let found : IsJudgedAs e h (Message p.session.0 number octets) j = judged p.session.0 number octets here.read.means in
     record {
       opened = here.next.opened;
       turn = here.next.turn;
       read = here.read;
       named = found.named;
       kept = notes ∙ found.kept;
-      judged = subst (λ v. IsJudged e h (Message p.session number octets) v.items (map shown p.shares.items) (map (stamp p.position) found.named)) (sym cuts)
-          (subst (λ v. IsJudged e h (Message p.session number octets) j.cuts.items (map shown v.items) (map (stamp p.position) found.named)) (sym shares)
-          (subst (λ n. IsJudged e h (Message p.session number octets) j.cuts.items (map shown j.shares.items) (map (stamp n) found.named)) (sym at) found.judged));
-      tallied_are = subst (λ v. AreTallied (after_cuts h v.items) (Message p.session number octets) (map tallied p.tallies.items)) (sym cuts)
-          (subst (λ v. AreTallied (after_cuts h j.cuts.items) (Message p.session number octets) (map tallied v.items)) (sym tallies)
+      judged = subst (λ v. IsJudged e h (Message p.session.0 number octets) v.items (map shown p.shares.items) (map (stamp p.position) found.named)) (sym cuts)
+          (subst (λ v. IsJudged e h (Message p.session.0 number octets) j.cuts.items (map shown v.items) (map (stamp p.position) found.named)) (sym shares)
+          (subst (λ n. IsJudged e h (Message p.session.0 number octets) j.cuts.items (map shown j.shares.items) (map (stamp n) found.named)) (sym at) found.judged));
+      tallied_are = subst (λ v. AreTallied (after_cuts h v.items) (Message p.session.0 number octets) (map tallied p.tallies.items)) (sym cuts)
+          (subst (λ v. AreTallied (after_cuts h j.cuts.items) (Message p.session.0 number octets) (map tallied v.items)) (sym tallies)
           found.tallied_are);
     }

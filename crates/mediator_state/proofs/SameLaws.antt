@@ -142,6 +142,6 @@ plan_same d e h number octets p same plan = record {
   read = plan.read;
   named = plan.named;
   kept = plan.kept ∙ ap (λ n. kept_of n plan.named) (sym same.audit_limit);
-  judged = judged_same d e h (Message p.session number octets) p.cuts.items _ _ same plan.judged;
+  judged = judged_same d e h (Message p.session.0 number octets) p.cuts.items _ _ same plan.judged;
   tallied_are = plan.tallied_are;
 }

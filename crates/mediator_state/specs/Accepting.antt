@@ -45,7 +45,7 @@ pub record HasRoomForPlan (e : Engine) (p : MessagePlan) (added : List (ℕ × L
   pub audit : length e.audit.standing.entries + (length p.cuts.items + p.notes.count) ≤ e.audit.limit
   pub limit : e.audit.limit ≤ MOST_AUDITED
   pub reserved : length p.cuts.items + 1 ≤ e.audit.spare
-  pub session : IfSome (at_key p.session e.sessions) (λ o. HasRoomFor o.session p.reading)
+  pub session : IfSome (at_key p.session.0 e.sessions) (λ o. HasRoomFor o.session p.reading)
   pub streams : AllByRecursion (HasSpare e.subscriptions.live) (map shown p.shares.items)
   pub groups : AreApart (map tallied p.tallies.items) → AllReady e.groups added (map tallied p.tallies.items)
 

@@ -82,13 +82,13 @@ IsJudgedFor e h m j = (session number : ℕ) (octets : List ℕ) → meaning_of 
 
 -- what a message would do behind a history
 pub record IsPlan (e : Engine) (h : List Entry) (number : ℕ) (octets : List ℕ) (p : MessagePlan) : Type 0 where
-  pub opened : is_open p.session h ≡ true
-  pub turn : number ≡ length (messages_of p.session h)
-  pub read : IsReadingOf (messages_of p.session h) octets p.reading
+  pub opened : is_open p.session.0 h ≡ true
+  pub turn : number ≡ length (messages_of p.session.0 h)
+  pub read : IsReadingOf (messages_of p.session.0 h) octets p.reading
   pub named : List Note
   pub kept : p.notes ≡ kept_of e.audit.limit named
-  pub judged : IsJudged e h (Message p.session number octets) p.cuts.items (map shown p.shares.items) (map (stamp p.position) named)
-  pub tallied_are : AreTallied (after_cuts h p.cuts.items) (Message p.session number octets) (map tallied p.tallies.items)
+  pub judged : IsJudged e h (Message p.session.0 number octets) p.cuts.items (map shown p.shares.items) (map (stamp p.position) named)
+  pub tallied_are : AreTallied (after_cuts h p.cuts.items) (Message p.session.0 number octets) (map tallied p.tallies.items)
 
 -- the session is open, and this is the number of its next message
 pub record IsInTurn (e : Engine) (session number : ℕ) (o : OpenSession) : Type 0 where

@@ -18,7 +18,7 @@ use event_journal::{Chronicle, Entry, PolicyText};
 use hash_keys::HashKeys;
 use ipfix_session::Reading;
 use mediator_shares::Judgement;
-use mediator_tables::Share;
+use mediator_tables::{SessionId, Share, SubId};
 use policy_text::{FaultKind, Name, Policy, PolicyFault, is_name};
 use prepared_message::{JudgedAhead, Prepared, Snapshot};
 use std::alloc::{AllocError, Global};
@@ -123,17 +123,18 @@ impl<C: Chronicle + Drop> State<C> {
     ///
     /// # Errors
     /// [`Fault::JournalFull`] or [`Fault::OutOfMemory`]. Nothing has changed then.
-    pub fn open(&mut self) -> Result<u64, Fault>
+    pub fn open(&mut self) -> Result<SessionId, Fault>
         requires stands { StandsForSome C.tells self.old }
         // The entry of the call stands as the next one, and nothing is handed out.
-        ensures ok { IfOk result (λ n. Proceeds C.tells C.limits self.old self.new (Opens n)) }
+        ensures ok { IfOk result (λ session. Proceeds C.tells C.limits self.old self.new
+            (Opens session.0)) }
         // A refused call changes nothing, and names the first cause.
         ensures unchanged { OnErr result (StaysSame C.tells C.limits self.old self.new) }
         ensures err { IfErr result (λ e. ForEachHistory C.tells self.old
             (RefusesOpen e (C.limits self.old.chronicle))) }
     {
         let session = self.engine.next_session(self.chronicle.len());
-        let entry = Entry::Open { session };
+        let entry = Entry::Open { session: session.0 };
         self.make_room(&entry)?;
         self.engine.open(session)?;
         self.chronicle.push_reserved(entry);
@@ -145,19 +146,19 @@ impl<C: Chronicle + Drop> State<C> {
     /// # Errors
     /// [`Fault::UnknownSession`] where it isn't open, [`Fault::JournalFull`] or [`Fault::OutOfMemory`]: the first that
     /// stands. Nothing has changed then.
-    pub fn close(&mut self, session: u64) -> Result<(), Fault>
+    pub fn close(&mut self, session: SessionId) -> Result<(), Fault>
         requires stands { StandsForSome C.tells self.old }
         // The entry of the call stands as the next one, and nothing is handed out.
-        ensures ok { OnOk result (Proceeds C.tells C.limits self.old self.new (Closes session)) }
+        ensures ok { OnOk result (Proceeds C.tells C.limits self.old self.new (Closes session.0)) }
         // A refused call changes nothing, and names the first cause.
         ensures unchanged { OnErr result (StaysSame C.tells C.limits self.old self.new) }
         ensures err { IfErr result (λ e. ForEachHistory C.tells self.old
-            (λ h. RefusesClose e (C.limits self.old.chronicle) h session)) }
+            (λ h. RefusesClose e (C.limits self.old.chronicle) h session.0)) }
     {
         if !self.engine.is_open(session) {
             return Err(Fault::UnknownSession);
         }
-        let entry = Entry::Close { session };
+        let entry = Entry::Close { session: session.0 };
         self.make_room(&entry)?;
         self.engine.close(session);
         self.chronicle.push_reserved(entry);
@@ -178,16 +179,21 @@ impl<C: Chronicle + Drop> State<C> {
     /// # Errors
     /// [`Fault::UnknownSession`], [`Fault::OutOfTurn`], [`Fault::Malformed`], [`Fault::JournalFull`] or
     /// [`Fault::AuditFull`]: the first that stands; or [`Fault::OutOfMemory`]. Nothing has changed then.
-    pub fn receive(&mut self, session: u64, number: u64, message: Bytes) -> Result<Receipt, Fault>
+    pub fn receive(
+        &mut self,
+        session: SessionId,
+        number: u64,
+        message: Bytes,
+    ) -> Result<Receipt, Fault>
         requires stands { StandsForSome C.tells self.old }
         // The message stands as the next entry, behind the cuts that it makes, and nothing is handed out.
         ensures ok { IfOk result (λ r. Proceeds C.tells C.limits self.old self.new
-            (Receives self.old.engine session number message r)) }
+            (Receives self.old.engine session.0 number message r)) }
         // A refused call changes nothing, and names the first cause.
         ensures unchanged { OnErr result (StaysSame C.tells C.limits self.old self.new) }
         ensures err { IfErr result (λ e. ForEachHistory C.tells self.old
             (λ h. RefusesReceive e (C.limits self.old.chronicle) self.old.engine h
-            session number message)) }
+            session.0 number message)) }
     {
         self.receive_judged(session, number, message, None)
     }
@@ -200,7 +206,7 @@ impl<C: Chronicle + Drop> State<C> {
     /// Those of [`receive`](State::receive).
     pub fn receive_judged(
         &mut self,
-        session: u64,
+        session: SessionId,
         number: u64,
         message: Bytes,
         ahead: Option<JudgedAhead>,
@@ -208,12 +214,12 @@ impl<C: Chronicle + Drop> State<C> {
         requires stands { StandsForSome C.tells self.old }
         // The message stands as the next entry, behind the cuts that it makes, and nothing is handed out.
         ensures ok { IfOk result (λ r. Proceeds C.tells C.limits self.old self.new
-            (Receives self.old.engine session number message r)) }
+            (Receives self.old.engine session.0 number message r)) }
         // A refused call changes nothing, and names the first cause.
         ensures unchanged { OnErr result (StaysSame C.tells C.limits self.old self.new) }
         ensures err { IfErr result (λ e. ForEachHistory C.tells self.old
             (λ h. RefusesReceive e (C.limits self.old.chronicle) self.old.engine h
-            session number message)) }
+            session.0 number message)) }
     {
         let reading = self.engine.read(session, number, &message)?;
         let judgement = judgement_of(ahead, &reading);
@@ -226,14 +232,14 @@ impl<C: Chronicle + Drop> State<C> {
     ///
     /// # Errors
     /// [`Fault::UnknownSession`] where the session isn't open; or [`Fault::OutOfMemory`].
-    pub fn snapshot(&mut self, session: u64) -> Result<Snapshot, Fault>
+    pub fn snapshot(&mut self, session: SessionId) -> Result<Snapshot, Fault>
         ensures ok { IfOk result (λ snapshot. ForEachHistory C.tells self.old
-            (λ h. IsSnapshot h session snapshot)) }
+            (λ h. IsSnapshot h session.0 snapshot)) }
         // Nothing changes.
         ensures unchanged { StaysSame C.tells C.limits self.old self.new }
         // A refusal names the first cause.
         ensures err { IfErr result (λ e. ForEachHistory C.tells self.old
-            (λ h. RefusesSnapshot e h session)) }
+            (λ h. RefusesSnapshot e h session.0)) }
     {
         self.engine.snapshot(session)
     }
@@ -248,19 +254,19 @@ impl<C: Chronicle + Drop> State<C> {
     /// one. The message is handed back beside the fault, and nothing has changed.
     pub fn receive_prepared(
         &mut self,
-        session: u64,
+        session: SessionId,
         number: u64,
         mut prepared: Prepared,
     ) -> Result<Receipt, (Fault, Prepared)>
         requires stands { StandsForSome C.tells self.old }
         // The message stands as the next entry, behind the cuts that it makes, and nothing is handed out.
         ensures ok { IfOk result (λ r. Proceeds C.tells C.limits self.old self.new
-            (Receives self.old.engine session number prepared.message r)) }
+            (Receives self.old.engine session.0 number prepared.message r)) }
         // A refused call changes nothing, and names the first cause.
         ensures unchanged { OnErr result (StaysSame C.tells C.limits self.old self.new) }
         ensures err { IfErr result (λ e. ForEachHistory C.tells self.old
             (λ h. RefusesReceivePrepared e.0 (C.limits self.old.chronicle) self.old.engine h
-            session number prepared)) }
+            session.0 number prepared)) }
         // The message is handed back, to be prepared anew or offered again.
         ensures handed_back { IfErr result (λ e. e.1 ≡ prepared) }
     {
@@ -278,19 +284,19 @@ impl<C: Chronicle + Drop> State<C> {
     /// Those of [`receive_prepared`](State::receive_prepared), without the message.
     fn take_prepared(
         &mut self,
-        session: u64,
+        session: SessionId,
         number: u64,
         prepared: &mut Prepared,
     ) -> Result<Receipt, Fault>
         requires stands { StandsForSome C.tells self.old }
         // The message stands as the next entry, behind the cuts that it makes, and nothing is handed out.
         ensures ok { IfOk result (λ r. Proceeds C.tells C.limits self.old self.new
-            (Receives self.old.engine session number prepared.old.message r)) }
+            (Receives self.old.engine session.0 number prepared.old.message r)) }
         // A refused call changes nothing, and names the first cause.
         ensures unchanged { OnErr result (StaysSame C.tells C.limits self.old self.new) }
         ensures err { IfErr result (λ e. ForEachHistory C.tells self.old
             (λ h. RefusesReceivePrepared e (C.limits self.old.chronicle) self.old.engine h
-            session number prepared.old)) }
+            session.0 number prepared.old)) }
         // What was read of the message stays.
         ensures lent { prepared.new ≡ prepared.old }
     {
@@ -308,7 +314,7 @@ impl<C: Chronicle + Drop> State<C> {
     /// [`Fault::JournalFull`], [`Fault::AuditFull`] or [`Fault::OutOfMemory`]. Nothing has changed then.
     fn take_in(
         &mut self,
-        session: u64,
+        session: SessionId,
         number: u64,
         message: Bytes,
         reading: Reading,
@@ -318,21 +324,21 @@ impl<C: Chronicle + Drop> State<C> {
         requires judgement { IfSome judgement
             (IsJudgementOf reading.meaning.header.domain reading.meaning.records) }
         requires read { ForEachHistory C.tells self.old
-            (λ h. IsNextReading h session number message reading) }
+            (λ h. IsNextReading h session.0 number message reading) }
         // The message stands as the next entry, behind the cuts that it makes, and nothing is handed out.
         ensures ok { IfOk result (λ r. Proceeds C.tells C.limits self.old self.new
-            (Receives self.old.engine session number message r)) }
+            (Receives self.old.engine session.0 number message r)) }
         // A refused call changes nothing, and names the first cause.
         ensures unchanged { OnErr result (StaysSame C.tells C.limits self.old self.new) }
         ensures err { IfErr result (λ e. ForEachHistory C.tells self.old
             (λ h. RefusesReceive e (C.limits self.old.chronicle) self.old.engine h
-            session number message)) }
+            session.0 number message)) }
     {
         see_octets(&message);
         let position = self.chronicle.len();
         let plan = self.engine.plan(position, session, reading, judgement)?;
         let message = Entry::Message {
-            session,
+            session: session.0,
             number,
             octets: message,
         };
@@ -377,11 +383,11 @@ impl<C: Chronicle + Drop> State<C> {
     /// # Errors
     /// [`Fault::BadName`] where the text is no name, [`Fault::AlreadySubscribed`] where a live subscription has it,
     /// [`Fault::JournalFull`] or [`Fault::OutOfMemory`]. Nothing has changed then.
-    pub fn subscribe(&mut self, name: &str) -> Result<u64, Fault>
+    pub fn subscribe(&mut self, name: &str) -> Result<SubId, Fault>
         requires stands { StandsForSome C.tells self.old }
         // The entry of the call stands as the next one, and nothing is handed out.
-        ensures ok { IfOk result (λ n. Proceeds C.tells C.limits self.old self.new
-            (Subscribes name.now n)) }
+        ensures ok { IfOk result (λ sub. Proceeds C.tells C.limits self.old self.new
+            (Subscribes name.now sub.0)) }
         // A refused call changes nothing, and names the first cause.
         ensures unchanged { OnErr result (StaysSame C.tells C.limits self.old self.new) }
         ensures err { IfErr result (λ e. ForEachHistory C.tells self.old
@@ -391,11 +397,14 @@ impl<C: Chronicle + Drop> State<C> {
             return Err(Fault::BadName);
         }
         if let Some(sub) = self.engine.named(name) {
-            return Err(Fault::AlreadySubscribed { sub });
+            return Err(Fault::AlreadySubscribed { sub: sub.0 });
         }
         let sub = self.engine.next_subscription(self.chronicle.len());
         let copy = Name::new(self.engine.alloc, name.as_bytes())?;
-        let entry = Entry::Subscribe { sub, name: copy };
+        let entry = Entry::Subscribe {
+            sub: sub.0,
+            name: copy,
+        };
         self.make_room(&entry)?;
         self.engine.subscribe(sub, name)?;
         self.chronicle.push_reserved(entry);
@@ -408,14 +417,14 @@ impl<C: Chronicle + Drop> State<C> {
     /// # Errors
     /// [`Fault::UnknownSub`] where it isn't live, [`Fault::JournalFull`] or [`Fault::OutOfMemory`]. Nothing has changed
     /// then.
-    pub fn unsubscribe(&mut self, sub: u64) -> Result<(), Fault>
+    pub fn unsubscribe(&mut self, sub: SubId) -> Result<(), Fault>
         requires stands { StandsForSome C.tells self.old }
         // The limits stay.
         ensures limits { self.new.engine.limits ≡ self.old.engine.limits }
         ensures audit_limit { self.new.engine.audit.limit ≡ self.old.engine.audit.limit }
         // The end stands as the next entry. Other subscriptions keep their places, and nothing is drained.
-        ensures ok { OnOk result (GoesOnBy C.tells C.limits self.old self.new (Unsubscribes sub)) }
-        ensures others { (q : ℕ) → q ≢ sub
+        ensures ok { OnOk result (GoesOnBy C.tells C.limits self.old self.new (Unsubscribes sub.0)) }
+        ensures others { (q : ℕ) → q ≢ sub.0
             → place_of self.new.engine q ≡ place_of self.old.engine q }
         ensures drained { self.new.engine.audit.standing.drained
             ≡ self.old.engine.audit.standing.drained }
@@ -423,12 +432,12 @@ impl<C: Chronicle + Drop> State<C> {
         // A refused call changes nothing, and names the first cause.
         ensures unchanged { OnErr result (StaysSame C.tells C.limits self.old self.new) }
         ensures err { IfErr result (λ e. ForEachHistory C.tells self.old
-            (λ h. RefusesUnsubscribe e (C.limits self.old.chronicle) h sub)) }
+            (λ h. RefusesUnsubscribe e (C.limits self.old.chronicle) h sub.0)) }
     {
         if !self.engine.is_live(sub) {
             return Err(Fault::UnknownSub);
         }
-        let entry = Entry::Unsubscribe { sub };
+        let entry = Entry::Unsubscribe { sub: sub.0 };
         self.make_room(&entry)?;
         self.engine.unsubscribe(sub);
         self.chronicle.push_reserved(entry);
@@ -497,14 +506,14 @@ impl<C: Chronicle + Drop> State<C> {
     ///
     /// # Errors
     /// [`Fault::UnknownSub`] where the subscription isn't live; or [`Fault::OutOfMemory`]. Nothing has changed then.
-    pub fn pull(&mut self, sub: u64, now: u32, target: u16) -> Result<Option<Bytes>, Fault>
+    pub fn pull(&mut self, sub: SubId, now: u32, target: u16) -> Result<Option<Bytes>, Fault>
         // The limits stay.
         ensures limits { self.new.engine.limits ≡ self.old.engine.limits }
         ensures audit_limit { self.new.engine.audit.limit ≡ self.old.engine.audit.limit }
         // The message is that at the place of the subscription, which moves past it. No other place moves.
         ensures ok { IfOk result (λ m. ForEachHistory C.tells self.old
-            (Pulls self.old.engine self.new.engine sub now target m)) }
-        ensures others { (q : ℕ) → q ≢ sub
+            (Pulls self.old.engine self.new.engine sub.0 now target m)) }
+        ensures others { (q : ℕ) → q ≢ sub.0
             → place_of self.new.engine q ≡ place_of self.old.engine q }
         ensures drained { self.new.engine.audit.standing.drained
             ≡ self.old.engine.audit.standing.drained }
@@ -514,7 +523,7 @@ impl<C: Chronicle + Drop> State<C> {
         // A refused call changes nothing, and names the first cause.
         ensures unchanged { OnErr result (StaysSame C.tells C.limits self.old self.new) }
         ensures err { IfErr result (λ e. ForEachHistory C.tells self.old
-            (λ h. RefusesPull e h sub)) }
+            (λ h. RefusesPull e h sub.0)) }
     {
         if !self.engine.is_live(sub) {
             return Err(Fault::UnknownSub);
@@ -527,10 +536,11 @@ impl<C: Chronicle + Drop> State<C> {
 
     /// How the live subscription with the number `sub` stands, or `None` where none with this number is live. It takes
     /// no memory.
-    pub fn status(&self, sub: u64) -> Option<Status>
+    pub fn status(&self, sub: SubId) -> Option<Status>
         ensures some { IfSome result (λ s. ForEachHistory C.tells self.now
-            (λ h. IsStatus h sub (place_of self.now.engine sub) s)) }
-        ensures none { IfNone result (ForEachHistory C.tells self.now (λ h. is_live sub h ≡ false)) }
+            (λ h. IsStatus h sub.0 (place_of self.now.engine sub.0) s)) }
+        ensures none { IfNone result (ForEachHistory C.tells self.now
+            (λ h. is_live sub.0 h ≡ false)) }
     {
         let kept = self.engine.subscriptions.get(sub)?;
         Some(Status {

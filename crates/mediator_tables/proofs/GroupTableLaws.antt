@@ -1,10 +1,11 @@
 -- The table after what is held of one subscription, or of each, was written.
-use Rattle.std.proofs.Common.{◌≡◌, ◌≢◌, ◌≤◌, ◌+◌, ◌<◌, ℕ, zero, suc, Bool, true, false, cond, eqb, ltb, List, [], ◌∷◌, ◌++◌, map, length, get_or, position, slice_get, Result, Ok, Err, IfOk, Option, Some, None, refl, sym, ap, ◌∙◌, subst, append-nil, is_some, true≢false, arith, length-append}
+use Rattle.std.proofs.Common.{◌≡◌, ◌≢◌, ◌≤◌, ◌+◌, ◌<◌, ℕ, zero, suc, Bool, true, false, cond, eqb, ltb, List, [], ◌∷◌, ◌++◌, map, length, get_or, position, slice_get, Result, Ok, Err, IfOk, Option, Some, None, refl, sym, ap, ◌∙◌, subst, append_assoc, append-nil, is_some, true≢false, arith, length-append}
 use Rattle.std.specs.Prelude.{unwrap_or, nat_lt}
 use Rattle.std.specs.List.{AllByRecursion, IsDistinct}
 use Rattle.std.specs.Map.{lookup, keys_of, values_of, set_value}
 use Rattle.std.specs.Map.Calls.{RetainsPairs}
 use Rattle.std.proofs.lemmas.Bool.{eqb-true, eqb-false, eq-eqb, ne_eqb, ltb-false}
+use Rattle.std.proofs.lemmas.List.{map_push}
 use Rattle.std.proofs.lemmas.List.Quantifiers.{position-Some}
 use Rattle.std.proofs.lemmas.Option.{slice_get-get_or}
 use Rattle.indexmap.specs.IndexMap.{set_value_at}
@@ -17,10 +18,23 @@ use Rattle.flow_aggregate.specs.Running.{Entries, Held, nothing_held, places, St
 use Rattle.flow_aggregate.specs.Counts.{count_of}
 use Rattle.flow_aggregate.specs.Additions.{AreReady}
 use Rattle.flow_aggregate.specs.Closing.{closed_by}
+use Rattle.mediator_tables.specs.declared.ids.SubId.{SubId}
 use Rattle.mediator_tables.specs.GroupTable.{held_at, groups_at, StandsAt, is_kept}
 
 abbrev pub Table : Type 0
 Table = List (ℕ × Held)
+
+-- ---- the numbers, one after another
+
+-- one more of the numbers, and one less that is left
+pub numbers_more : (subs subs2 : List SubId) (left left2 ks : List ℕ) (n : ℕ) (s : SubId) → subs2 ≡ subs ++ s ∷ [] → left ≡ n ∷ left2 → s.0 ≡ n → map (λ s. s.0) subs ++ left ≡ ks → map (λ s. s.0) subs2 ++ left2 ≡ ks
+numbers_more subs subs2 left left2 ks n s pushed next is so =
+    ap (λ (l : List SubId). map (λ s. s.0) l ++ left2) pushed
+    ∙ ap (λ (l : List ℕ). l ++ left2) (map_push (λ (s : SubId). s.0) subs s)
+    ∙ append_assoc (map (λ s. s.0) subs) (s.0 ∷ []) left2
+    ∙ ap (λ (k : ℕ). map (λ s. s.0) subs ++ k ∷ left2) is
+    ∙ ap (λ (l : List ℕ). map (λ s. s.0) subs ++ l) (sym next)
+    ∙ so
 
 -- ---- of the subscription at a place
 

@@ -10,6 +10,7 @@ ghost use Rattle.flow_aggregate.specs.Closing.{record_of, closed_by};
 ghost use Rattle.mediator_tables.specs.GroupTable.{held_at, groups_at, StandsAt, is_kept};
 ghost use Rattle.mediator_tables.specs.Adding.{tallied, reserved_for, IsReadyFor, AllReady, AreApart, AreCountable, added_to};
 
+use crate::ids::SubId;
 use crate::tally::{Reserved, Tally};
 use flow_aggregate::{ClosedAggregate, Running};
 use hash_keys::HashKeys;
@@ -77,12 +78,12 @@ impl RunningGroups {
 
     /// How many groups are kept for the subscription `sub`, with those that were made for what is
     /// yet to be added. There are no more than records that count or are to be added.
-    pub fn len(&self, sub: u64) -> usize
-        ensures value { result ≡ length (places (held_at self.now sub)) }
-        ensures few { (counted : List Counted) → StandsFor (groups_at self.now sub) counted
-            → result ≤ length counted + length (held_at self.now sub).ready }
+    pub fn len(&self, sub: SubId) -> usize
+        ensures value { result ≡ length (places (held_at self.now sub.0)) }
+        ensures few { (counted : List Counted) → StandsFor (groups_at self.now sub.0) counted
+            → result ≤ length counted + length (held_at self.now sub.0).ready }
     {
-        match self.by_number.get(&sub) {
+        match self.by_number.get(&sub.0) {
             Some(groups) => groups.len(),
             None => 0,
         }
@@ -92,11 +93,15 @@ impl RunningGroups {
     ///
     /// # Errors
     /// Want of memory.
-    pub fn subs(&self) -> Result<Vec<u64>, AllocError>
-        ensures numbers { IfOk result (λ subs. subs.items ≡ keys_of self.now) }
+    pub fn subs(&self) -> Result<Vec<SubId>, AllocError>
+        ensures numbers { IfOk result (λ subs. map (λ s. s.0) subs.items ≡ keys_of self.now) }
         ensures once { IsDistinct eqb (keys_of self.now) }
     {
-        self.by_number.keys().copied().collect(self.alloc)
+        let mut subs = Vec::new(self.alloc);
+        'numbers: for number in self.by_number.keys() {
+            subs.push(SubId(*number))?;
+        }
+        Ok(subs)
     }
 
     /// Makes ready for all of `tallies`, what one message adds, where no subscription stands twice.
@@ -166,11 +171,11 @@ impl RunningGroups {
     ///
     /// # Errors
     /// Want of memory.
-    pub fn closing(&self, sub: u64, t: u64) -> Result<Records, AllocError>
+    pub fn closing(&self, sub: SubId, t: u64) -> Result<Records, AllocError>
         ensures { IfOk result (λ records. (counted : List Counted)
-            → StandsFor (groups_at self.now sub) counted → records ≡ closed_by t counted) }
+            → StandsFor (groups_at self.now sub.0) counted → records ≡ closed_by t counted) }
     {
-        match self.by_number.get(&sub) {
+        match self.by_number.get(&sub.0) {
             Some(groups) => records_of(self.alloc, &groups.closing(t)?),
             None => Ok(Records::new(self.alloc)),
         }
@@ -197,12 +202,12 @@ impl RunningGroups {
 
     /// Drops the groups of the subscription `sub`. It takes no memory, and what was reserved for
     /// others stays so.
-    pub fn remove(&mut self, sub: u64)
-        ensures gone { held_at self.new sub ≡ nothing_held }
-        ensures others { (q : ℕ) → q ≢ sub → held_at self.new q ≡ held_at self.old q }
+    pub fn remove(&mut self, sub: SubId)
+        ensures gone { held_at self.new sub.0 ≡ nothing_held }
+        ensures others { (q : ℕ) → q ≢ sub.0 → held_at self.new q ≡ held_at self.old q }
         ensures places { keys_of self.new ≡ keys_of self.old }
     {
-        if let Some(groups) = self.by_number.get_mut(&sub) {
+        if let Some(groups) = self.by_number.get_mut(&sub.0) {
             *groups = Running::hashed(self.alloc, self.keys);
         }
     }

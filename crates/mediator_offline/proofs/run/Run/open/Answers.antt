@@ -25,7 +25,7 @@ pub open-requires : goal.open-requires
 open-requires c = record {
   stands = record {
     history = Edit c.args.job.policy.now ∷ Subscribe 1 c.args.job.name.now ∷ [];
-    stands = subscribed_stands c.in_ok-state.state c.edit.new.self c.subscribe.new.self c.args.job c.in_ok-edit.field-0 c.in_ok-subscribe.field-0 (made c.in_ok-state.state c.new.result c.new.ensures c.in_ok-state.ensures.stands c.in_ok-state.ensures.kept c.in_ok-state.ensures.limits c.in_ok-state.ensures.audit_limit) c.in_ok-edit.ensures.ok.goes_on c.in_ok-subscribe.ensures.ok.goes_on;
+    stands = subscribed_stands c.in_ok-state.state c.edit.new.self c.subscribe.new.self c.args.job c.in_ok-edit.field-0 c.in_ok-subscribe.field-0.0 (made c.in_ok-state.state c.new.result c.new.ensures c.in_ok-state.ensures.stands c.in_ok-state.ensures.kept c.in_ok-state.ensures.limits c.in_ok-state.ensures.audit_limit) c.in_ok-edit.ensures.ok.goes_on c.in_ok-subscribe.ensures.ok.goes_on;
   };
 }
 
@@ -33,9 +33,9 @@ pub returns-in_err-open-clause-err : goal.returns-in_err-open-clause-err
 returns-in_err-open-clause-err c =
     err_gives c.from_residual-in_err-open.result c.from_residual-in_err-open.ensures
     (λ e is. subst (λ x. RefusesJob x c.args.job) (sym is)
-    (open_refused c.in_err-open.field-0.0 c.in_ok-state.state c.edit.new.self c.subscribe.new.self c.args.job c.in_ok-edit.field-0 c.in_ok-subscribe.field-0 (made c.in_ok-state.state c.new.result c.new.ensures c.in_ok-state.ensures.stands c.in_ok-state.ensures.kept c.in_ok-state.ensures.limits c.in_ok-state.ensures.audit_limit) (record { untouched = c.in_ok-edit.ensures.ok.untouched; journaled = c.in_ok-edit.ensures.ok.journaled }) c.in_ok-edit.ensures.ok.goes_on (record { untouched = c.in_ok-subscribe.ensures.ok.untouched; journaled = c.in_ok-subscribe.ensures.ok.journaled }) c.in_ok-subscribe.ensures.ok.goes_on
+    (open_refused c.in_err-open.field-0.0 c.in_ok-state.state c.edit.new.self c.subscribe.new.self c.args.job c.in_ok-edit.field-0 c.in_ok-subscribe.field-0.0 (made c.in_ok-state.state c.new.result c.new.ensures c.in_ok-state.ensures.stands c.in_ok-state.ensures.kept c.in_ok-state.ensures.limits c.in_ok-state.ensures.audit_limit) (record { untouched = c.in_ok-edit.ensures.ok.untouched; journaled = c.in_ok-edit.ensures.ok.journaled }) c.in_ok-edit.ensures.ok.goes_on (record { untouched = c.in_ok-subscribe.ensures.ok.untouched; journaled = c.in_ok-subscribe.ensures.ok.journaled }) c.in_ok-subscribe.ensures.ok.goes_on
     (c.in_err-open.ensures.err (Edit c.args.job.policy.now ∷ Subscribe 1 c.args.job.name.now ∷ [])
-    (subscribed_stands c.in_ok-state.state c.edit.new.self c.subscribe.new.self c.args.job c.in_ok-edit.field-0 c.in_ok-subscribe.field-0 (made c.in_ok-state.state c.new.result c.new.ensures c.in_ok-state.ensures.stands c.in_ok-state.ensures.kept c.in_ok-state.ensures.limits c.in_ok-state.ensures.audit_limit) c.in_ok-edit.ensures.ok.goes_on c.in_ok-subscribe.ensures.ok.goes_on))))
+    (subscribed_stands c.in_ok-state.state c.edit.new.self c.subscribe.new.self c.args.job c.in_ok-edit.field-0 c.in_ok-subscribe.field-0.0 (made c.in_ok-state.state c.new.result c.new.ensures c.in_ok-state.ensures.stands c.in_ok-state.ensures.kept c.in_ok-state.ensures.limits c.in_ok-state.ensures.audit_limit) c.in_ok-edit.ensures.ok.goes_on c.in_ok-subscribe.ensures.ok.goes_on))))
 
 pub returns-clause-ok : goal.returns-clause-ok
-returns-clause-ok c = opened _ c.in_ok-state.state c.edit.new.self c.subscribe.new.self c.args.job c.in_ok-edit.field-0 c.in_ok-subscribe.field-0 c.in_ok-open.field-0 refl refl refl refl (made c.in_ok-state.state c.new.result c.new.ensures c.in_ok-state.ensures.stands c.in_ok-state.ensures.kept c.in_ok-state.ensures.limits c.in_ok-state.ensures.audit_limit) (record { untouched = c.in_ok-edit.ensures.ok.untouched; journaled = c.in_ok-edit.ensures.ok.journaled }) c.in_ok-edit.ensures.ok.goes_on (record { untouched = c.in_ok-subscribe.ensures.ok.untouched; journaled = c.in_ok-subscribe.ensures.ok.journaled }) c.in_ok-subscribe.ensures.ok.goes_on (record { untouched = c.in_ok-open.ensures.ok.untouched; journaled = c.in_ok-open.ensures.ok.journaled }) c.in_ok-open.ensures.ok.goes_on
+returns-clause-ok c = opened _ c.in_ok-state.state c.edit.new.self c.subscribe.new.self c.args.job c.in_ok-edit.field-0 c.in_ok-subscribe.field-0.0 c.in_ok-open.field-0.0 refl refl refl refl (made c.in_ok-state.state c.new.result c.new.ensures c.in_ok-state.ensures.stands c.in_ok-state.ensures.kept c.in_ok-state.ensures.limits c.in_ok-state.ensures.audit_limit) (record { untouched = c.in_ok-edit.ensures.ok.untouched; journaled = c.in_ok-edit.ensures.ok.journaled }) c.in_ok-edit.ensures.ok.goes_on (record { untouched = c.in_ok-subscribe.ensures.ok.untouched; journaled = c.in_ok-subscribe.ensures.ok.journaled }) c.in_ok-subscribe.ensures.ok.goes_on (record { untouched = c.in_ok-open.ensures.ok.untouched; journaled = c.in_ok-open.ensures.ok.journaled }) c.in_ok-open.ensures.ok.goes_on

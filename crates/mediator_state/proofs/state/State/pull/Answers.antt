@@ -4,10 +4,10 @@ use Rattle.mediator_state.proofs.PullLaws.{pulls, pull_keeps, same_table, pull_f
 use Rattle.mediator_state.proofs.state.State.pull.Goals as goal
 
 pub returns-in-Ok-clause-ok : goal.returns-in-Ok-clause-ok
-returns-in-Ok-clause-ok g c = λ h s. pulls c.args.self.now.engine c.pull.new.self h c.args.sub c.args.now c.args.target c.in-Ok.message s.stands (sym (c.is_live.ensures.live h s.stands) ∙ c.if-not-is_live.false) c.in-Ok.ensures.ok
+returns-in-Ok-clause-ok g c = λ h s. pulls c.args.self.now.engine c.pull.new.self h c.args.sub.0 c.args.now c.args.target c.in-Ok.message s.stands (sym (c.is_live.ensures.live h s.stands) ∙ c.if-not-is_live.false) c.in-Ok.ensures.ok
 
 pub returns-in-Ok-clause-keeps : goal.returns-in-Ok-clause-keeps
-returns-in-Ok-clause-keeps g c = λ h s. pull_keeps g.C.Chronicle.tells c.args.self.now c.pull.new.self h c.args.sub c.args.now c.args.target c.in-Ok.message s (sym (c.is_live.ensures.live h s.stands) ∙ c.if-not-is_live.false) c.pull.ensures.others c.pull.ensures.served c.in-Ok.ensures.ok
+returns-in-Ok-clause-keeps g c = λ h s. pull_keeps g.C.Chronicle.tells c.args.self.now c.pull.new.self h c.args.sub.0 c.args.now c.args.target c.in-Ok.message s (sym (c.is_live.ensures.live h s.stands) ∙ c.if-not-is_live.false) c.pull.ensures.others c.pull.ensures.served c.in-Ok.ensures.ok
 
 pub returns-in-Err-OutOfMemory-clause-keeps : goal.returns-in-Err-OutOfMemory-clause-keeps
 returns-in-Err-OutOfMemory-clause-keeps g c = λ h s. pull_fails g.C.Chronicle.tells c.args.self.now c.pull.new.self h c.in-Err-OutOfMemory.ensures.err s
