@@ -76,7 +76,8 @@ pub enum ProgramFault {
     Calls(usize),
     /// The limits of a list of calls are out of their ranges.
     BadLimits,
-    /// The octets are no journal's file, and this is the first fault of it.
+    /// The octets are no journal's file, and this is the first fault of it: never `Read`, `Write` or `OutOfMemory`, which are
+    /// `Device` and `OutOfMemory` here.
     Journal(JournalFault),
     /// A journal's entry at this position is none that a mediator may have accepted there. All entries before it are.
     History(u64),
