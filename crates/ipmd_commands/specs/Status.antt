@@ -21,9 +21,8 @@ use Rattle.ipmd_settings.specs.Names.{text_of_fault as text_of_settings}
 use Rattle.ipmd_settings.specs.declared.fault.SettingsFault.{SettingsFault}
 use Rattle.ipmd_settings.specs.declared.fault.SettingsFault.TheVariants as settings
 use Rattle.journal_files.specs.FaultTexts.{text_of_fault as text_of_journal}
-use Rattle.journal_files.specs.declared.fault.JournalFault.TheVariants as journal
-use Rattle.journal_files.specs.declared.read_fault.ReadFault.{ReadFault}
-use Rattle.journal_files.specs.declared.read_fault.ReadFault.TheVariants as reading
+use Rattle.journal_files.specs.declared.fault.Fault.{Fault as JournalFault}
+use Rattle.journal_files.specs.declared.fault.Fault.TheVariants as journal
 use Rattle.mediator_calls.specs.declared.fault.RunFault.{RunFault}
 use Rattle.mediator_calls.specs.declared.fault.RunFault.TheVariants as run
 use Rattle.ipmd_commands.specs.Absent.{text_of_absent}
@@ -146,11 +145,12 @@ abbrev pub run_fault_of : RunFault → ProgramFault
 run_fault_of run.BadLimits = BadLimits
 run_fault_of run.OutOfMemory = OutOfMemory
 
--- why no more was read of a journal's file, whose path isn't known here; want of memory is no fault of the file
-abbrev pub read_fault_of : ReadFault → ProgramFault
-read_fault_of reading.Read = Device None
-read_fault_of (reading.File journal.OutOfMemory) = OutOfMemory
-read_fault_of (reading.File journal.BadMagic) = Journal journal.BadMagic
-read_fault_of (reading.File journal.BadVersion) = Journal journal.BadVersion
-read_fault_of (reading.File journal.Truncated) = Journal journal.Truncated
-read_fault_of (reading.File journal.BadEntry) = Journal journal.BadEntry
+-- why no more was read or written of a journal's file, whose path isn't known here; want of memory is no fault of the file
+abbrev pub read_fault_of : JournalFault → ProgramFault
+read_fault_of journal.BadMagic = Journal journal.BadMagic
+read_fault_of journal.BadVersion = Journal journal.BadVersion
+read_fault_of journal.Truncated = Journal journal.Truncated
+read_fault_of journal.BadEntry = Journal journal.BadEntry
+read_fault_of journal.Read = Device None
+read_fault_of (journal.Write sent) = Device None
+read_fault_of journal.OutOfMemory = OutOfMemory

@@ -7,7 +7,7 @@ ghost use Rattle.ipmd_commands.specs.Status.{NamesFailure};
 use crate::failure::{Failure, Place};
 use ipmd_command_line::CommandLineFault;
 use ipmd_settings::SettingsFault;
-use journal_files::{JournalFault, ReadFault};
+use journal_files::Fault as JournalFault;
 use mediator_calls::RunFault;
 use mediator_offline::{Fault, FramingFault};
 use octet_io::{Device, write_all};
@@ -76,7 +76,8 @@ pub enum ProgramFault {
     Calls(usize),
     /// The limits of a list of calls are out of their ranges.
     BadLimits,
-    /// The octets are no journal's file, and this is the first fault of it.
+    /// The octets are no journal's file, and this is the first fault of it: never `Read`, `Write` or `OutOfMemory`, which are
+    /// `Device` and `OutOfMemory` here.
     Journal(JournalFault),
     /// A journal's entry at this position is none that a mediator may have accepted there. All entries before it are.
     History(u64),
@@ -363,17 +364,17 @@ impl From<RunFault> for ProgramFault {
     }
 }
 
-impl From<ReadFault> for ProgramFault {
+impl From<JournalFault> for ProgramFault {
     ghost use Rattle.std.specs.Prelude.{◌≡◌};
     ghost use Rattle.ipmd_commands.specs.Status.{read_fault_of};
 
     ghost from_gives = { λ f e. e ≡ read_fault_of f };
 
-    fn from(fault: ReadFault) -> ProgramFault {
+    fn from(fault: JournalFault) -> ProgramFault {
         match fault {
-            ReadFault::Read => ProgramFault::Device(None),
-            ReadFault::File(JournalFault::OutOfMemory) => ProgramFault::OutOfMemory,
-            ReadFault::File(why) => ProgramFault::Journal(why),
+            JournalFault::Read | JournalFault::Write { .. } => ProgramFault::Device(None),
+            JournalFault::OutOfMemory => ProgramFault::OutOfMemory,
+            why => ProgramFault::Journal(why),
         }
     }
 }

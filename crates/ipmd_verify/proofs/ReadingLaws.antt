@@ -9,10 +9,8 @@ use Rattle.sequences.specs.Results.{◌>>=◌}
 use Rattle.event_journal.specs.declared.entry.Entry.{Entry}
 use Rattle.event_journal.specs.declared.limits.TheConstants.{MOST_ENTRIES, MOST_OCTETS}
 use Rattle.event_journal.specs.Sizes.{entry_octets, history_octets}
-use Rattle.journal_files.specs.declared.fault.JournalFault.{JournalFault}
-use Rattle.journal_files.specs.declared.fault.JournalFault.TheVariants.{BadMagic, BadVersion, Truncated, BadEntry, OutOfMemory}
-use Rattle.journal_files.specs.declared.read_fault.ReadFault.{ReadFault}
-use Rattle.journal_files.specs.declared.read_fault.ReadFault.TheVariants.{Read, File}
+use Rattle.journal_files.specs.declared.fault.Fault.{Fault}
+use Rattle.journal_files.specs.declared.fault.Fault.TheVariants.{BadMagic, BadVersion, Truncated, BadEntry, Read, Write, OutOfMemory}
 use Rattle.journal_files.specs.Format.{head_octets, octets_of}
 use Rattle.journal_files.specs.Reading.{head_of, entry_of, is_past, pushed_of, entries_behind, file_of}
 use Rattle.journal_files.specs.Streaming.{Place, TakesEntry, EndsFile, StopsReading, Shows, after_step, behind, place_behind, step_of}
@@ -28,21 +26,25 @@ use Rattle.ipmd_verify.specs.Faults.{verify_fault_of}
 use Rattle.ipmd_verify.specs.Found.{IsNoFile, RefusesFile, Says}
 use Rattle.ipmd_verify.specs.Reading.{IsReadTo, IsRest}
 
-abbrev is_truncated : JournalFault → Bool
+abbrev is_truncated : Fault → Bool
 is_truncated BadMagic = false
 is_truncated BadVersion = false
 is_truncated Truncated = true
 is_truncated BadEntry = false
+is_truncated Read = false
+is_truncated (Write sent) = false
 is_truncated OutOfMemory = false
 
-truncated_is : (why : JournalFault) → is_truncated why ≡ true → why ≡ Truncated
+truncated_is : (why : Fault) → is_truncated why ≡ true → why ≡ Truncated
 truncated_is BadMagic is = absurd cc
 truncated_is BadVersion is = absurd cc
 truncated_is Truncated is = refl
 truncated_is BadEntry is = absurd cc
+truncated_is Read is = absurd cc
+truncated_is (Write sent) is = absurd cc
 truncated_is OutOfMemory is = absurd cc
 
-not_truncated : (why : JournalFault) → is_truncated why ≡ false → why ≡ Truncated → ⊥
+not_truncated : (why : Fault) → is_truncated why ≡ false → why ≡ Truncated → ⊥
 not_truncated why is same =
     let bad : true ≡ false = sym (ap is_truncated same) ∙ is in
     cc
@@ -124,7 +126,7 @@ all_said given now after place new h to ends = ended_rest given now after h plac
 -- ---- a fault
 
 -- a step's fault is that of the whole file
-stopped_rest : (given now after : Option (List ℕ)) (h : List Entry) (left : ℕ) (why : JournalFault) → Shows why (Option (Entry × List ℕ)) (step_of (place_behind h left)) now after → IsRest given now h left → IsNoFile given why
+stopped_rest : (given now after : Option (List ℕ)) (h : List Entry) (left : ℕ) (why : Fault) → Shows why (Option (Entry × List ℕ)) (step_of (place_behind h left)) now after → IsRest given now h left → IsNoFile given why
 stopped_rest None now after h left why shows rest = tt
 stopped_rest (Some octets) None after h left why shows rest = absurd rest
 stopped_rest (Some octets) (Some this) None h left why shows rest = absurd shows.consumed
@@ -135,7 +137,7 @@ stopped_rest (Some octets) (Some this) (Some then) h left why shows rest =
     shown_by true is = ap (λ t. step_of (place_behind h left) (shows.piece ++ t)) (shows.end (truncated_is why is)) ∙ ap (step_of (place_behind h left)) (append-nil shows.piece) ∙ shows.shown
     shown_by false is = fault_stays (place_behind h left) shows.piece then why (not_truncated why is) shows.shown
 
-begun_stopped : (given after : Option (List ℕ)) (why : JournalFault) → Shows why (ℕ × List ℕ) head_of given after → IsNoFile given why
+begun_stopped : (given after : Option (List ℕ)) (why : Fault) → Shows why (ℕ × List ℕ) head_of given after → IsNoFile given why
 unfolding file_of
 begun_stopped None after why shows = tt
 begun_stopped (Some octets) None why shows = absurd shows.consumed
@@ -147,19 +149,20 @@ begun_stopped (Some octets) (Some then) why shows =
     shown_by false is = head_stays shows.piece then why (not_truncated why is) shows.shown
 
 -- what stops reading is why the file is refused
-pub refuses_by : (A : Type 0) (e : ReadFault) (read : List ℕ → Result A JournalFault) (given now after : Option (List ℕ)) (was has : Bool) → ((why : JournalFault) → Shows why A read now after → IsNoFile given why)
+pub refuses_by : (A : Type 0) (e : Fault) (read : List ℕ → Result A Fault) (given now after : Option (List ℕ)) (was has : Bool) → ((why : Fault) → Shows why A read now after → IsNoFile given why)
     → StopsReading e read now after was has → RefusesFile (read_fault_of e) given
 refuses_by A Read read given now after was has shows stops = tt
-refuses_by A (File OutOfMemory) read given now after was has shows stops = tt
-refuses_by A (File BadMagic) read given now after was has shows stops = shows BadMagic stops.0
-refuses_by A (File BadVersion) read given now after was has shows stops = shows BadVersion stops.0
-refuses_by A (File Truncated) read given now after was has shows stops = shows Truncated stops.0
-refuses_by A (File BadEntry) read given now after was has shows stops = shows BadEntry stops.0
+refuses_by A (Write sent) read given now after was has shows stops = absurd stops
+refuses_by A OutOfMemory read given now after was has shows stops = tt
+refuses_by A BadMagic read given now after was has shows stops = (tt, shows BadMagic stops.0)
+refuses_by A BadVersion read given now after was has shows stops = (tt, shows BadVersion stops.0)
+refuses_by A Truncated read given now after was has shows stops = (tt, shows Truncated stops.0)
+refuses_by A BadEntry read given now after was has shows stops = (tt, shows BadEntry stops.0)
 
-pub head_refuses : (e : ReadFault) (given after : Option (List ℕ)) (was has : Bool) → StopsReading e head_of given after was has → RefusesFile (read_fault_of e) given
+pub head_refuses : (e : Fault) (given after : Option (List ℕ)) (was has : Bool) → StopsReading e head_of given after was has → RefusesFile (read_fault_of e) given
 head_refuses e given after was has stops = refuses_by (ℕ × List ℕ) e head_of given given after was has (λ why shows. begun_stopped given after why shows) stops
 
-pub step_refuses : (e : ReadFault) (given now after : Option (List ℕ)) (place : Place) (h : List Entry) (was has : Bool) → IsReadTo given now place h → StopsReading e (step_of place) now after was has → RefusesFile (read_fault_of e) given
+pub step_refuses : (e : Fault) (given now after : Option (List ℕ)) (place : Place) (h : List Entry) (was has : Bool) → IsReadTo given now place h → StopsReading e (step_of place) now after was has → RefusesFile (read_fault_of e) given
 step_refuses e given now after place h was has to stops =
     refuses_by (Option (Entry × List ℕ)) e (step_of place) given now after was has
     (λ why shows. stopped_rest given now after h place.left why (subst (λ p. Shows why (Option (Entry × List ℕ)) (step_of p) now after) to.there shows) to.rest) stops

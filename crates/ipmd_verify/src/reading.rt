@@ -11,7 +11,7 @@ use crate::progress::Progress;
 use event_journal::Entry;
 use history_verify::{Verified, Verifier, VerifyFault};
 use ipmd_commands::ProgramFault;
-use journal_files::{JournalReader, ReadFault};
+use journal_files::{Fault, JournalReader};
 use octet_io::Source;
 use std::alloc::Global;
 
@@ -70,7 +70,7 @@ pub fn refusal<S: Source>(
 }
 
 /// Reads the entries that are left.
-fn read_rest<S: Source>(reader: &mut JournalReader, source: &mut S) -> Result<(), ReadFault>
+fn read_rest<S: Source>(reader: &mut JournalReader, source: &mut S) -> Result<(), Fault>
     ensures ok { OnOk result ((given : Option (List ℕ)) (h : List OneEntry)
         → IsReadTo given (S.remaining source.old) reader.old h → SaysOn given h) }
     ensures err { IfErr result (λ e. (given : Option (List ℕ)) (h : List OneEntry)

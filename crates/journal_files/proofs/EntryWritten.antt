@@ -11,7 +11,7 @@ use Rattle.sequences.proofs.ResultLaws.{same_Ok, Err-Ok, bind_Ok}
 use Rattle.policy_text.specs.Naming.{is_name}
 use Rattle.event_journal.specs.declared.entry.Entry.{Entry}
 use Rattle.event_journal.specs.declared.entry.Entry.TheVariants.{Open, Close, Message, Edit, Subscribe, Unsubscribe, Advance, Cut}
-use Rattle.journal_files.specs.declared.fault.JournalFault.TheVariants.{Truncated, BadEntry}
+use Rattle.journal_files.specs.declared.fault.Fault.TheVariants.{Truncated, BadEntry}
 use Rattle.journal_files.specs.Format.{octets_of}
 use Rattle.journal_files.specs.Reading.{Found, front_of, number_of, numbered, message_of, edit_of, subscribe_of, entry_by, entry_of}
 use Rattle.journal_files.specs.Laws.{EntryWrittenBack}

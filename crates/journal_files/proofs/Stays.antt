@@ -9,8 +9,8 @@ use Rattle.sequences.proofs.ResultLaws.{same_Err}
 use Rattle.policy_text.specs.Naming.{is_name}
 use Rattle.event_journal.specs.declared.entry.Entry.{Entry}
 use Rattle.event_journal.specs.declared.entry.Entry.TheVariants.{Open, Close, Edit, Subscribe, Unsubscribe, Advance, Cut}
-use Rattle.journal_files.specs.declared.fault.JournalFault.{JournalFault}
-use Rattle.journal_files.specs.declared.fault.JournalFault.TheVariants.{BadMagic, BadVersion, Truncated, BadEntry}
+use Rattle.journal_files.specs.declared.fault.Fault.{Fault}
+use Rattle.journal_files.specs.declared.fault.Fault.TheVariants.{BadMagic, BadVersion, Truncated, BadEntry}
 use Rattle.journal_files.specs.Format.{magic, version, octets_of}
 use Rattle.journal_files.specs.Reading.{Found, front_of, number_of, past_number, head_of, numbered, message_of, edit_of, subscribe_of, entry_by, entry_of, is_past}
 use Rattle.journal_files.specs.Streaming.{Place, IsReadBack, FaultStays, HeadStays, next_of, step_of}
@@ -20,7 +20,7 @@ abbrev Same : {A : Type 0} → List ℕ → Found A → Found A → Type 0
 Same more (Ok f) after = after ≡ Ok (f.0, f.1 ++ more)
 Same more (Err why) after = (why ≡ Truncated → ⊥) → after ≡ Err why
 
-abbrev SameRest : List ℕ → Result (List ℕ) JournalFault → Result (List ℕ) JournalFault → Type 0
+abbrev SameRest : List ℕ → Result (List ℕ) Fault → Result (List ℕ) Fault → Type 0
 SameRest more (Ok rest) after = after ≡ Ok (rest ++ more)
 SameRest more (Err why) after = (why ≡ Truncated → ⊥) → after ≡ Err why
 
@@ -111,17 +111,17 @@ next_stays place octets more = stays_bind more (entry_of octets) (entry_of (octe
 
 -- ---- faults alone
 
-abbrev Faulty : {A : Type 0} → JournalFault → Result A JournalFault → Result A JournalFault → Type 0
+abbrev Faulty : {A : Type 0} → Fault → Result A Fault → Result A Fault → Type 0
 Faulty why one two = one ≡ Err why → two ≡ Err why
 
-from_same : {A : Type 0} (more : List ℕ) (why : JournalFault) (r s : Found A) → (why ≡ Truncated → ⊥) → Same more r s → Faulty why r s
+from_same : {A : Type 0} (more : List ℕ) (why : Fault) (r s : Found A) → (why ≡ Truncated → ⊥) → Same more r s → Faulty why r s
 from_same more why (Ok x) s other same e = absurd cc
 from_same {A} more why (Err k) s other same e =
     let k_is : k ≡ why = same_Err {A = A × List ℕ} k why e in
-    let err : JournalFault → Found A = λ t. Err t in
+    let err : Fault → Found A = λ t. Err t in
     same (λ t. other (sym k_is ∙ t)) ∙ ap err k_is
 
-step_by : (place : Place) (octets more : List ℕ) (why : JournalFault) (b : Bool) → (why ≡ Truncated → ⊥) → eqb place.left 0 ≡ b → Faulty why (step_of place octets) (step_of place (octets ++ more))
+step_by : (place : Place) (octets more : List ℕ) (why : Fault) (b : Bool) → (why ≡ Truncated → ⊥) → eqb place.left 0 ≡ b → Faulty why (step_of place octets) (step_of place (octets ++ more))
 unfolding step_of
 step_by place octets more why true other none = rw none (end_by (eqb (length octets) 0) refl)
   where
@@ -139,7 +139,7 @@ step_by place octets more why false other some = rw some (next_by (next_of place
 pub fault_stays : FaultStays
 fault_stays place octets more why other e = step_by place octets more why (eqb place.left 0) other refl e
 
-past_passed : (width n : ℕ) (fault : JournalFault) (octets more : List ℕ) → SameRest more (past_number width n fault octets) (past_number width n fault (octets ++ more))
+past_passed : (width n : ℕ) (fault : Fault) (octets more : List ℕ) → SameRest more (past_number width n fault octets) (past_number width n fault (octets ++ more))
 unfolding past_number
 past_passed width n fault octets more = by_number (number_of width octets) (number_of width (octets ++ more)) (number_stays width octets more)
   where
@@ -151,7 +151,7 @@ past_passed width n fault octets more = by_number (number_of width octets) (numb
     by_number (Ok x) s same = rw same (tested x.0 x.1 (eqb x.0 n))
     by_number (Err k) s same = λ other. ap (λ t. t >>= λ x. cond (eqb x.0 n) (Ok x.1) (Err fault)) (same other)
 
-rest_bind : {A : Type 0} (more : List ℕ) (r s : Result (List ℕ) JournalFault) (f : List ℕ → Found A) → SameRest more r s → ((rest : List ℕ) → Same more (f rest) (f (rest ++ more))) → Same more (r >>= f) (s >>= f)
+rest_bind : {A : Type 0} (more : List ℕ) (r s : Result (List ℕ) Fault) (f : List ℕ → Found A) → SameRest more r s → ((rest : List ℕ) → Same more (f rest) (f (rest ++ more))) → Same more (r >>= f) (s >>= f)
 rest_bind more (Ok x) s f same next = rw same (next x)
 rest_bind more (Err why) s f same next = λ other. ap (λ t. t >>= f) (same other)
 

@@ -10,9 +10,8 @@ use Rattle.sequences.specs.Octets.{be_value, IsNumber}
 use Rattle.sequences.specs.Results.{◌>>=◌}
 use Rattle.event_journal.specs.declared.entry.Entry.TheVariants.{Edit}
 use Rattle.event_journal.specs.declared.limits.TheConstants.{MOST_ENTRIES, MOST_OCTETS}
-use Rattle.journal_files.specs.declared.fault.JournalFault.{JournalFault}
-use Rattle.journal_files.specs.declared.fault.JournalFault.TheVariants.{Truncated, BadEntry}
-use Rattle.journal_files.specs.declared.read_fault.ReadFault.TheVariants.{File}
+use Rattle.journal_files.specs.declared.fault.Fault.{Fault}
+use Rattle.journal_files.specs.declared.fault.Fault.TheVariants.{Truncated, BadEntry}
 use Rattle.journal_files.specs.Reading.{front_of, edit_of, entry_by, entry_of, is_past}
 use Rattle.journal_files.specs.Gathering.{Gathers, Skips, front_octets, announced}
 use Rattle.journal_files.specs.Streaming.{Place, StopsReading, next_of}
@@ -56,7 +55,7 @@ unfolding next_of
 too_short place digits text wide few = rw (edit_at digits text wide, cut_text (be_value digits) text few) refl
 
 -- what was passed over shows the fault
-stops_edit : (place : Place) (why : JournalFault) (more : ℕ) (digits : List ℕ) (given now left : Option (List ℕ)) (was has : Bool) → Consumes given now (4 ∷ digits) → length digits ≡ 8 → more ≡ be_value digits → MOST_OCTETS < more → has ≡ was → Skips why more now left → StopsReading (File why) (next_of place) given left was has
+stops_edit : (place : Place) (why : Fault) (more : ℕ) (digits : List ℕ) (given now left : Option (List ℕ)) (was has : Bool) → Consumes given now (4 ∷ digits) → length digits ≡ 8 → more ≡ be_value digits → MOST_OCTETS < more → has ≡ was → Skips why more now left → StopsReading why (next_of place) given left was has
 stops_edit place why more digits given now left was has consumed wide is long same skips = by_fault skips.which
   where
     piece : List ℕ
@@ -65,16 +64,16 @@ stops_edit place why more digits given now left was has consumed wide is long sa
     all : Consumes given left piece
     all = Consumes-trans given now left (4 ∷ digits) skips.piece consumed skips.consumed
 
-    by_fault : ((why ≡ BadEntry) × (length skips.piece ≡ more)) ⊎ ((why ≡ Truncated) × (length skips.piece < more) × IsAtEnd left) → StopsReading (File why) (next_of place) given left was has
-    by_fault (inl p) = subst (λ k. StopsReading (File k) (next_of place) given left was has) (sym p.0)
+    by_fault : ((why ≡ BadEntry) × (length skips.piece ≡ more)) ⊎ ((why ≡ Truncated) × (length skips.piece < more) × IsAtEnd left) → StopsReading why (next_of place) given left was has
+    by_fault (inl p) = subst (λ k. StopsReading k (next_of place) given left was has) (sym p.0)
         (record { piece = piece; consumed = all; shown = too_long place digits skips.piece wide (p.1 ∙ is) (omega (arith, long, p.1)); end = λ e. absurd (other e) }, same)
       where
         other : BadEntry ≡ Truncated → ⊥
         other e = cc
-    by_fault (inr p) = subst (λ k. StopsReading (File k) (next_of place) given left was has) (sym p.0)
+    by_fault (inr p) = subst (λ k. StopsReading k (next_of place) given left was has) (sym p.0)
         (record { piece = piece; consumed = all; shown = too_short place digits skips.piece wide (omega (arith, is, p.1)); end = λ e. p.2 }, same)
 
-pub stops_long : (place : Place) (why : JournalFault) (kind n more : ℕ) (one two : List ℕ) (given first now left : Option (List ℕ)) (was has : Bool) → one ≡ kind ∷ [] → Gathers given first [] one → Gathers first now one two → kind ≡ 4 → front_octets kind ≡ Some n → length two ≡ n → more ≡ announced kind two → MOST_OCTETS < more → has ≡ was → Skips why more now left → StopsReading (File why) (next_of place) given left was has
+pub stops_long : (place : Place) (why : Fault) (kind n more : ℕ) (one two : List ℕ) (given first now left : Option (List ℕ)) (was has : Bool) → one ≡ kind ∷ [] → Gathers given first [] one → Gathers first now one two → kind ≡ 4 → front_octets kind ≡ Some n → length two ≡ n → more ≡ announced kind two → MOST_OCTETS < more → has ≡ was → Skips why more now left → StopsReading why (next_of place) given left was has
 unfolding front_octets announced
 stops_long place why kind n more one two given first now left was has is g h four front long announces past same skips =
     let nine : n ≡ 9 = nine_of n (sym front ∙ ap front_octets four) in

@@ -6,9 +6,8 @@ ghost use Rattle.journal_files.specs.Reading.{head_of};
 ghost use Rattle.journal_files.specs.Streaming.{StopsReading, TakesEntry, EndsFile, step_of};
 
 use crate::entry::{read_entry, read_head};
-use crate::fault::JournalFault;
+use crate::fault::Fault;
 use crate::gathering::{fill, gather};
-use crate::read_fault::ReadFault;
 use event_journal::{Entry, MOST_ENTRIES, MOST_OCTETS};
 use octet_io::Source;
 use std::alloc::Global;
@@ -50,7 +49,7 @@ impl JournalReader {
     /// # Errors
     /// The source failed; the head has a fault, which is the file's first; or want of memory. At a failed source, and
     /// at want of memory, octets may have been read that are lost.
-    pub fn start<R: Source>(alloc: Global, source: &mut R) -> Result<JournalReader, ReadFault>
+    pub fn start<R: Source>(alloc: Global, source: &mut R) -> Result<JournalReader, Fault>
         ensures ok { IfOk result (λ r. (r.count ≡ 0) × (r.octets ≡ 0)
             × Consumes (R.remaining source.old) (R.remaining source.new) (head_octets r.left)) }
         ensures few { IfOk result (λ r. r.left < 2 ^ 64) }
@@ -86,7 +85,7 @@ impl JournalReader {
     /// # Errors
     /// The source failed; the file has a fault there, which is its first; or want of memory. At a failed source, and at
     /// want of memory, octets may have been read that are lost. So nothing can be read after any of these.
-    pub fn next<R: Source>(&mut self, source: &mut R) -> Result<Option<Entry>, ReadFault>
+    pub fn next<R: Source>(&mut self, source: &mut R) -> Result<Option<Entry>, Fault>
         ensures ok { IfOk result (λ found. MatchOption found
             (EndsFile self.old (R.remaining source.old) (R.remaining source.new) self.new) (λ entry.
             TakesEntry self.old (R.remaining source.old) (R.remaining source.new) entry self.new)) }
@@ -98,7 +97,7 @@ impl JournalReader {
         self.held.clear();
         if self.left == 0 {
             if fill(source, 1, &mut self.piece, &mut self.held)? {
-                return Err(ReadFault::File(JournalFault::BadEntry));
+                return Err(Fault::BadEntry);
             }
             return Ok(None);
         }
@@ -122,7 +121,7 @@ ghost use Rattle.journal_files.specs.Streaming.{IsEntryIn, FailsIn};
 /// # Errors
 /// `BadEntry` or `Truncated` where there is none, `BadEntry` where it is past the greatest limits of a journal; or want
 /// of memory.
-fn entry_in(alloc: Global, count: u64, octets: u64, held: &[u8]) -> Result<Entry, JournalFault>
+fn entry_in(alloc: Global, count: u64, octets: u64, held: &[u8]) -> Result<Entry, Fault>
     requires few { count ≤ MOST_ENTRIES }
     requires small { octets ≤ MOST_OCTETS }
     ensures ok { IfOk result (λ entry. IsEntryIn count octets held.now entry) }
@@ -130,7 +129,7 @@ fn entry_in(alloc: Global, count: u64, octets: u64, held: &[u8]) -> Result<Entry
 {
     let (entry, _) = read_entry(alloc, held)?;
     if is_past(count, octets, &entry) {
-        return Err(JournalFault::BadEntry);
+        return Err(Fault::BadEntry);
     }
     Ok(entry)
 }
