@@ -15,7 +15,7 @@ use Rattle.sequences.specs.Octets.{number_at, AreOctets}
 use Rattle.sequences.specs.Results.{◌>>=◌}
 use Rattle.sequences.proofs.OctetLaws.{be_value-below, AreOctets-drop, AreOctets-take}
 use Rattle.sequences.proofs.ResultLaws.{same_Ok}
-use Rattle.ipfix_message.specs.declared.decode_error.DecodeError.TheVariants.{ShortHeader, BadVersion, BadLength}
+use Rattle.ipfix_message.specs.declared.fault.Fault.TheVariants.{ShortHeader, BadVersion, BadLength}
 use Rattle.ipfix_message.specs.Reading.{header_of, read_header, after_header, items_of}
 use Rattle.ipfix_template.specs.declared.template.Template.{Template}
 use Rattle.ipfix_template.specs.DataRecord.{DataRecord}

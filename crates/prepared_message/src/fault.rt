@@ -1,6 +1,6 @@
 //! Why a message is not prepared, and why a prepared one is not taken in.
 
-use ipfix_message::DecodeError;
+use ipfix_message::Fault as DecodeError;
 use ipfix_session::ReadError;
 use std::alloc::{AllocError, AllocFailed};
 use thiserror::Error;
