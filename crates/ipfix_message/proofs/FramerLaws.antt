@@ -11,7 +11,7 @@ use Rattle.ipfix_message.specs.declared.fault.Fault.TheVariants.{ShortHeader, Ba
 use Rattle.ipfix_message.specs.declared.framer.scan.Front.{Front}
 use Rattle.ipfix_message.specs.declared.framer.scan.Front.TheVariants.{Partial, Whole, Faulty}
 use Rattle.ipfix_message.specs.declared.framer.scan.Extent.{Extent}
-use Rattle.ipfix_message.specs.Framing.{IsWhole, IsPartial, IsFaulty, EndsStream, EndsWith, IsFramed}
+use Rattle.ipfix_message.specs.Framing.{IsWhole, IsPartial, IsFaulty, EndsWith, IsFramed}
 use Rattle.ipfix_message.specs.Fronts.{IsFront, AreMessages, IsExtent, AreCut}
 use Rattle.ipfix_message.specs.FramerState.{FramerState, Continues, FailsBy}
 use Rattle.ipfix_message.proofs.FramingLaws.{framed_once, framed_on}
@@ -99,19 +99,6 @@ stops old new piece held e out why none is x are found after left =
     let ends : EndsWith e.fault new.pending (drop e.whole held) = subst (λ (fault : Option Fault). EndsWith fault new.pending (drop e.whole held)) (sym found) (left, faulty) in
     framing_continues old new piece held out none is
     (subst (λ (fault : Option Fault). IsFramed held out fault new.pending) (found ∙ sym after) (extent_framed held new.pending e out x are ends))
-
--- the fault is one that a stream may have
-faulty_ends : (why : Fault) (tail : List ℕ) → IsFaulty why tail → EndsStream why
-faulty_ends BadVersion tail faulty = tt
-faulty_ends BadLength tail faulty = tt
-faulty_ends ShortHeader tail faulty = faulty
-faulty_ends BadSetLength tail faulty = faulty
-faulty_ends TemplateOverrun tail faulty = faulty
-faulty_ends OutOfMemory tail faulty = faulty
-
-pub extent_ends : (octets : List ℕ) (e : Extent) (why : Fault) → IsExtent octets e → e.fault ≡ Some why → EndsStream why
-extent_ends octets e why x found =
-    faulty_ends why (drop e.whole octets) (subst (λ (fault : Option Fault). MatchOption fault (IsPartial (drop e.whole octets)) (λ w. IsFaulty w (drop e.whole octets))) found x.ends)
 
 -- a piece with a fault before any message
 fails_by : (old new : FramerState) (piece : List ℕ) (why : Fault) (tail : List ℕ) → IsFaulty why tail → old.fault ≡ None → new.fault ≡ Some why → Continues old piece [] new → FailsBy why old piece new
