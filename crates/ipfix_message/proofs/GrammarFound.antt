@@ -15,8 +15,8 @@ use Rattle.sequences.proofs.ResultLaws.{same_Ok}
 use Rattle.std.proofs.lemmas.Option.{none-some, same_Some}
 use Rattle.ipfix_message.proofs.ReadingSteps.{read_items, read_head}
 use Rattle.ipfix_message.specs.declared.header.Header.{Header}
-use Rattle.ipfix_message.specs.declared.decode_error.DecodeError.{DecodeError}
-use Rattle.ipfix_message.specs.declared.decode_error.DecodeError.TheVariants.{ShortHeader, BadVersion, BadLength, BadSetLength}
+use Rattle.ipfix_message.specs.declared.fault.Fault.{Fault as DecodeError}
+use Rattle.ipfix_message.specs.declared.fault.Fault.TheVariants.{ShortHeader, BadVersion, BadLength, BadSetLength}
 use Rattle.ipfix_message.specs.declared.item.Item.{Item}
 use Rattle.ipfix_message.specs.declared.item.Item.TheVariants as items
 use Rattle.ipfix_message.specs.Records.{bare_item, template_item}

@@ -4,7 +4,7 @@ use Rattle.std.proofs.lemmas.List.{append-nil}
 use Rattle.sequences.proofs.SequenceLaws.{with_front-append, read_all-step}
 use Rattle.ipfix_template.specs.Sequence.{Front, End, Fault, Next, with_front, read_on, read_all, TakesSome}
 use Rattle.ipfix_message.specs.declared.header.Header.{Header}
-use Rattle.ipfix_message.specs.declared.decode_error.DecodeError.{DecodeError}
+use Rattle.ipfix_message.specs.declared.fault.Fault.{Fault as DecodeError}
 use Rattle.ipfix_message.specs.declared.item.Item.{Item}
 use Rattle.ipfix_message.specs.Reading.{Fails, is_memory, set_front}
 use Rattle.std.specs.Borrow.{Bor}

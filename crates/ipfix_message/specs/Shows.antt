@@ -5,7 +5,7 @@ use Rattle.std.specs.Global.{Vec}
 use Rattle.ipfix_template.specs.declared.field.FieldSpec.{FieldSpec}
 use Rattle.ipfix_template.specs.declared.template.Template.{Template}
 use Rattle.ipfix_template.specs.Sequence.{Front, End, Fault, Next}
-use Rattle.ipfix_message.specs.declared.decode_error.DecodeError.{DecodeError}
+use Rattle.ipfix_message.specs.declared.fault.Fault.{Fault as DecodeError}
 use Rattle.ipfix_message.specs.declared.item.Item.{Item}
 use Rattle.ipfix_message.specs.Reading.{is_memory}
 

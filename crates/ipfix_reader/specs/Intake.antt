@@ -2,8 +2,8 @@
 -- project's own rule; how its octets are cut into messages is the standard's (RFC 7011, sections 3.1 and 10.4).
 use Rattle.std.specs.Prelude.{◌≡◌, ◌⊎◌, ℕ, ◌+◌, ◌<◌, ◌≤◌, Bool, true, List, [], length, Option, Some, None}
 use Rattle.std.specs.Io.KnownBytes.{Consumes, IsAtEnd}
-use Rattle.ipfix_message.specs.declared.frame_error.FrameError.{FrameError}
-use Rattle.ipfix_message.specs.declared.frame_error.FrameError.TheVariants as frame
+use Rattle.ipfix_message.specs.declared.fault.Fault.{Fault as DecodeError}
+use Rattle.ipfix_message.specs.declared.fault.Fault.TheVariants as frame
 use Rattle.ipfix_message.specs.FramerState.{FramerState, nothing_fed, Continues}
 use Rattle.ipfix_reader.specs.declared.fault.FramingFault.{FramingFault}
 use Rattle.ipfix_reader.specs.declared.fault.FramingFault.TheVariants.{BadVersion, BadLength, CutOff}
@@ -51,7 +51,7 @@ pub record IsIdle (old : IntakeState) (given left : Option (List ℕ)) (new : In
   pub same : new ≡ old
 
 -- a piece was read, and it shows this fault before any message more is whole
-pub record Faults (fault : FrameError) (old : IntakeState) (given left : Option (List ℕ)) (new : IntakeState) : Type 0 where
+pub record Faults (fault : DecodeError) (old : IntakeState) (given left : Option (List ℕ)) (new : IntakeState) : Type 0 where
   pub piece : List ℕ
   pub is_piece : IsPiece given left piece
   pub sound : old.framing.fault ≡ None
@@ -60,7 +60,7 @@ pub record Faults (fault : FrameError) (old : IntakeState) (given left : Option 
   pub turn : UsesTurn old new
 
 -- the stream has this fault: it showed behind the messages of an earlier piece, or it shows in the one that is read now
-abbrev pub HasFault : FrameError → IntakeState → Option (List ℕ) → Option (List ℕ) → IntakeState → Type 0
+abbrev pub HasFault : DecodeError → IntakeState → Option (List ℕ) → Option (List ℕ) → IntakeState → Type 0
 HasFault fault old given left new = ((old.framing.fault ≡ Some fault) × IsIdle old given left new) ⊎ Faults fault old given left new
 
 -- the stream ended inside a message
@@ -103,8 +103,12 @@ reader_after (Framing why) was = was
 reader_after Turns was = was
 reader_after OutOfMemory was = was
 
--- what a framer's refusal is called here
-abbrev pub named : FrameError → IntakeFault
+-- what a framer's refusal is called here; a framer refuses by BadVersion, BadLength and want of memory alone, and in the others a length is
+-- wrong too
+abbrev pub named : DecodeError → IntakeFault
 named frame.BadVersion = Framing BadVersion
 named frame.BadLength = Framing BadLength
+named frame.ShortHeader = Framing BadLength
+named frame.BadSetLength = Framing BadLength
+named frame.TemplateOverrun = Framing BadLength
 named frame.OutOfMemory = OutOfMemory

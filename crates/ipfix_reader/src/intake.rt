@@ -5,7 +5,7 @@ ghost use Rattle.ipfix_reader.specs.Intake.{nothing_read, Takes, Ends, Stops, re
 
 use crate::fault::{FramingFault, IntakeFault};
 use bytes::Bytes;
-use ipfix_message::{FrameError, Framer};
+use ipfix_message::{Fault as DecodeError, Framer};
 use octet_io::{Failed, Source};
 use std::alloc::{AllocError, Global};
 use std::marker::Model;
@@ -137,13 +137,17 @@ fn read_piece<R: Source>(reader: &mut R, buffer: &mut Vec<u8>) -> Result<usize, 
     }
 }
 
-/// The fault of an intake for `fault`, the refusal of its framer.
-fn stream_fault(fault: FrameError) -> IntakeFault
+/// The fault of an intake for `fault`, the refusal of its framer. That refuses by `BadVersion`, `BadLength` and
+/// `OutOfMemory` alone; in the others a length is wrong too.
+fn stream_fault(fault: DecodeError) -> IntakeFault
     ensures { result ≡ named fault }
 {
     match fault {
-        FrameError::BadVersion => IntakeFault::Framing(FramingFault::BadVersion),
-        FrameError::BadLength => IntakeFault::Framing(FramingFault::BadLength),
-        FrameError::OutOfMemory => IntakeFault::OutOfMemory,
+        DecodeError::BadVersion => IntakeFault::Framing(FramingFault::BadVersion),
+        DecodeError::BadLength
+        | DecodeError::ShortHeader
+        | DecodeError::BadSetLength
+        | DecodeError::TemplateOverrun => IntakeFault::Framing(FramingFault::BadLength),
+        DecodeError::OutOfMemory => IntakeFault::OutOfMemory,
     }
 }

@@ -12,7 +12,7 @@ use Rattle.ipfix_template.specs.declared.template.Refused.{Refused}
 use Rattle.ipfix_template.specs.Template.{refusal_of, shortest_record}
 use Rattle.ipfix_template.specs.Values.{values_at, found_record, record_front, records_in}
 use Rattle.ipfix_message.specs.declared.header.Header.{Header}
-use Rattle.ipfix_message.specs.declared.decode_error.DecodeError.{DecodeError}
+use Rattle.ipfix_message.specs.declared.fault.Fault.{Fault as DecodeError}
 use Rattle.ipfix_message.specs.declared.item.Item.{Item}
 use Rattle.ipfix_message.specs.declared.item.Item.TheVariants.{Define, Withdraw, WithdrawAll, Refused as RefusedItem, DataSet, Skipped}
 use Rattle.ipfix_message.specs.Records.{set_id, bare_item, judged_item, template_item}

@@ -9,8 +9,8 @@ use Rattle.std.proofs.lemmas.Bool.{eqb-true, eq-eqb}
 use Rattle.sequences.specs.Octets.{number_at}
 use Rattle.ipfix_template.specs.DataRecord.{DataRecord}
 use Rattle.ipfix_message.specs.declared.header.Header.{Header}
-use Rattle.ipfix_message.specs.declared.decode_error.DecodeError.{DecodeError}
-use Rattle.ipfix_message.specs.declared.decode_error.DecodeError.TheVariants as decode
+use Rattle.ipfix_message.specs.declared.fault.Fault.{Fault as DecodeError}
+use Rattle.ipfix_message.specs.declared.fault.Fault.TheVariants as decode
 use Rattle.ipfix_message.specs.declared.item.Item.{Item}
 use Rattle.ipfix_message.specs.declared.item.Item.TheVariants.{Define, Withdraw, WithdrawAll, Refused, DataSet, Skipped}
 use Rattle.ipfix_template.specs.declared.template.Template.{Template}

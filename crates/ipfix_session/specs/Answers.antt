@@ -1,8 +1,8 @@
 -- What the calls that read a message answer.
 use Rattle.std.specs.Prelude.{◌≡◌, Bool, true, false, Result, Ok, Err}
 use Rattle.sequences.specs.Results.{FailsBut, GivesBut}
-use Rattle.ipfix_message.specs.declared.decode_error.DecodeError.{DecodeError}
-use Rattle.ipfix_message.specs.declared.decode_error.DecodeError.TheVariants as decode
+use Rattle.ipfix_message.specs.declared.fault.Fault.{Fault as DecodeError}
+use Rattle.ipfix_message.specs.declared.fault.Fault.TheVariants as decode
 use Rattle.ipfix_session.specs.declared.read.Read.{Read}
 use Rattle.ipfix_session.specs.declared.contents.Contents.{Contents as DataContents}
 use Rattle.ipfix_session.specs.declared.read_error.ReadError.{ReadError}

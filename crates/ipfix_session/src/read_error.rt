@@ -1,6 +1,6 @@
 //! Why a message is refused.
 
-use ipfix_message::DecodeError;
+use ipfix_message::Fault as DecodeError;
 use std::alloc::{AllocError, AllocFailed};
 use thiserror::Error;
 

@@ -7,7 +7,7 @@ use Rattle.std.proofs.KnownBytes.{Appends-trans, Appends-kept, Keeps-refl}
 use Rattle.std.specs.Io.KnownBytes.{Appends, Keeps}
 use Rattle.octet_io.specs.Written.{WritesFront}
 use Rattle.std.proofs.lemmas.List.Elements.{All-nil}
-use Rattle.ipfix_message.specs.declared.frame_error.FrameError.{FrameError}
+use Rattle.ipfix_message.specs.declared.fault.Fault.{Fault as DecodeError}
 use Rattle.ipfix_message.specs.Framing.{IsWhole, IsFramed}
 use Rattle.ipfix_message.specs.FramerState.{FramerState, nothing_fed, GoesOn, HasFault}
 use Rattle.ipfix_message.proofs.FramerLaws.{all_framed}
@@ -28,7 +28,7 @@ pub messages_fed : (stream : List ℕ) (messages : List (List ℕ)) (new : Frame
 messages_fed stream messages new goes = (new.fault, new.pending, goes.1.after [] [] nothing_is_framed)
 
 -- octets that are no stream of messages from their start have none
-pub no_messages : (fault : FrameError) (stream : List ℕ) (new : FramerState) → HasFault fault nothing_fed stream new → AreMessagesOf stream []
+pub no_messages : (fault : DecodeError) (stream : List ℕ) (new : FramerState) → HasFault fault nothing_fed stream new → AreMessagesOf stream []
 no_messages fault stream new (inl (had, same)) = absurd cc
 no_messages fault stream new (inr (sound, has, goes)) = (new.fault, new.pending, goes.after [] [] nothing_is_framed)
 

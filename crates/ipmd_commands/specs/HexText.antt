@@ -4,7 +4,7 @@ use Rattle.std.specs.List.{filter, flat_map}
 use Rattle.std.specs.Char.{is_ascii_whitespace}
 use Rattle.std.specs.Io.KnownBytes.{Appends, Keeps}
 use Rattle.hex.specs.Hex.{decode_of, encode_lower}
-use Rattle.ipfix_message.specs.declared.frame_error.FrameError.{FrameError}
+use Rattle.ipfix_message.specs.declared.fault.Fault.{Fault as DecodeError}
 use Rattle.ipfix_message.specs.Framing.{IsFramed}
 
 abbrev pub is_no_white_space : ℕ → Bool
@@ -27,7 +27,7 @@ lines_of messages = flat_map line_of messages
 
 -- the whole messages of a stream, one directly after another (RFC 7011, section 3.1)
 abbrev pub AreMessagesOf : List ℕ → List (List ℕ) → Type 0
-AreMessagesOf stream messages = (fault : Option FrameError) × (pending : List ℕ) × IsFramed stream messages fault pending
+AreMessagesOf stream messages = (fault : Option DecodeError) × (pending : List ℕ) × IsFramed stream messages fault pending
 
 -- a front of these octets was written, or all of them
 abbrev pub WritesSome : List ℕ → Option (List ℕ) → Option (List ℕ) → Type 0

@@ -10,7 +10,7 @@ ghost use Rattle.ipmd_commands.specs.Failures.{FailedAt};
 
 use crate::fault::ProgramFault;
 use bytes::Bytes;
-use ipfix_message::{FrameError, Framer};
+use ipfix_message::{Fault as DecodeError, Framer};
 use octet_io::{Device, write_all};
 use std::alloc::{AllocError, Global};
 use std::io::Write;
@@ -87,9 +87,12 @@ fn messages_of(alloc: Global, stream: &[u8]) -> Result<Vec<Bytes>, AllocError>
 {
     match Framer::new(alloc).feed(stream) {
         Ok(messages) => Ok(messages),
-        Err(FrameError::BadVersion) => Ok(Vec::new(alloc)),
-        Err(FrameError::BadLength) => Ok(Vec::new(alloc)),
-        Err(FrameError::OutOfMemory) => Err(AllocError),
+        Err(DecodeError::BadVersion) => Ok(Vec::new(alloc)),
+        Err(DecodeError::BadLength) => Ok(Vec::new(alloc)),
+        Err(DecodeError::ShortHeader) => unreachable!(),
+        Err(DecodeError::BadSetLength) => unreachable!(),
+        Err(DecodeError::TemplateOverrun) => unreachable!(),
+        Err(DecodeError::OutOfMemory) => Err(AllocError),
     }
 }
 

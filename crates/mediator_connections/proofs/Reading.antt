@@ -2,8 +2,8 @@
 use Rattle.std.proofs.Common.{◌≡◌, inl, inr, ℕ, ◌+◌, Bool, false, List, [], ◌∷◌, ◌++◌, length, Option, Some, None, refl, sym, ap, ◌∙◌, subst, append-nil, append_assoc, arith, length-append}
 use Rattle.std.specs.Io.KnownBytes.{Consumes}
 use Rattle.std.proofs.KnownBytes.{Consumes-trans, Consumes-nil}
-use Rattle.ipfix_message.specs.declared.frame_error.FrameError.{FrameError}
-use Rattle.ipfix_message.specs.declared.frame_error.FrameError.TheVariants as frame
+use Rattle.ipfix_message.specs.declared.fault.Fault.{Fault as DecodeError}
+use Rattle.ipfix_message.specs.declared.fault.Fault.TheVariants as frame
 use Rattle.ipfix_message.specs.Framing.{IsFramed}
 use Rattle.ipfix_reader.specs.declared.fault.FramingFault.TheVariants as framing
 use Rattle.ipfix_reader.specs.declared.fault.IntakeFault.{IntakeFault}
@@ -25,7 +25,7 @@ nothing_framed = record {
   ends = (refl, record { version = λ le. absurd (omega arith); least = λ le. absurd (omega arith); short = λ le. absurd (omega arith) });
 }
 
-emptied : (w : FrameError) (octets : List ℕ) (messages : List (List ℕ)) (pending : List ℕ) → IsFramed octets messages (Some w) pending → IsFramed octets messages (Some w) []
+emptied : (w : DecodeError) (octets : List ℕ) (messages : List (List ℕ)) (pending : List ℕ) → IsFramed octets messages (Some w) pending → IsFramed octets messages (Some w) []
 emptied w octets messages pending framed = subst (IsFramed octets messages (Some w)) framed.ends.0 framed
 
 -- a call that read nothing leaves all as it was
@@ -130,13 +130,13 @@ whole_after turns i given left old d so sound = record {
 }
 
 -- the octets of a stream with a fault
-record FaultIn (w : FrameError) (turns : ℕ) (given left : Option (List ℕ)) (old d : Exporting) : Type 0 where
+record FaultIn (w : DecodeError) (turns : ℕ) (given left : Option (List ℕ)) (old d : Exporting) : Type 0 where
   pub octets : List ℕ
   pub taken : Consumes given left octets
   pub before : OffersBefore w octets old d
   pub few : AreRead turns octets
 
-faulty : (w : FrameError) (turns : ℕ) (i k : IntakeState) (given mid left : Option (List ℕ)) (old d : Exporting) → Reaches turns i given mid old d → HasFault w i mid left k → FaultIn w turns given left old d
+faulty : (w : DecodeError) (turns : ℕ) (i k : IntakeState) (given mid left : Option (List ℕ)) (old d : Exporting) → Reaches turns i given mid old d → HasFault w i mid left k → FaultIn w turns given left old d
 faulty w turns i k given mid left old d so (inl was) = record {
   octets = so.octets;
   taken = same_read given mid left so.octets so.taken was.1.read;

@@ -3,8 +3,8 @@
 use Rattle.std.specs.Prelude.{◌≡◌, ◌⊎◌, ℕ, ◌+◌, ◌*◌, ◌<◌, ◌≤◌, List, [], ◌∷◌, ◌++◌, map, length, Option, Some, None}
 use Rattle.std.specs.Io.KnownBytes.{Consumes, IsAtEnd}
 use Rattle.ipfix_template.specs.declared.template.Template.{Template}
-use Rattle.ipfix_message.specs.declared.frame_error.FrameError.{FrameError}
-use Rattle.ipfix_message.specs.declared.frame_error.FrameError.TheVariants as frame
+use Rattle.ipfix_message.specs.declared.fault.Fault.{Fault as DecodeError}
+use Rattle.ipfix_message.specs.declared.fault.Fault.TheVariants as frame
 use Rattle.ipfix_message.specs.Framing.{IsFramed}
 use Rattle.ipfix_reader.specs.declared.fault.FramingFault.TheVariants as framing
 use Rattle.ipfix_reader.specs.Intake.{IntakeState}
@@ -45,7 +45,7 @@ abbrev pub AreReadBut : ℕ → List ℕ → Type 0
 AreReadBut reads octets = length octets + 65536 ≤ 65536 * reads
 
 -- these octets are these messages, and then this fault or these octets that are pending; all of the messages were offered
-pub record OffersAll (octets : List ℕ) (messages : List (List ℕ)) (faulty : Option FrameError) (pending : List ℕ) (old new : Exporting) : Type 0 where
+pub record OffersAll (octets : List ℕ) (messages : List (List ℕ)) (faulty : Option DecodeError) (pending : List ℕ) (old new : Exporting) : Type 0 where
   pub framed : IsFramed octets messages faulty pending
   pub offers : Offers old new messages
 
@@ -67,7 +67,7 @@ pub record OffersWhole (octets pending : List ℕ) (old new : Exporting) : Type 
   pub all : OffersAll octets messages None pending old new
 
 -- all messages of these octets before this fault were offered
-pub record OffersBefore (faulty : FrameError) (octets : List ℕ) (old new : Exporting) : Type 0 where
+pub record OffersBefore (faulty : DecodeError) (octets : List ℕ) (old new : Exporting) : Type 0 where
   pub messages : List (List ℕ)
   pub all : OffersAll octets messages (Some faulty) [] old new
 
@@ -80,7 +80,7 @@ pub record RefusesOne (octets : List ℕ) (old new : Exporting) : Type 0 where
   pub before : List (List ℕ)
   pub message : List ℕ
   pub later : List (List ℕ)
-  pub faulty : Option FrameError
+  pub faulty : Option DecodeError
   pub pending : List ℕ
   pub framed : IsFramed octets (before ++ message ∷ later) faulty pending
   pub offers : Offers old new before

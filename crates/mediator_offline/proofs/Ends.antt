@@ -4,8 +4,8 @@ use Rattle.std.proofs.lemmas.List.{take_all}
 use Rattle.std.specs.Io.KnownBytes.{Appends, Consumes}
 use Rattle.std.proofs.KnownBytes.{Appends-nil, Consumes-nil, Consumes-trans}
 use Rattle.ipfix_message.specs.Framing.{IsFramed}
-use Rattle.ipfix_message.specs.declared.frame_error.FrameError.{FrameError}
-use Rattle.ipfix_message.specs.declared.frame_error.FrameError.TheVariants as frame
+use Rattle.ipfix_message.specs.declared.fault.Fault.{Fault as DecodeError}
+use Rattle.ipfix_message.specs.declared.fault.Fault.TheVariants as frame
 use Rattle.ipfix_reader.specs.declared.fault.IntakeFault.{IntakeFault}
 use Rattle.ipfix_reader.specs.declared.fault.IntakeFault.TheVariants as intake
 use Rattle.ipfix_reader.specs.declared.fault.FramingFault.TheVariants as framing
@@ -138,14 +138,14 @@ done_after d i job before after so sound =
     filtered_of d job so.octets so.messages None i.framing.pending before.outputs after.outputs so.running (subst (λ x. IsFramed so.octets so.messages x i.framing.pending) sound so.framed)
 
 -- these octets were read, of which a message is faulty, and those before it were filtered
-record ReadsFault (w : FrameError) (job : OfflineJob) (before : Ports) (left : Option (List ℕ)) (after : Outputs) : Type 0 where
+record ReadsFault (w : DecodeError) (job : OfflineJob) (before : Ports) (left : Option (List ℕ)) (after : Outputs) : Type 0 where
   octets : List ℕ
   messages : List (List ℕ)
   taken : Consumes before.left left octets
   few : AreRead job.turns octets
   done : IsFiltered job octets messages (Some w) [] before.outputs after
 
-faulty : (w : FrameError) (d : Run) (i k : IntakeState) (job : OfflineJob) (before mid : Ports) (left : Option (List ℕ)) → IsAfter d i job before mid → HasFault w i mid.left left k
+faulty : (w : DecodeError) (d : Run) (i k : IntakeState) (job : OfflineJob) (before mid : Ports) (left : Option (List ℕ)) → IsAfter d i job before mid → HasFault w i mid.left left k
     → ReadsFault w job before left mid.outputs
 faulty w d i k job before mid left so (inl was) = record {
   octets = so.octets;

@@ -5,8 +5,8 @@ use Rattle.std.proofs.lemmas.List.Elements.{All-nil, All-cons}
 use Rattle.sequences.specs.Octets.{number_at}
 use Rattle.sequences.specs.Results.{◌>>=◌}
 use Rattle.ipfix_template.specs.DataRecord.{DataRecord}
-use Rattle.ipfix_message.specs.declared.frame_error.FrameError.{FrameError}
-use Rattle.ipfix_message.specs.declared.decode_error.DecodeError.TheVariants.{ShortHeader, BadVersion, BadLength}
+use Rattle.ipfix_message.specs.declared.fault.Fault.{Fault as DecodeError}
+use Rattle.ipfix_message.specs.declared.fault.Fault.TheVariants.{ShortHeader, BadVersion, BadLength}
 use Rattle.ipfix_message.specs.Reading.{header_of, read_header, items_of, after_header}
 use Rattle.ipfix_message.specs.Framing.{IsWhole, IsFramed}
 use Rattle.ipfix_message.proofs.FramingLaws.{framed_once}
@@ -37,6 +37,6 @@ all_whole (message ∷ messages) handed older records read =
     (all_whole messages (handed + length read.1) (message ∷ older) read.2 read.5)
 
 -- messages that mean a list are those that their octets are cut into
-pub meant_are_cut : (messages others : List (List ℕ)) (records : List DataRecord) (fault : Option FrameError) (pending : List ℕ) → Means messages records → IsFramed (concat messages) others fault pending → others ≡ messages
+pub meant_are_cut : (messages others : List (List ℕ)) (records : List DataRecord) (fault : Option DecodeError) (pending : List ℕ) → Means messages records → IsFramed (concat messages) others fault pending → others ≡ messages
 meant_are_cut messages others records fault pending means framed =
     (framed_once (concat messages) others messages fault None pending [] framed (all_framed (concat messages) messages (all_whole messages 0 [] records means.each) refl)).0

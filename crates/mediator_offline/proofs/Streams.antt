@@ -1,7 +1,7 @@
 -- Messages of a stream that are handled one after another.
 use Rattle.std.proofs.Common.{◌≡◌, ℕ, List, [], ◌∷◌, ◌++◌, Option, Some, sym, ap, ◌∙◌, subst, append-nil, append_assoc, arith}
 use Rattle.std.proofs.lemmas.List.{take_all}
-use Rattle.ipfix_message.specs.declared.frame_error.FrameError.{FrameError}
+use Rattle.ipfix_message.specs.declared.fault.Fault.{Fault as DecodeError}
 use Rattle.ipfix_message.specs.Framing.{IsFramed}
 use Rattle.subscriber_stream.specs.Parts.{parts, records_in}
 use Rattle.subscriber_stream.proofs.CallLaws.{parts_bring}
@@ -71,7 +71,7 @@ one_stops e old d all more rest m before mid after is so stop = record {
 }
 
 -- all messages of a run that goes on
-pub filtered_of : (d : Run) (job : OfflineJob) (octets : List ℕ) (messages : List (List ℕ)) (fault : Option FrameError) (pending : List ℕ) (before after : Outputs) → IsRunning d job messages before after
+pub filtered_of : (d : Run) (job : OfflineJob) (octets : List ℕ) (messages : List (List ℕ)) (fault : Option DecodeError) (pending : List ℕ) (before after : Outputs) → IsRunning d job messages before after
     → IsFramed octets messages fault pending → IsFiltered job octets messages fault pending before after
 filtered_of d job octets messages fault pending before after r framed = record {
   job_accepted = r.job_accepted;
@@ -81,5 +81,5 @@ filtered_of d job octets messages fault pending before after r framed = record {
   writes = r.writes;
 }
 
-pub emptied : (w : FrameError) (octets : List ℕ) (messages : List (List ℕ)) (pending : List ℕ) → IsFramed octets messages (Some w) pending → IsFramed octets messages (Some w) []
+pub emptied : (w : DecodeError) (octets : List ℕ) (messages : List (List ℕ)) (pending : List ℕ) → IsFramed octets messages (Some w) pending → IsFramed octets messages (Some w) []
 emptied w octets messages pending framed = subst (IsFramed octets messages (Some w)) framed.ends.0 framed

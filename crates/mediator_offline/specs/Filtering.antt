@@ -3,8 +3,8 @@ use Rattle.std.specs.Prelude.{◌≡◌, ◌⊎◌, ℕ, ◌+◌, ◌*◌, ◌<�
 use Rattle.std.specs.List.{concat}
 use Rattle.std.specs.Io.KnownBytes.{Appends, Consumes, IsAtEnd}
 use Rattle.octet_io.specs.Written.{WritesFront}
-use Rattle.ipfix_message.specs.declared.frame_error.FrameError.{FrameError}
-use Rattle.ipfix_message.specs.declared.frame_error.FrameError.TheVariants as frame
+use Rattle.ipfix_message.specs.declared.fault.Fault.{Fault as DecodeError}
+use Rattle.ipfix_message.specs.declared.fault.Fault.TheVariants as frame
 use Rattle.ipfix_message.specs.Framing.{IsFramed}
 use Rattle.stream_meaning.specs.Means.{Means}
 use Rattle.event_journal.specs.declared.entry.Entry.TheVariants.{Cut as CutEntry}
@@ -44,7 +44,7 @@ pub record Writes (before after : Outputs) (messages : List (List ℕ)) (lines :
 
 -- the job is accepted, these octets are these messages, and then this fault or these octets that are pending; all messages
 -- were filtered, and what is due was written
-pub record IsFiltered (job : OfflineJob) (octets : List ℕ) (messages : List (List ℕ)) (fault : Option FrameError) (pending : List ℕ) (before after : Outputs) : Type 0 where
+pub record IsFiltered (job : OfflineJob) (octets : List ℕ) (messages : List (List ℕ)) (fault : Option DecodeError) (pending : List ℕ) (before after : Outputs) : Type 0 where
   pub job_accepted : IsAcceptedJob job
   pub framed : IsFramed octets messages fault pending
   pub written : List (List ℕ)
@@ -95,7 +95,7 @@ pub record StopsAtOne (e : OfflineFault) (job : OfflineJob) (octets : List ℕ) 
   pub messages : List (List ℕ)
   pub message : List ℕ
   pub later : List (List ℕ)
-  pub fault : Option FrameError
+  pub fault : Option DecodeError
   pub pending : List ℕ
   pub job_accepted : IsAcceptedJob job
   pub framed : IsFramed octets (messages ++ message ∷ later) fault pending

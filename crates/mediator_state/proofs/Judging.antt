@@ -15,7 +15,7 @@ use Rattle.sequences.specs.Octets.{number_at, AreOctets}
 use Rattle.sequences.specs.Results.{◌>>=◌}
 use Rattle.sequences.proofs.OctetLaws.{be_value-below, AreOctets-drop, AreOctets-take}
 use Rattle.sequences.proofs.ResultLaws.{same_Ok}
-use Rattle.ipfix_message.specs.declared.decode_error.DecodeError.TheVariants.{ShortHeader, BadVersion, BadLength}
+use Rattle.ipfix_message.specs.declared.fault.Fault.TheVariants.{ShortHeader, BadVersion, BadLength}
 use Rattle.ipfix_message.specs.Reading.{header_of, read_header, after_header, items_of}
 use Rattle.ipfix_template.specs.declared.template.Template.{Template}
 use Rattle.ipfix_template.specs.DataRecord.{DataRecord}
@@ -59,12 +59,14 @@ use Rattle.mediator_shares.specs.Sharing.{given_by, added_by, kept_by, share_of,
 use Rattle.mediator_tables.specs.declared.open_session.OpenSession.{OpenSession}
 use Rattle.mediator_tables.specs.declared.subscription.Subscription.{Subscription}
 use Rattle.mediator_tables.specs.SubscriptionTable.{Table, at, told, told_in, lacks_room, lacks_room_at}
+use Rattle.prepared_message.specs.Preparation.{Preparation, AgreesWith}
 use Rattle.mediator_state.specs.declared.engine.Engine.{Engine}
+use Rattle.mediator_state.specs.declared.fault.Fault.TheVariants as fault
 use Rattle.mediator_state.specs.declared.plan.Judged.{Judged}
 use Rattle.mediator_state.specs.declared.plan.MessagePlan.{MessagePlan}
 use Rattle.mediator_state.specs.Standing.{Stands, IsSession, IsLiveAs}
 use Rattle.mediator_state.specs.Seen.{waiting_in, waiting_of}
-use Rattle.mediator_state.specs.Planning.{lacks, has, share_at, tally_at, AreTallied, HasRoomIn, AreStreamed, IsJudged, IsJudgedAs, IsJudgedFor, IsInTurn, IsNextReading, IsPlan}
+use Rattle.mediator_state.specs.Planning.{lacks, has, share_at, tally_at, AreTallied, HasRoomIn, AreStreamed, IsJudged, IsJudgedAs, IsJudgedFor, IsInTurn, IsNextReading, IsPlan, RefusesPrepared}
 
 -- ---- lists
 
@@ -563,6 +565,13 @@ pub next_reading : (e : Engine) (h : List Entry) (session number : ℕ) (octets 
 next_reading e h session number octets reading o so is reads =
     let turn : IsTurn h session number o = turn_of e h session number o so is in
     record { next = record { opened = turn.opened; turn = turn.turn }; read = reads (messages_of session h) turn.stands }
+
+-- it was prepared by other templates than those of the session
+pub is_stale : (e : Engine) (h : List Entry) (session number : ℕ) (p : Preparation) (o : OpenSession) → Stands e h → IsInTurn e session number o
+    → ((older : List (List ℕ)) → StandsFor o.session older → AgreesWith older p → ⊥) → RefusesPrepared fault.Stale h session number p
+is_stale e h session number p o so is refused =
+    let turn : IsTurn h session number o = turn_of e h session number o so is in
+    (record { opened = turn.opened; turn = turn.turn }, refused (messages_of session h) turn.stands)
 
 pub planned : (e : Engine) (h : List Entry) (session number : ℕ) (octets : List ℕ) (p : MessagePlan) (j : Judged) → p.session.0 ≡ session → IsNextReading h session number octets p.reading
     → IsJudgedFor e h p.reading.meaning j → p.cuts ≡ j.cuts → p.shares ≡ j.shares → p.tallies ≡ j.tallies → p.position ≡ j.position → p.notes ≡ j.notes

@@ -2,7 +2,6 @@
 
 use ipfix_session::ReadError;
 use policy_text::PolicyFault;
-use prepared_message::ApplyFault;
 use std::alloc::AllocError;
 use std::error::Error;
 use std::fmt::{self, Display, Formatter, Write};
@@ -85,20 +84,6 @@ impl From<ReadError> for Fault {
         match fault {
             ReadError::OutOfMemory => Fault::OutOfMemory,
             ReadError::Malformed(_) | ReadError::RecordOverrun => Fault::Malformed(fault),
-        }
-    }
-}
-
-impl From<ApplyFault> for Fault {
-    ghost use Rattle.mediator_state.specs.Refusals.{stale_refusal};
-    ghost use Rattle.std.specs.Prelude.{◌≡◌};
-
-    ghost from_gives = { λ a e. e ≡ stale_refusal a };
-
-    fn from(fault: ApplyFault) -> Fault {
-        match fault {
-            ApplyFault::Stale => Fault::Stale,
-            ApplyFault::OutOfMemory => Fault::OutOfMemory,
         }
     }
 }

@@ -91,7 +91,10 @@ impl Engine {
             → RefusesPrepared e h session.0 number prepared.now) }
     {
         let open = self.in_turn(session, number)?;
-        Ok(prepared.reading_in(&open.session)?)
+        match prepared.reading_in(&open.session)? {
+            Some(reading) => Ok(reading),
+            None => Err(Fault::Stale),
+        }
     }
 
     /// What a message of the session with the number `session` would do as the next entry behind a history of

@@ -23,7 +23,7 @@ use policy_text::{FaultKind, Name, Policy, PolicyFault, is_name};
 use prepared_message::{JudgedAhead, Prepared, Snapshot};
 use std::alloc::{AllocError, Global};
 use std::slice::from_ref;
-use subscriber_stream::{PullError, StreamLimits};
+use subscriber_stream::StreamLimits;
 
 /// How many records may wait for a subscription where nobody sets a limit: 65,536.
 pub const DEFAULT_QUEUE: u32 = 65_536;
@@ -530,7 +530,7 @@ impl<C: Chronicle + Drop> State<C> {
         }
         match self.engine.subscriptions.pull(sub, now, target) {
             Ok(message) => Ok(message),
-            Err(PullError::OutOfMemory) => Err(Fault::OutOfMemory),
+            Err(AllocError) => Err(Fault::OutOfMemory),
         }
     }
 

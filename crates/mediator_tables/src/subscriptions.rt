@@ -16,7 +16,7 @@ use policy_text::Name;
 use std::alloc::{AllocError, Global};
 use std::collections::BTreeMap;
 use std::marker::Model;
-use subscriber_stream::{PullError, Stream};
+use subscriber_stream::Stream;
 
 /// The live subscriptions of a mediator. A look-up by number or by name takes time that grows with the logarithm of how
 /// many there are. What goes over those that are served doesn't go over those that are cut.
@@ -214,7 +214,7 @@ impl Subscriptions {
     ///
     /// # Errors
     /// Want of memory for the message, and then nothing has changed.
-    pub fn pull(&mut self, sub: SubId, now: u32, target: u16) -> Result<Option<Bytes>, PullError>
+    pub fn pull(&mut self, sub: SubId, now: u32, target: u16) -> Result<Option<Bytes>, AllocError>
         requires known { IsSome (at self.old sub.0) }
         // No other subscription changes, nor who is served.
         ensures others { (q : ℕ) → q ≢ sub.0 → at self.new q ≡ at self.old q }

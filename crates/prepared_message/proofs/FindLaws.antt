@@ -5,8 +5,8 @@ use Rattle.std.specs.List.{AllByRecursion}
 use Rattle.sequences.specs.Results.{◌>>=◌}
 use Rattle.ipfix_template.specs.declared.template.Template.{Template}
 use Rattle.ipfix_message.specs.declared.item.Item.{Item}
-use Rattle.ipfix_message.specs.declared.decode_error.DecodeError.{DecodeError}
-use Rattle.ipfix_message.specs.declared.decode_error.DecodeError.TheVariants as decode
+use Rattle.ipfix_message.specs.declared.fault.Fault.{Fault as DecodeError}
+use Rattle.ipfix_message.specs.declared.fault.Fault.TheVariants as decode
 use Rattle.ipfix_message.specs.Reading.{read_header, after_header, items_of}
 use Rattle.ipfix_session.specs.declared.read_error.ReadError.{ReadError}
 use Rattle.ipfix_session.specs.Answers.{held}

@@ -7,7 +7,7 @@ use Rattle.sequences.proofs.ListLaws.{drop_read}
 use Rattle.ipfix_template.specs.declared.template.Template.{Template}
 use Rattle.ipfix_message.specs.declared.item.Item.{Item}
 use Rattle.ipfix_message.specs.declared.item.Item.TheVariants.{Define, Withdraw, WithdrawAll, Refused, DataSet, Skipped}
-use Rattle.ipfix_message.specs.declared.decode_error.DecodeError.{DecodeError}
+use Rattle.ipfix_message.specs.declared.fault.Fault.{Fault as DecodeError}
 use Rattle.ipfix_message.specs.declared.header.Header.{Header}
 use Rattle.ipfix_message.specs.Reading.{header_of, items_of}
 use Rattle.prepared_message.specs.declared.width.Width.{Width}

@@ -2,8 +2,8 @@
 use Rattle.std.specs.Prelude.{◌≡◌, ℕ, Bool, true, false, List, Result, Ok, Err}
 use Rattle.sequences.specs.Results.{◌>>=◌, FailsBut, GivesBut}
 use Rattle.ipfix_message.specs.declared.item.Item.{Item}
-use Rattle.ipfix_message.specs.declared.decode_error.DecodeError.{DecodeError}
-use Rattle.ipfix_message.specs.declared.decode_error.DecodeError.TheVariants as decode
+use Rattle.ipfix_message.specs.declared.fault.Fault.{Fault as DecodeError}
+use Rattle.ipfix_message.specs.declared.fault.Fault.TheVariants as decode
 use Rattle.ipfix_message.specs.Reading.{items_of}
 use Rattle.ipfix_session.specs.declared.read_error.ReadError.{ReadError}
 use Rattle.ipfix_session.specs.declared.read_error.ReadError.TheVariants as read
@@ -11,8 +11,6 @@ use Rattle.ipfix_session.specs.Contents.{Contents}
 use Rattle.ipfix_session.specs.Meaning.{contents_of}
 use Rattle.prepared_message.specs.declared.fault.PrepareFault.{PrepareFault}
 use Rattle.prepared_message.specs.declared.fault.PrepareFault.TheVariants.{HasTemplates, Malformed, OutOfMemory}
-use Rattle.prepared_message.specs.declared.fault.ApplyFault.{ApplyFault}
-use Rattle.prepared_message.specs.declared.fault.ApplyFault.TheVariants as apply
 use Rattle.prepared_message.specs.SetIds.{has_template_set}
 
 abbrev pub fault_of_decoding : DecodeError → PrepareFault
@@ -58,9 +56,3 @@ Fails e due = FailsBut is_memory e due
 -- what is due is answered
 abbrev pub Gives : {X Y : Type 0} → (X → Y) → Result X PrepareFault → Result Y PrepareFault → Type 0
 Gives view answer due = GivesBut is_memory view answer due
-
--- Stale is answered only where this is not so
-abbrev pub IsStaleOnly : {Y : Type 0} → Result Y ApplyFault → Type 0 → Type 0
-IsStaleOnly (Ok y) agrees = Unit {0}
-IsStaleOnly (Err apply.Stale) agrees = agrees → ⊥
-IsStaleOnly (Err apply.OutOfMemory) agrees = Unit {0}

@@ -1,6 +1,6 @@
-//! Why a message is not prepared, and why a prepared one is not taken in.
+//! Why a message is not prepared.
 
-use ipfix_message::DecodeError;
+use ipfix_message::Fault as DecodeError;
 use ipfix_session::ReadError;
 use std::alloc::{AllocError, AllocFailed};
 use thiserror::Error;
@@ -70,28 +70,5 @@ impl From<ReadError> for PrepareFault {
             ReadError::OutOfMemory => PrepareFault::OutOfMemory,
             ReadError::Malformed(_) | ReadError::RecordOverrun => PrepareFault::Malformed,
         }
-    }
-}
-
-/// Why a session doesn't take in a prepared message. Nothing has changed then.
-#[derive(Clone, Copy, Debug, PartialEq, Eq, Error)]
-pub enum ApplyFault {
-    /// An ID of the message has another template in the session than in the snapshot, or only one of them has one. The
-    /// message can be prepared anew.
-    #[error("Stale")]
-    Stale,
-    /// Want of memory. It says nothing of the message.
-    #[error("OutOfMemory")]
-    OutOfMemory,
-}
-
-impl From<AllocError> for ApplyFault {
-    ghost use Rattle.std.specs.Prelude.{◌≡◌};
-    ghost use Rattle.prepared_message.specs.declared.fault.ApplyFault.TheVariants.{OutOfMemory};
-
-    ghost from_gives = { λ _ e. e ≡ OutOfMemory };
-
-    fn from(_e: AllocError) -> ApplyFault {
-        ApplyFault::OutOfMemory
     }
 }

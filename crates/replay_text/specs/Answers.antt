@@ -3,8 +3,8 @@ use Rattle.std.specs.Prelude.{ℕ, Bool, true, false, List, [], ◌∷◌, ◌++
 use Rattle.std.specs.List.{flat_map}
 use Rattle.std.specs.Fmt.{decimal}
 use Rattle.hex.specs.Hex.{encode_lower}
-use Rattle.ipfix_message.specs.declared.decode_error.DecodeError.{DecodeError}
-use Rattle.ipfix_message.specs.declared.decode_error.DecodeError.TheVariants as decode
+use Rattle.ipfix_message.specs.declared.fault.Fault.{Fault as DecodeError}
+use Rattle.ipfix_message.specs.declared.fault.Fault.TheVariants as decode
 use Rattle.ipfix_session.specs.declared.read_error.ReadError.{ReadError}
 use Rattle.ipfix_session.specs.declared.read_error.ReadError.TheVariants as read
 use Rattle.ipfix_session.specs.declared.read.Gap.{Gap}

@@ -8,7 +8,7 @@ ghost use Rattle.replay_text.specs.Answers.{answer_text, answers_text, receipt_t
 
 use bytes::Bytes;
 use disclosure_audit::{AuditEntry, line};
-use ipfix_message::DecodeError;
+use ipfix_message::Fault as DecodeError;
 use ipfix_session::{Gap, ReadError, Skips};
 use mediator_calls::Reply;
 use mediator_state::{Fault, Receipt, Status};

@@ -6,7 +6,6 @@
 //! - [`stream`]: `Stream`, which queues records and builds the messages.
 //! - [`limits`]: `StreamLimits`, how many records may wait, and how many templates may be announced; the greatest of
 //!   each, [`MOST_QUEUE`] and [`MOST_SHAPES`].
-//! - [`pull_error`]: `PullError`, why no message was built.
 //! - [`laws`]: what a subscriber gets is a function of the records and the pulls (`octets_of_pulls`); which sets
 //!   a message has (`sets_are_longest`) and how many parts (`longest_run`).
 //!
@@ -25,7 +24,6 @@ mod announcing;
 mod fitting;
 pub mod laws;
 pub mod limits;
-pub mod pull_error;
 mod room;
 mod shape_table;
 pub mod stream;
@@ -38,5 +36,4 @@ pub use laws::{
     shapes_go_on,
 };
 pub use limits::{MOST_QUEUE, MOST_SHAPES, StreamLimits};
-pub use pull_error::PullError;
 pub use stream::Stream;

@@ -11,7 +11,6 @@ mod tests;
 use crate::announcing::announced_octets;
 use crate::fitting::fitting;
 use crate::limits::StreamLimits;
-use crate::pull_error::PullError;
 use crate::room::has_shape_room;
 use crate::shape_table::ShapeTable;
 use crate::texts::Texts;
@@ -278,7 +277,7 @@ impl Stream {
     /// 1970. `None` exactly at the end, where nothing is queued.
     ///
     /// # Errors
-    /// `OutOfMemory` for want of memory for the message, and then the stream is as it was.
+    /// Want of memory for the message, and then the stream is as it was.
     ///
     /// # Examples
     ///
@@ -305,7 +304,7 @@ impl Stream {
     ///     \x00\x02\x00\x0c\x01\x00\x00\x01\x00\x01\x00\x04\x01\x00\x00\x08\x00\x00\x05\xdc";
     /// assert!(rt; sent.as_slice() == due);
     /// ```
-    pub fn pull(&mut self, now: u32, target: u16) -> Result<Option<Bytes>, PullError>
+    pub fn pull(&mut self, now: u32, target: u16) -> Result<Option<Bytes>, AllocError>
         // The message is the one that is built at the place where the stream stands, and the stream then
         // stands after its parts.
         ensures ok { IfOk result (λ m. Gives self.old.standing now target m self.new.standing) }

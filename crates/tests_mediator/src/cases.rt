@@ -6,7 +6,7 @@ use crate::octets::{
     SHORT_HEADER, SHORT_SET, SHORT_TEMPLATE, TEMPLATE_ALONE, THIRD_RECORD, THREE_RECORDS,
     TWO_DISCLOSED, TWO_RECORDS, VERSION_NINE, WITHDRAWN,
 };
-use ipfix_message::DecodeError;
+use ipfix_message::Fault as DecodeError;
 use ipfix_session::{Gap, ReadError, Skips};
 use mediator_core::{Fault, Limits, Receipt};
 use policy_text::{FaultKind, PolicyFault};

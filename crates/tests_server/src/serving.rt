@@ -10,7 +10,7 @@ use crate::returned_handles::{
 use crate::server::Told;
 use crate::stage::{Case, ReturnedHandles, play};
 use event_journal::Entry;
-use ipfix_message::DecodeError;
+use ipfix_message::Fault as DecodeError;
 use ipfix_reader::FramingFault;
 use ipfix_session::ReadError;
 use mediator_connections::{ServeFault, Served, serve_exporter};

@@ -5,7 +5,7 @@ use crate::octets::{
 use crate::sharing::{Case, ReturnedHandles, one, share};
 use bytes::Bytes;
 use disclosure_audit::line;
-use ipfix_message::DecodeError;
+use ipfix_message::Fault as DecodeError;
 use ipfix_session::{ReadError, Skips};
 use mediator_core::{Fault, Finished, Receipt, Status, SubId, UnknownSub};
 use policy_text::{FaultKind, PolicyFault};

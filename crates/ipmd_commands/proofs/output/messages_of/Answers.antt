@@ -1,5 +1,5 @@
 use Rattle.std.proofs.Common.{sym, subst, subst₂}
-use Rattle.ipfix_message.specs.declared.frame_error.FrameError.TheVariants as frame
+use Rattle.ipfix_message.specs.declared.fault.Fault.TheVariants as frame
 use Rattle.ipfix_message.specs.FramerState.{GoesOn, FailsBy}
 use Rattle.ipmd_commands.specs.HexText.{AreMessagesOf}
 use Rattle.ipmd_commands.proofs.Lines.{messages_fed, no_messages}
