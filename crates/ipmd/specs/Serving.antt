@@ -17,7 +17,7 @@ use Rattle.mediator_server.specs.declared.listening.Ended.{Ended}
 use Rattle.mediator_server.specs.declared.listening.ListenFault.{ListenFault}
 use Rattle.mediator_server.specs.declared.listening.ListenFault.TheVariants as listen
 use Rattle.ipmd_commands.specs.declared.fault.ProgramFault.{ProgramFault}
-use Rattle.ipmd_commands.specs.declared.fault.ProgramFault.TheVariants.{CommandLine, Settings, Policy, Hex, Framing, Core, Cut, Calls, BadLimits, Journal, History, Absent, Close, OutOfMemory, Device}
+use Rattle.ipmd_commands.specs.declared.fault.ProgramFault.TheVariants.{CommandLine, Settings, Policy, Hex, Framing, Core, Cut, Calls, Journal, History, Absent, Close, OutOfMemory, Device}
 use Rattle.ipmd_commands.specs.declared.failure.Place.TheVariants as placed
 use Rattle.ipmd_commands.specs.Failures.{FailedAt, FailedAtFile, IsFileFault}
 use Rattle.ipmd_commands.specs.HexText.{WritesSome}
@@ -83,7 +83,6 @@ RefusesToPrepare path (Framing why) = ⊥
 RefusesToPrepare path (Core why) = ⊥
 RefusesToPrepare path Cut = ⊥
 RefusesToPrepare path (Calls n) = ⊥
-RefusesToPrepare path BadLimits = ⊥
 RefusesToPrepare path (Journal why) = ⊥
 RefusesToPrepare path (History position) = ⊥
 RefusesToPrepare path (Absent what) = ⊥

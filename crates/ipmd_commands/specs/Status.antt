@@ -24,14 +24,12 @@ use Rattle.journal_files.specs.FaultTexts.{text_of_fault as text_of_journal}
 use Rattle.journal_files.specs.declared.fault.JournalFault.TheVariants as journal
 use Rattle.journal_files.specs.declared.read_fault.ReadFault.{ReadFault}
 use Rattle.journal_files.specs.declared.read_fault.ReadFault.TheVariants as reading
-use Rattle.mediator_calls.specs.declared.fault.RunFault.{RunFault}
-use Rattle.mediator_calls.specs.declared.fault.RunFault.TheVariants as run
 use Rattle.ipmd_commands.specs.Absent.{text_of_absent}
 use Rattle.ipmd_commands.specs.Failures.{IsLineOf, failed_at}
 use Rattle.ipmd_commands.specs.declared.failure.Failure.{Failure}
 use Rattle.ipmd_commands.specs.declared.failure.Place.TheVariants as placed
 use Rattle.ipmd_commands.specs.declared.fault.ProgramFault.{ProgramFault}
-use Rattle.ipmd_commands.specs.declared.fault.ProgramFault.TheVariants.{CommandLine, Settings, Policy, Hex, Framing, Core, Cut, Calls, BadLimits, Journal, History, Absent, Close, OutOfMemory, Device}
+use Rattle.ipmd_commands.specs.declared.fault.ProgramFault.TheVariants.{CommandLine, Settings, Policy, Hex, Framing, Core, Cut, Calls, Journal, History, Absent, Close, OutOfMemory, Device}
 
 -- 1: what was read is refused, or memory runs out; 2: the command line is refused; 3: a file, a stream or an address fails
 abbrev pub status_of : ProgramFault → ℕ
@@ -43,7 +41,6 @@ status_of (Framing _) = 1
 status_of (Core _) = 1
 status_of Cut = 1
 status_of (Calls _) = 1
-status_of BadLimits = 1
 status_of (Journal _) = 1
 status_of (History _) = 1
 status_of (Absent _) = 1
@@ -61,7 +58,6 @@ text_of (Framing why) = Some (codes "ipmd: framing " ++ text_of_framing why)
 text_of (Core why) = Some (codes "ipmd: " ++ text_of_fault why)
 text_of Cut = Some (codes "ipmd: Cut")
 text_of (Calls line) = Some (codes "ipmd: calls line " ++ decimal line)
-text_of BadLimits = Some (codes "ipmd: BadLimits")
 text_of (Journal why) = Some (codes "ipmd: journal " ++ text_of_journal why)
 text_of (History position) = Some (codes "ipmd: journal BadHistory " ++ decimal position)
 text_of (Absent what) = Some (codes "ipmd: journal " ++ text_of_absent what)
@@ -140,11 +136,6 @@ offline_fault_of input output offline.Cut = Cut
 abbrev pub calls_fault_of : CallsFault → ProgramFault
 calls_fault_of (calls.Line n) = Calls n
 calls_fault_of calls.OutOfMemory = OutOfMemory
-
--- why a run isn't begun
-abbrev pub run_fault_of : RunFault → ProgramFault
-run_fault_of run.BadLimits = BadLimits
-run_fault_of run.OutOfMemory = OutOfMemory
 
 -- why no more was read of a journal's file, whose path isn't known here; want of memory is no fault of the file
 abbrev pub read_fault_of : ReadFault → ProgramFault

@@ -8,7 +8,6 @@ use crate::failure::{Failure, Place};
 use ipmd_command_line::CommandLineFault;
 use ipmd_settings::SettingsFault;
 use journal_files::{JournalFault, ReadFault};
-use mediator_calls::RunFault;
 use mediator_offline::{Fault, FramingFault};
 use octet_io::{Device, write_all};
 use policy_text::{FaultKind, PolicyFault};
@@ -74,8 +73,6 @@ pub enum ProgramFault {
     Cut,
     /// The line of this number is no call.
     Calls(usize),
-    /// The limits of a list of calls are out of their ranges.
-    BadLimits,
     /// The octets are no journal's file, and this is the first fault of it.
     Journal(JournalFault),
     /// A journal's entry at this position is none that a mediator may have accepted there. All entries before it are.
@@ -110,7 +107,6 @@ impl Display for ProgramFault {
             ProgramFault::Core(why) => write!(f, "ipmd: {why}"),
             ProgramFault::Cut => f.write_str("ipmd: Cut"),
             ProgramFault::Calls(line) => write!(f, "ipmd: calls line {line}"),
-            ProgramFault::BadLimits => f.write_str("ipmd: BadLimits"),
             ProgramFault::Journal(why) => write!(f, "ipmd: journal {why}"),
             ProgramFault::History(position) => { write!(f, "ipmd: journal BadHistory {position}") }
             ProgramFault::Absent(what) => write!(f, "ipmd: journal {what}"),
@@ -179,7 +175,6 @@ impl ProgramFault {
             | ProgramFault::Core(_)
             | ProgramFault::Cut
             | ProgramFault::Calls(_)
-            | ProgramFault::BadLimits
             | ProgramFault::Journal(_)
             | ProgramFault::History(_)
             | ProgramFault::Absent(_)
@@ -345,20 +340,6 @@ impl From<CallsFault> for ProgramFault {
         match fault {
             CallsFault::Line(line) => ProgramFault::Calls(line),
             CallsFault::OutOfMemory => ProgramFault::OutOfMemory,
-        }
-    }
-}
-
-impl From<RunFault> for ProgramFault {
-    ghost use Rattle.std.specs.Prelude.{◌≡◌};
-    ghost use Rattle.ipmd_commands.specs.Status.{run_fault_of};
-
-    ghost from_gives = { λ f e. e ≡ run_fault_of f };
-
-    fn from(fault: RunFault) -> ProgramFault {
-        match fault {
-            RunFault::BadLimits => ProgramFault::BadLimits,
-            RunFault::OutOfMemory => ProgramFault::OutOfMemory,
         }
     }
 }

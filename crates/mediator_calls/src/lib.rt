@@ -3,7 +3,8 @@
 //! - `mediator`: [`Mediator`], with its calls. `finished`: [`Finished`], the journal that stays of a run.
 //! - `call`: [`Call`] and [`Reply`].
 //! - `ids`: [`SessionId`] and [`SubId`]. `limits`: [`Limits`], with the ranges that a mediator allows.
-//! - `fault`: [`RunFault`] and [`UnknownSub`]; the other refusals are [`mediator_state::Fault`].
+//!
+//! Refusals are [`mediator_state::Fault`].
 //!
 //! Proved of each call, by what contracts see of a mediator (its history, the places of its live subscriptions, how
 //! many audit entries were drained, its limits): an accepted call answers what the history says and goes on with just
@@ -16,14 +17,12 @@
 #![tactic(auto)]
 
 mod call;
-mod fault;
 mod finished;
 mod ids;
 mod limits;
 mod mediator;
 
 pub use call::{Call, Reply};
-pub use fault::{RunFault, UnknownSub};
 pub use finished::Finished;
 pub use ids::{SessionId, SubId};
 pub use limits::Limits;

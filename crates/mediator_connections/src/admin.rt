@@ -16,7 +16,7 @@ use crate::room::wait_for_advance;
 use admin_text::{Answer, Command, Topic, read_command, write_answer};
 use answer_writing::{AnswerBuffer, Stopped, drained_length};
 use disclosure_audit::AuditEntry;
-use mediator_calls::{SubId, UnknownSub};
+use mediator_calls::SubId;
 use mediator_state::Fault;
 use octet_io::{Sink, Source};
 use shared_mediator::{
@@ -364,7 +364,7 @@ fn status<E: EntryLedger, H: RecordLedger>(
 {
     match handle.status(rt, shared, SubId(sub)) {
         Ok(status) => Answer::Stands(status),
-        Err(UnknownSub) => Answer::Refused(Fault::UnknownSub),
+        Err(fault) => Answer::Refused(fault),
     }
 }
 

@@ -7,7 +7,7 @@ ghost use Rattle.mediator_connections.specs.Delivering.{Delivers, FailsToDeliver
 
 use crate::clock::Clock;
 use crate::fault::ServeFault;
-use mediator_calls::{SubId, UnknownSub};
+use mediator_calls::SubId;
 use octet_io::{Sink, write_all};
 use shared_mediator::{
     AdminHandle, DeliveryHandle, EntryLedger, Handed, PullFault, RecordLedger, SharedMediator,
@@ -76,7 +76,7 @@ fn records_waiting<E: EntryLedger, H: RecordLedger>(
 ) -> u64 {
     match admin.status(rt, shared, sub) {
         Ok(status) => u64::from(status.queued),
-        Err(UnknownSub) => 0,
+        Err(_) => 0,
     }
 }
 

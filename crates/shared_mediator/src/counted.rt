@@ -1,6 +1,7 @@
 //! A mediator with the counts of what it took in and handed out, for those who call it from several threads.
 ghost use Rattle.std.specs.Prelude.{◌≡◌, ◌≤◌, [], take, false, length, IsOk, IfOk, IfErr, OnOk, OnErr};
 ghost use Rattle.mediator_history.specs.Subscriptions.{is_live};
+ghost use Rattle.mediator_state.specs.declared.fault.Fault.TheVariants.{UnknownSub};
 ghost use Rattle.mediator_state.specs.Calls.{IsSnapshot, RefusesSnapshot, RefusesClose, RefusesEdit, RefusesSubscribe, RefusesUnsubscribe};
 ghost use Rattle.mediator_calls.specs.Mediation.{noted_at, journal_limits};
 ghost use Rattle.mediator_calls.specs.Calls.{Opens, RefusesOpen, Closes, Receives, RefusesReceive, RefusesReceivePrepared, Edits, Subscribes, Unsubscribes, Advances, RefusesAdvance, IsStatusOf, Drains};
@@ -11,7 +12,7 @@ use crate::fault::PullFault;
 use crate::handed::Handed;
 use bytes::Bytes;
 use disclosure_audit::AuditEntry;
-use mediator_calls::{Mediator, SessionId, SubId, UnknownSub};
+use mediator_calls::{Mediator, SessionId, SubId};
 use mediator_state::{Fault, Receipt, Status};
 use mediator_tables::Share;
 use prepared_message::{JudgedAhead, Prepared, Snapshot};
@@ -331,10 +332,11 @@ impl CountedMediator {
     /// How the live subscription with the number `sub` stands.
     ///
     /// # Errors
-    /// [`UnknownSub`] where no subscription with this number is live.
-    pub fn status(&self, sub: SubId) -> Result<Status, UnknownSub>
+    /// [`Fault::UnknownSub`] where no subscription with this number is live.
+    pub fn status(&self, sub: SubId) -> Result<Status, Fault>
         ensures ok { IfOk result (λ status. IsStatusOf self.now.core sub.0 status) }
         ensures err { OnErr result (is_live sub.0 self.now.core.history ≡ false) }
+        ensures fault { IfErr result (λ e. e ≡ UnknownSub) }
     {
         self.mediator.status(sub)
     }

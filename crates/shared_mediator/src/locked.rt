@@ -1,6 +1,7 @@
 //! What lies under the lock: the mediator, with the books of what each handle adds to it.
 ghost use Rattle.std.specs.Prelude.{◌≡◌, ◌+◌, ◌*◌, ◌<◌, [], take, true, false, length, IsOk, IfOk, IfErr, OnOk, OnErr};
 ghost use Rattle.mediator_history.specs.Subscriptions.{is_live};
+ghost use Rattle.mediator_state.specs.declared.fault.Fault.TheVariants.{UnknownSub};
 ghost use Rattle.mediator_state.specs.Calls.{IsSnapshot, RefusesSnapshot, RefusesClose, RefusesEdit, RefusesSubscribe, RefusesUnsubscribe};
 ghost use Rattle.mediator_calls.specs.Mediation.{noted_at, journal_limits};
 ghost use Rattle.mediator_calls.specs.Sound.{IsSound};
@@ -18,7 +19,7 @@ use crate::handed::Handed;
 use crate::ledgers::{EntryLedger, RecordLedger};
 use bytes::Bytes;
 use disclosure_audit::AuditEntry;
-use mediator_calls::{Mediator, SessionId, SubId, UnknownSub};
+use mediator_calls::{Mediator, SessionId, SubId};
 use mediator_state::{Fault, Receipt, Status};
 use mediator_tables::Share as Given;
 use prepared_message::{JudgedAhead, Prepared, Snapshot};
@@ -478,10 +479,11 @@ impl<E: EntryLedger, H: RecordLedger> LockedMediator<E, H> {
     /// How the live subscription with the number `sub` stands.
     ///
     /// # Errors
-    /// [`UnknownSub`] where none with this number is live.
-    pub(crate) fn status(&self, sub: SubId) -> Result<Status, UnknownSub>
+    /// [`Fault::UnknownSub`] where none with this number is live.
+    pub(crate) fn status(&self, sub: SubId) -> Result<Status, Fault>
         ensures ok { IfOk result (λ status. IsStatusOf self.now.counted.core sub.0 status) }
         ensures err { OnErr result (is_live sub.0 self.now.counted.core.history ≡ false) }
+        ensures fault { IfErr result (λ e. e ≡ UnknownSub) }
     {
         self.counted.status(sub)
     }

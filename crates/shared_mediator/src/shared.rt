@@ -1,5 +1,6 @@
 //! A mediator that threads share by one lock.
-ghost use Rattle.std.specs.Prelude.{◌≡◌, ◌+◌, ◌*◌, [], IfOk};
+ghost use Rattle.std.specs.Prelude.{◌≡◌, ◌+◌, ◌*◌, [], IfOk, IfErr};
+ghost use Rattle.mediator_state.specs.declared.fault.Fault.TheVariants.{UnknownSub};
 ghost use Rattle.shared_mediator.specs.Counted.{handed_live};
 
 use crate::admin::AdminHandle;
@@ -9,8 +10,8 @@ use crate::fault::HandleFault;
 use crate::fill::Fill;
 use crate::ledgers::{EntryLedger, RecordLedger};
 use crate::locked::LockedMediator;
-use mediator_calls::{Mediator, SubId, UnknownSub};
-use mediator_state::Status;
+use mediator_calls::{Mediator, SubId};
+use mediator_state::{Fault, Status};
 use mediator_tables::Share;
 use std::alloc::Global;
 use std::sync::ledger::Blank;
@@ -147,8 +148,10 @@ impl<E: EntryLedger, H: RecordLedger> SharedMediator<E, H> {
     /// How the live subscription with the number `sub` stands. It waits for the lock by `rt`.
     ///
     /// # Errors
-    /// [`UnknownSub`] where no subscription with this number is live.
-    pub fn status(&self, rt: &impl Wait, sub: SubId) -> Result<Status, UnknownSub> {
+    /// [`Fault::UnknownSub`] where no subscription with this number is live.
+    pub fn status(&self, rt: &impl Wait, sub: SubId) -> Result<Status, Fault>
+        ensures { IfErr result (λ e. e ≡ UnknownSub) }
+    {
         self.locked(rt).status(sub)
     }
 

@@ -6,7 +6,7 @@ use crate::returned_handles::{
 };
 use crate::stage::{Case, ReturnedHandles, play};
 use mediator_connections::{Clock, ServeFault, deliver};
-use mediator_core::{Fault, SubId, UnknownSub};
+use mediator_core::{Fault, SubId};
 use octet_io::Device;
 use shared_mediator::{
     AdminHandle, DeliveryHandle, EntryLedger, ExporterHandle, PullFault, RecordLedger,
@@ -143,7 +143,7 @@ fn expect_delivered<E: EntryLedger, H: RecordLedger, R: Wait + Abort>(
     }
     let left = match delivered.admin.status(rt, shared, SubId(1)) {
         Ok(status) => Some((status.queued, status.handed)),
-        Err(UnknownSub) => None,
+        Err(_) => None,
     };
     assert!(rt; left == row.left, "{left:?}");
     let again = delivered.admin.subscribe(rt, shared, "acme");

@@ -7,7 +7,7 @@ use bytes::Bytes;
 use disclosure_audit::line;
 use ipfix_message::DecodeError;
 use ipfix_session::{ReadError, Skips};
-use mediator_core::{Fault, Finished, Receipt, Status, SubId, UnknownSub};
+use mediator_core::{Fault, Finished, Receipt, Status, SubId};
 use policy_text::{FaultKind, PolicyFault};
 use shared_mediator::{
     AdminHandle, CloseFault, DeliveryHandle, EntryLedger, ExporterHandle, HandleFault, PullFault,
@@ -201,7 +201,7 @@ fn expect_gone<E: EntryLedger, H: RecordLedger, R: Wait + Abort>(
     let gone = delivery.pull(rt, shared, NOW, TARGET);
     assert!(rt; gone == Err(PullFault::Core(Fault::UnknownSub)));
     let unknown = admin.status(rt, shared, SubId(1));
-    assert!(rt; unknown == Err(UnknownSub));
+    assert!(rt; unknown == Err(Fault::UnknownSub));
     let full = admin.advance(rt, shared, 1000);
     assert!(rt; full == Err(Fault::JournalFull));
 }
