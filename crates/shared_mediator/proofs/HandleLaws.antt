@@ -3,12 +3,19 @@ use Rattle.std.proofs.Common.{◌≡◌, ℕ, ◌+◌, ◌<◌, Bool, true, List
 use Rattle.std.specs.List.{AllByRecursion}
 use Rattle.std.proofs.lemmas.List.{length-append, take_more}
 use Rattle.sequences.proofs.ListLaws.{AllByRecursion-append}
+use Rattle.event_journal.specs.declared.entry.Entry.{Entry}
 use Rattle.event_journal.specs.declared.entry.Entry.TheVariants.{Message}
+use Rattle.prepared_message.specs.Preparation.{Preparation}
+use Rattle.mediator_state.specs.declared.fault.Fault.{Fault}
+use Rattle.mediator_state.specs.declared.fault.Fault.TheVariants as fault
+use Rattle.mediator_state.specs.Calls.{RefusesSnapshot}
+use Rattle.mediator_calls.specs.Mediation.{Mediation}
+use Rattle.mediator_calls.specs.Calls.{RefusesReceive, RefusesReceivePrepared}
 use Rattle.shared_mediator.specs.declared.kept.KeptEntry.{KeptEntry}
 use Rattle.shared_mediator.specs.declared.handed.Handed.{Handed}
 use Rattle.shared_mediator.specs.Counted.{has_receipt}
 use Rattle.shared_mediator.specs.Locked.{Exporting}
-use Rattle.shared_mediator.specs.Handles.{HasReceipt, IsMessage, AreMessages, IsExporting, IsBuilt, KeepsHanded, KeepsSome}
+use Rattle.shared_mediator.specs.Handles.{HasReceipt, IsMessage, AreMessages, IsExporting, RefusesOffer, IsBuilt, KeepsHanded, KeepsSome}
 use Rattle.shared_mediator.specs.Closing.{KeepsMessages}
 
 -- messages have receipts
@@ -61,3 +68,30 @@ keeps_zero old new now target count so none = so.kept ∙ ap (λ t. old ++ t) (e
     empty : (hs : List Handed) → length hs ≡ 0 → hs ≡ []
     empty [] l = refl
     empty (h ∷ hs) l = absurd (omega (arith, l))
+
+-- ---- why an offer is refused
+
+pub offer_refused : (why : Fault) (m : Mediation) (session number : ℕ) (octets : List ℕ) → RefusesReceive why m session number octets → RefusesOffer why
+offer_refused fault.UnknownSession m session number octets r = tt
+offer_refused (fault.OutOfTurn expected) m session number octets r = tt
+offer_refused (fault.Malformed why) m session number octets r = tt
+offer_refused fault.Stale m session number octets r = tt
+offer_refused fault.JournalFull m session number octets r = tt
+offer_refused (fault.AuditFull need room) m session number octets r = tt
+offer_refused fault.OutOfMemory m session number octets r = tt
+offer_refused _ m session number octets r = absurd r
+
+pub prepared_refused : (why : Fault) (m : Mediation) (session number : ℕ) (p : Preparation) → RefusesReceivePrepared why m session number p → RefusesOffer why
+prepared_refused fault.UnknownSession m session number p r = tt
+prepared_refused (fault.OutOfTurn expected) m session number p r = tt
+prepared_refused (fault.Malformed why) m session number p r = tt
+prepared_refused fault.Stale m session number p r = tt
+prepared_refused fault.JournalFull m session number p r = tt
+prepared_refused (fault.AuditFull need room) m session number p r = tt
+prepared_refused fault.OutOfMemory m session number p r = tt
+prepared_refused _ m session number p r = absurd r
+
+pub snapshot_refused : (why : Fault) (h : List Entry) (session : ℕ) → RefusesSnapshot why h session → RefusesOffer why
+snapshot_refused fault.UnknownSession h session r = tt
+snapshot_refused fault.OutOfMemory h session r = tt
+snapshot_refused _ h session r = absurd r

@@ -8,7 +8,6 @@ ghost use Rattle.mediator_calls.specs.Calls.{Opens, RefusesOpen, Closes, Receive
 ghost use Rattle.shared_mediator.specs.Counted.{counted_as, handed_at, handed_live, handed_of, Counts};
 ghost use Rattle.shared_mediator.specs.Handing.{HandsOut, RefusesHanding};
 
-use crate::fault::PullFault;
 use crate::handed::Handed;
 use bytes::Bytes;
 use disclosure_audit::AuditEntry;
@@ -297,10 +296,9 @@ impl CountedMediator {
     /// `target`, and counts its records as handed out; or answers `None` where nothing waits.
     ///
     /// # Errors
-    /// [`PullFault::Core`] with [`Fault::UnknownSub`] where the subscription isn't live; [`PullFault::HandedFull`]
-    /// where the count has no room for all that waits for it; or [`PullFault::Core`] with [`Fault::OutOfMemory`].
-    /// Nothing has changed then.
-    pub fn pull(&mut self, sub: SubId, now: u32, target: u16) -> Result<Option<Handed>, PullFault>
+    /// [`Fault::UnknownSub`] where the subscription isn't live; [`Fault::HandedFull`] where the count has no room for
+    /// all that waits for it; or [`Fault::OutOfMemory`]. Nothing has changed then.
+    pub fn pull(&mut self, sub: SubId, now: u32, target: u16) -> Result<Option<Handed>, Fault>
         ensures ok { IfOk result (λ answer. HandsOut self.old sub.0 now target answer self.new) }
         ensures unchanged { OnErr result (self.new ≡ self.old) }
         ensures err { IfErr result (λ e. RefusesHanding e self.old sub.0) }
@@ -308,18 +306,18 @@ impl CountedMediator {
         let _journal = self.mediator.journal();
         let before = match self.mediator.status(sub) {
             Ok(before) => before,
-            Err(_) => return Err(PullFault::Core(Fault::UnknownSub)),
+            Err(_) => return Err(Fault::UnknownSub),
         };
         if before.queued as u64 > u64::MAX - self.handed {
-            return Err(PullFault::HandedFull);
+            return Err(Fault::HandedFull);
         }
         let message = match self.mediator.pull(sub, now, target) {
             Ok(message) => message,
-            Err(fault) => return Err(PullFault::Core(fault)),
+            Err(fault) => return Err(fault),
         };
         let after = match self.mediator.status(sub) {
             Ok(after) => after,
-            Err(_) => return Err(PullFault::Core(Fault::UnknownSub)),
+            Err(_) => return Err(Fault::UnknownSub),
         };
         let records = after.handed - before.handed;
         self.handed += records;

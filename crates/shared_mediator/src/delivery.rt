@@ -4,7 +4,6 @@ ghost use Rattle.std.specs.Option.{option_copied};
 ghost use Rattle.shared_mediator.specs.Locked.{delivering_as};
 ghost use Rattle.shared_mediator.specs.Handles.{KeepsHanded, KeepsSome, records_kept};
 
-use crate::fault::PullFault;
 use crate::handed::Handed;
 use crate::ledgers::{EntryLedger, RecordLedger};
 use crate::locked::LockedMediator;
@@ -97,16 +96,15 @@ impl<H: RecordLedger> DeliveryHandle<H> {
     /// It waits for the lock by `rt`.
     ///
     /// # Errors
-    /// [`PullFault::Core`] with [`Fault::UnknownSub`] where the subscription isn't live; [`PullFault::HandedFull`]
-    /// where the count of records handed out has no room for all that waits; or [`PullFault::Core`] with
-    /// [`Fault::OutOfMemory`]. Nothing has changed then.
+    /// [`Fault::UnknownSub`] where the subscription isn't live; [`Fault::HandedFull`] where the count of records handed
+    /// out has no room for all that waits; or [`Fault::OutOfMemory`]. Nothing has changed then.
     pub fn pull<E: EntryLedger>(
         &mut self,
         rt: &impl Wait,
         shared: &SharedMediator<E, H>,
         now: u32,
         target: u16,
-    ) -> Result<bool, PullFault>
+    ) -> Result<bool, Fault>
         ensures kept { IfOk result (λ some_message.
             KeepsHanded self.old.kept now target some_message self.new.kept) }
         ensures sub { self.new.sub ≡ self.old.sub }
@@ -129,7 +127,7 @@ impl<H: RecordLedger> DeliveryHandle<H> {
         now: u32,
         target: u16,
         most: u64,
-    ) -> Result<u64, PullFault>
+    ) -> Result<u64, Fault>
         ensures kept { IfOk result (λ count.
             KeepsSome self.old.kept now target count self.new.kept) }
         ensures most { IfOk result (λ count. count ≤ most) }
@@ -158,14 +156,14 @@ impl<H: RecordLedger> DeliveryHandle<H> {
         locked: &mut LockedMediator<E, H>,
         now: u32,
         target: u16,
-    ) -> Result<bool, PullFault>
+    ) -> Result<bool, Fault>
         ensures kept { IfOk result (λ some_message.
             KeepsHanded self.old.kept now target some_message self.new.kept) }
         ensures sub { self.new.sub ≡ self.old.sub }
         ensures unchanged { OnErr result (self.new ≡ self.old) }
     {
         if self.kept.reserve(1).is_err() {
-            return Err(PullFault::Core(Fault::OutOfMemory));
+            return Err(Fault::OutOfMemory);
         }
         match locked.pull(&mut self.share, self.sub, now, target)? {
             Some(handed) => {
