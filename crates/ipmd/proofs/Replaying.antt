@@ -18,20 +18,8 @@ use Rattle.ipmd.specs.Replays.{BeginsToAnswer, RefusesText, RefusesToReplay}
 -- its limits are at fault, or memory ran out
 pub no_run : (text : List ℕ) (list : CallList) (why : Fault) → list_of text ≡ Ok (asked list) → RefusesLimits why list.limits → RefusesText (core_fault_of why) text
 no_run text list fault.BadLimits read refused = record { list = list; read = read; bad = refused }
-no_run text list fault.UnknownSession read refused = absurd refused
-no_run text list (fault.OutOfTurn expected) read refused = absurd refused
-no_run text list (fault.Malformed why) read refused = absurd refused
-no_run text list fault.Stale read refused = absurd refused
-no_run text list (fault.Policy why) read refused = absurd refused
-no_run text list fault.BadName read refused = absurd refused
-no_run text list (fault.AlreadySubscribed sub) read refused = absurd refused
-no_run text list fault.UnknownSub read refused = absurd refused
-no_run text list fault.NoHandle read refused = absurd refused
-no_run text list fault.HandedFull read refused = absurd refused
-no_run text list (fault.ClockBack last) read refused = absurd refused
-no_run text list fault.JournalFull read refused = absurd refused
-no_run text list (fault.AuditFull need room) read refused = absurd refused
 no_run text list fault.OutOfMemory read refused = tt
+no_run text list _ read refused = absurd refused
 
 -- the file of the calls can't be read
 pub no_calls : (options : ReplayOptions) (e : ProgramFault) (held : Option (List ℕ)) → IsFileFault options.calls.now e → RefusesToReplay options e held held

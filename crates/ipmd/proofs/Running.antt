@@ -157,20 +157,8 @@ kept_somewhere path number e (inr fault) = (file_name path number, fault)
 -- a mediator with limits that it may have is refused for memory alone
 pub new_refused : (why : Fault) (limits : Limits) → RefusesLimits why limits → AreAllowed limits → IsListenFault (core_fault_of why)
 new_refused fault.BadLimits limits refused allowed = absurd (refused allowed)
-new_refused fault.UnknownSession limits refused allowed = absurd refused
-new_refused (fault.OutOfTurn expected) limits refused allowed = absurd refused
-new_refused (fault.Malformed why) limits refused allowed = absurd refused
-new_refused fault.Stale limits refused allowed = absurd refused
-new_refused (fault.Policy why) limits refused allowed = absurd refused
-new_refused fault.BadName limits refused allowed = absurd refused
-new_refused (fault.AlreadySubscribed sub) limits refused allowed = absurd refused
-new_refused fault.UnknownSub limits refused allowed = absurd refused
-new_refused fault.NoHandle limits refused allowed = absurd refused
-new_refused fault.HandedFull limits refused allowed = absurd refused
-new_refused (fault.ClockBack last) limits refused allowed = absurd refused
-new_refused fault.JournalFull limits refused allowed = absurd refused
-new_refused (fault.AuditFull need room) limits refused allowed = absurd refused
 new_refused fault.OutOfMemory limits refused allowed = (listen.Core fault.OutOfMemory, refl)
+new_refused _ limits refused allowed = absurd refused
 
 -- nothing was written of a run's line, some of it, or all of it
 pub told_nothing : (made : Run) (held : Option (List ℕ)) → RefusesToTell OutOfMemory made held held

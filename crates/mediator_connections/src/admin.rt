@@ -19,9 +19,7 @@ use disclosure_audit::AuditEntry;
 use mediator_calls::SubId;
 use mediator_state::Fault;
 use octet_io::{Sink, Source};
-use shared_mediator::{
-    AdminHandle, EntryLedger, KeptEntry, PullFault, RecordLedger, SharedMediator,
-};
+use shared_mediator::{AdminHandle, EntryLedger, KeptEntry, RecordLedger, SharedMediator};
 use std::alloc::{AllocError, Global};
 use std::str::from_utf8;
 use std::sync::Wait;
@@ -466,6 +464,6 @@ fn reply<W: Sink>(
     match write_answer(alloc, buffer, writer, answer, sent) {
         Ok(sent) => Ok(sent),
         Err(Stopped::Failed { sent }) => Err(ServeFault::Write { sent }),
-        Err(Stopped::Uncounted) => Err(ServeFault::Core(PullFault::HandedFull)),
+        Err(Stopped::Uncounted) => Err(ServeFault::Core(Fault::HandedFull)),
     }
 }

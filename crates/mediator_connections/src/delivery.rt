@@ -10,8 +10,7 @@ use crate::fault::ServeFault;
 use mediator_calls::SubId;
 use octet_io::{Sink, write_all};
 use shared_mediator::{
-    AdminHandle, DeliveryHandle, EntryLedger, Handed, PullFault, RecordLedger, SharedMediator,
-    Waited,
+    AdminHandle, DeliveryHandle, EntryLedger, Handed, RecordLedger, SharedMediator, Waited,
 };
 use std::alloc::{AllocError, Global};
 use std::sync::Wait;
@@ -121,7 +120,7 @@ fn send_messages<E: EntryLedger, H: RecordLedger, W: Sink, C: Clock>(
     let mut sent = 0u64;
     'pulls: for _ in rt.forever() {
         if sent > u64::MAX - MOST_AT_ONCE * LONGEST_MESSAGE {
-            return Err(ServeFault::Core(PullFault::HandedFull));
+            return Err(ServeFault::Core(Fault::HandedFull));
         }
         let before = handle.kept().len();
         if handle.pull_some(rt, shared, clock.now(), target, MOST_AT_ONCE)? > 0 {

@@ -2,7 +2,6 @@
 
 use ipfix_reader::{FramingFault, IntakeFault};
 use mediator_state::Fault;
-use shared_mediator::PullFault;
 use std::alloc::AllocError;
 use std::error::Error;
 use std::fmt::{self, Display, Formatter, Write};
@@ -25,7 +24,7 @@ pub enum ServeFault {
     /// subscriptions: it isn't offered.
     TooManyCounts,
     /// The mediator refused a call; or memory ran out; or the octets that were sent can't be counted any further.
-    Core(PullFault),
+    Core(Fault),
 }
 
 impl Error for ServeFault {}
@@ -49,26 +48,14 @@ impl Display for ServeFault {
     }
 }
 
-impl From<PullFault> for ServeFault {
+impl From<Fault> for ServeFault {
     ghost use Rattle.std.specs.Prelude.{◌≡◌};
     ghost use Rattle.mediator_connections.specs.declared.fault.ServeFault.TheVariants.{Core};
 
     ghost from_gives = { λ f e. e ≡ Core f };
 
-    fn from(fault: PullFault) -> ServeFault {
-        ServeFault::Core(fault)
-    }
-}
-
-impl From<Fault> for ServeFault {
-    ghost use Rattle.std.specs.Prelude.{◌≡◌};
-    ghost use Rattle.shared_mediator.specs.declared.fault.PullFault.TheVariants as pull;
-    ghost use Rattle.mediator_connections.specs.declared.fault.ServeFault.TheVariants.{Core};
-
-    ghost from_gives = { λ f e. e ≡ Core (pull.Core f) };
-
     fn from(fault: Fault) -> ServeFault {
-        ServeFault::Core(PullFault::Core(fault))
+        ServeFault::Core(fault)
     }
 }
 
@@ -79,7 +66,7 @@ impl From<AllocError> for ServeFault {
     ghost from_gives = { λ _ e. e ≡ out_of_memory };
 
     fn from(_e: AllocError) -> ServeFault {
-        ServeFault::Core(PullFault::Core(Fault::OutOfMemory))
+        ServeFault::Core(Fault::OutOfMemory)
     }
 }
 
@@ -94,7 +81,7 @@ impl From<IntakeFault> for ServeFault {
             IntakeFault::Read => ServeFault::Read,
             IntakeFault::Framing(why) => ServeFault::Framing(why),
             IntakeFault::Turns => ServeFault::Turns,
-            IntakeFault::OutOfMemory => ServeFault::Core(PullFault::Core(Fault::OutOfMemory)),
+            IntakeFault::OutOfMemory => ServeFault::Core(Fault::OutOfMemory),
         }
     }
 }

@@ -9,7 +9,7 @@ use crate::service::{Handles, serve};
 use log::Log;
 use mediator_calls::Mediator;
 use mediator_state::Fault;
-use shared_mediator::{CloseFault, Closed, EntryLedger, HandleFault, RecordLedger, SharedMediator};
+use shared_mediator::{CloseFault, Closed, EntryLedger, RecordLedger, SharedMediator};
 use std::alloc::{AllocError, Global};
 use std::error::Error;
 use std::fmt::{self, Display, Formatter, Write};
@@ -76,23 +76,17 @@ impl ListenFault {
 
 impl From<Fault> for ListenFault {
     fn from(fault: Fault) -> ListenFault {
-        ListenFault::Core(fault)
+        match fault {
+            // Each handle is one thread's own.
+            Fault::NoHandle => ListenFault::NoThread,
+            why => ListenFault::Core(why),
+        }
     }
 }
 
 impl From<AllocError> for ListenFault {
     fn from(_e: AllocError) -> ListenFault {
         ListenFault::Core(Fault::OutOfMemory)
-    }
-}
-
-impl From<HandleFault> for ListenFault {
-    fn from(fault: HandleFault) -> ListenFault {
-        match fault {
-            // Each handle is one thread's own.
-            HandleFault::NoHandle => ListenFault::NoThread,
-            HandleFault::Core(why) => ListenFault::Core(why),
-        }
     }
 }
 
