@@ -12,11 +12,11 @@ use Rattle.mediator_state.specs.declared.fault.Fault.TheVariants as fault
 use Rattle.mediator_calls.specs.Limited.{RefusesLimits}
 use Rattle.replay_text.specs.declared.call_list.CallList.{CallList}
 use Rattle.replay_text.specs.Lists.{asked, list_of}
-use Rattle.ipmd_commands.specs.Status.{core_fault_of}
+use Rattle.ipmd_commands.specs.Status.{mediator_fault_of}
 use Rattle.ipmd.specs.Replays.{BeginsToAnswer, RefusesText, RefusesToReplay}
 
 -- its limits are at fault, or memory ran out
-pub no_run : (text : List ℕ) (list : CallList) (why : Fault) → list_of text ≡ Ok (asked list) → RefusesLimits why list.limits → RefusesText (core_fault_of why) text
+pub no_run : (text : List ℕ) (list : CallList) (why : Fault) → list_of text ≡ Ok (asked list) → RefusesLimits why list.limits → RefusesText (mediator_fault_of why) text
 no_run text list fault.BadLimits read refused = record { list = list; read = read; bad = refused }
 no_run text list fault.OutOfMemory read refused = tt
 no_run text list _ read refused = absurd refused

@@ -18,7 +18,7 @@ use Rattle.ipmd_commands.specs.declared.fault.ProgramFault.TheVariants.{OutOfMem
 use Rattle.ipmd_commands.specs.declared.failure.Place.TheVariants.{Output, RandomNumbers}
 use Rattle.ipmd_commands.specs.Failures.{FailedAt}
 use Rattle.ipmd_commands.specs.HexText.{WritesSome}
-use Rattle.ipmd_commands.specs.Status.{core_fault_of}
+use Rattle.ipmd_commands.specs.Status.{mediator_fault_of}
 use Rattle.ipmd_run_journals.specs.Keeping.{IsKeepingFault, IsSomeFileFault, part_name}
 use Rattle.ipmd_run_journals.specs.Numbering.{file_name}
 use Rattle.ipmd.specs.declared.serve.Service.{Service}
@@ -155,9 +155,9 @@ kept_somewhere path number e (inl fault) = (part_name (file_name path number), f
 kept_somewhere path number e (inr fault) = (file_name path number, fault)
 
 -- a mediator with limits that it may have is refused for memory alone
-pub new_refused : (why : Fault) (limits : Limits) → RefusesLimits why limits → AreAllowed limits → IsListenFault (core_fault_of why)
+pub new_refused : (why : Fault) (limits : Limits) → RefusesLimits why limits → AreAllowed limits → IsListenFault (mediator_fault_of why)
 new_refused fault.BadLimits limits refused allowed = absurd (refused allowed)
-new_refused fault.OutOfMemory limits refused allowed = (listen.Core fault.OutOfMemory, refl)
+new_refused fault.OutOfMemory limits refused allowed = (listen.Mediator fault.OutOfMemory, refl)
 new_refused _ limits refused allowed = absurd refused
 
 -- nothing was written of a run's line, some of it, or all of it

@@ -12,7 +12,7 @@ use Rattle.policy_text.specs.declared.fault.FaultKind.{FaultKind}
 use Rattle.policy_text.specs.declared.fault.FaultKind.TheVariants as kind
 use Rattle.policy_text.specs.declared.fault.PolicyFault.{PolicyFault}
 use Rattle.mediator_state.specs.declared.fault.Fault.{Fault}
-use Rattle.mediator_state.specs.declared.fault.Fault.TheVariants as core
+use Rattle.mediator_state.specs.declared.fault.Fault.TheVariants as mediator
 use Rattle.mediator_offline.specs.declared.job.OfflineFault.{OfflineFault}
 use Rattle.mediator_offline.specs.declared.job.OfflineFault.TheVariants as offline
 use Rattle.replay_text.specs.declared.fault.CallsFault.{CallsFault}
@@ -29,7 +29,7 @@ use Rattle.ipmd_commands.specs.Failures.{IsLineOf, failed_at}
 use Rattle.ipmd_commands.specs.declared.failure.Failure.{Failure}
 use Rattle.ipmd_commands.specs.declared.failure.Place.TheVariants as placed
 use Rattle.ipmd_commands.specs.declared.fault.ProgramFault.{ProgramFault}
-use Rattle.ipmd_commands.specs.declared.fault.ProgramFault.TheVariants.{CommandLine, Settings, Policy, Hex, Framing, Core, Cut, Calls, Journal, History, Absent, Close, OutOfMemory, Device}
+use Rattle.ipmd_commands.specs.declared.fault.ProgramFault.TheVariants.{CommandLine, Settings, Policy, Hex, Framing, Mediator, Cut, Calls, Journal, History, Absent, Close, OutOfMemory, Device}
 
 -- 1: what was read is refused, or memory runs out; 2: the command line is refused; 3: a file, a stream or an address fails
 abbrev pub status_of : ProgramFault → ℕ
@@ -38,7 +38,7 @@ status_of (Settings _) = 1
 status_of (Policy _) = 1
 status_of Hex = 1
 status_of (Framing _) = 1
-status_of (Core _) = 1
+status_of (Mediator _) = 1
 status_of Cut = 1
 status_of (Calls _) = 1
 status_of (Journal _) = 1
@@ -55,7 +55,7 @@ text_of (Settings why) = Some (codes "ipmd: settings: " ++ text_of_settings why)
 text_of (Policy why) = Some (codes "ipmd: policy line " ++ decimal why.line ++ codes ": " ++ text_of_kind why.kind)
 text_of Hex = Some (codes "ipmd: hex")
 text_of (Framing why) = Some (codes "ipmd: framing " ++ text_of_framing why)
-text_of (Core why) = Some (codes "ipmd: " ++ text_of_fault why)
+text_of (Mediator why) = Some (codes "ipmd: " ++ text_of_fault why)
 text_of Cut = Some (codes "ipmd: Cut")
 text_of (Calls line) = Some (codes "ipmd: calls line " ++ decimal line)
 text_of (Journal why) = Some (codes "ipmd: journal " ++ text_of_journal why)
@@ -116,11 +116,11 @@ policy_fault_of fault kind.DoubleAggregate = Policy fault
 policy_fault_of fault kind.BadKey = Policy fault
 policy_fault_of fault kind.TooMany = Policy fault
 
--- what the core refuses
-abbrev pub core_fault_of : Fault → ProgramFault
-core_fault_of (core.Policy why) = policy_fault_of why why.kind
-core_fault_of core.OutOfMemory = OutOfMemory
-core_fault_of why = Core why
+-- what the mediator refuses
+abbrev pub mediator_fault_of : Fault → ProgramFault
+mediator_fault_of (mediator.Policy why) = policy_fault_of why why.kind
+mediator_fault_of mediator.OutOfMemory = OutOfMemory
+mediator_fault_of why = Mediator why
 
 -- why a stream was not filtered to its end, where its ends failed so; which file has the audit isn't known here
 abbrev pub offline_fault_of : Error → Error → OfflineFault → ProgramFault
@@ -129,7 +129,7 @@ offline_fault_of input output (offline.Write sent) = failed_at placed.Output out
 offline_fault_of input output offline.Turns = failed_at placed.Input input
 offline_fault_of input output offline.AuditWrite = Device None
 offline_fault_of input output (offline.Framing why) = Framing why
-offline_fault_of input output (offline.Core why) = core_fault_of why
+offline_fault_of input output (offline.Mediator why) = mediator_fault_of why
 offline_fault_of input output offline.Cut = Cut
 
 -- a list of calls that is refused for want of memory isn't at fault

@@ -67,8 +67,8 @@ pub enum ProgramFault {
     Hex,
     /// The input is no stream of messages.
     Framing(FramingFault),
-    /// The mediator refused a call, and not for its policy or for want of memory, which have variants of their own.
-    Core(Fault),
+    /// The mediator refused a call, or limits, and not for its policy or for want of memory, which have variants of their own.
+    Mediator(Fault),
     /// The subscription was cut.
     Cut,
     /// The line of this number is no call.
@@ -104,7 +104,7 @@ impl Display for ProgramFault {
             }
             ProgramFault::Hex => f.write_str("ipmd: hex"),
             ProgramFault::Framing(why) => write!(f, "ipmd: framing {why}"),
-            ProgramFault::Core(why) => write!(f, "ipmd: {why}"),
+            ProgramFault::Mediator(why) => write!(f, "ipmd: {why}"),
             ProgramFault::Cut => f.write_str("ipmd: Cut"),
             ProgramFault::Calls(line) => write!(f, "ipmd: calls line {line}"),
             ProgramFault::Journal(why) => write!(f, "ipmd: journal {why}"),
@@ -172,7 +172,7 @@ impl ProgramFault {
             | ProgramFault::Policy(_)
             | ProgramFault::Hex
             | ProgramFault::Framing(_)
-            | ProgramFault::Core(_)
+            | ProgramFault::Mediator(_)
             | ProgramFault::Cut
             | ProgramFault::Calls(_)
             | ProgramFault::Journal(_)
@@ -317,15 +317,15 @@ impl From<PolicyFault> for ProgramFault {
 
 impl From<Fault> for ProgramFault {
     ghost use Rattle.std.specs.Prelude.{◌≡◌};
-    ghost use Rattle.ipmd_commands.specs.Status.{core_fault_of};
+    ghost use Rattle.ipmd_commands.specs.Status.{mediator_fault_of};
 
-    ghost from_gives = { λ f e. e ≡ core_fault_of f };
+    ghost from_gives = { λ f e. e ≡ mediator_fault_of f };
 
     fn from(fault: Fault) -> ProgramFault {
         match fault {
             Fault::Policy(why) => ProgramFault::from(why),
             Fault::OutOfMemory => ProgramFault::OutOfMemory,
-            why => ProgramFault::Core(why),
+            why => ProgramFault::Mediator(why),
         }
     }
 }

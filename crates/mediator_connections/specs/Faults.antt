@@ -4,10 +4,10 @@ use Rattle.mediator_state.specs.declared.fault.Fault.TheVariants as fault
 use Rattle.ipfix_reader.specs.declared.fault.IntakeFault.{IntakeFault}
 use Rattle.ipfix_reader.specs.declared.fault.IntakeFault.TheVariants as intake
 use Rattle.mediator_connections.specs.declared.fault.ServeFault.{ServeFault}
-use Rattle.mediator_connections.specs.declared.fault.ServeFault.TheVariants.{Read, Write, Framing, Turns, Core}
+use Rattle.mediator_connections.specs.declared.fault.ServeFault.TheVariants.{Read, Write, Framing, Turns, Mediator}
 
 abbrev pub out_of_memory : ServeFault
-out_of_memory = Core fault.OutOfMemory
+out_of_memory = Mediator fault.OutOfMemory
 
 -- what an intake's refusal is called
 abbrev pub intake_refusal : IntakeFault → ServeFault

@@ -30,7 +30,7 @@ const MOST_AT_ONCE: u64 = 32;
 ///
 /// # Errors
 /// `Write` where the writer failed: it says how many octets were sent of all that was pulled. Only messages of the last pull were
-/// not sent whole. `Core` where the mediator refuses a pull, or the octets sent, with those of one pull more, might not be
+/// not sent whole. `Mediator` where the mediator refuses a pull, or the octets sent, with those of one pull more, might not be
 /// counted in 64 bits: all that was pulled before is sent. Beside the fault stands how many records waited for the subscription
 /// then, before it was ended; 0 where it is no longer live.
 pub fn deliver<E: EntryLedger, H: RecordLedger, W: Sink, C: Clock>(
@@ -120,7 +120,7 @@ fn send_messages<E: EntryLedger, H: RecordLedger, W: Sink, C: Clock>(
     let mut sent = 0u64;
     'pulls: for _ in rt.forever() {
         if sent > u64::MAX - MOST_AT_ONCE * LONGEST_MESSAGE {
-            return Err(ServeFault::Core(Fault::HandedFull));
+            return Err(ServeFault::Mediator(Fault::HandedFull));
         }
         let before = handle.kept().len();
         if handle.pull_some(rt, shared, clock.now(), target, MOST_AT_ONCE)? > 0 {

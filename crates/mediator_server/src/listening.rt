@@ -31,7 +31,7 @@ pub enum ListenFault {
     /// The system refused to start a thread.
     NoThread,
     /// The policy, or a subscription, was refused; or memory ran out.
-    Core(Fault),
+    Mediator(Fault),
     /// The run has ended, but the mediator isn't given back.
     Close(CloseFault),
 }
@@ -58,7 +58,7 @@ impl Display for ListenFault {
             ListenFault::Bind => "Bind",
             ListenFault::Connect { .. } => "Connect",
             ListenFault::NoThread => "NoThread",
-            ListenFault::Core(_) => "Core",
+            ListenFault::Mediator(_) => "Mediator",
             ListenFault::Close(_) => "Close",
         })
     }
@@ -68,7 +68,7 @@ impl ListenFault {
     /// What a refusal at a door is called: memory ran out, or it isn't open.
     pub(crate) fn at_door(fault: &io::Error) -> ListenFault {
         match fault.kind() {
-            ErrorKind::OutOfMemory => ListenFault::Core(Fault::OutOfMemory),
+            ErrorKind::OutOfMemory => ListenFault::Mediator(Fault::OutOfMemory),
             _ => ListenFault::Bind,
         }
     }
@@ -79,14 +79,14 @@ impl From<Fault> for ListenFault {
         match fault {
             // Each handle is one thread's own.
             Fault::NoHandle => ListenFault::NoThread,
-            why => ListenFault::Core(why),
+            why => ListenFault::Mediator(why),
         }
     }
 }
 
 impl From<AllocError> for ListenFault {
     fn from(_e: AllocError) -> ListenFault {
-        ListenFault::Core(Fault::OutOfMemory)
+        ListenFault::Mediator(Fault::OutOfMemory)
     }
 }
 
@@ -121,8 +121,8 @@ fn handles_for(plan: &Plan) -> u64
 /// to nobody. Who comes and goes is noted in the log.
 ///
 /// # Errors
-/// `Core` where the policy or a subscription was refused, or memory ran out; `Bind` where an address can't be listened on, or a
-/// connection couldn't be accepted; `Connect` where a collector can't be connected to; `NoThread` where a thread was refused; or
+/// `Mediator` where the policy or a subscription was refused, or memory ran out; `Bind` where an address can't be listened on, or
+/// a connection couldn't be accepted; `Connect` where a collector can't be connected to; `NoThread` where a thread was refused; or
 /// `Close` where the mediator isn't given back. What runs is ended first: all who came in are hung up, and what is queued is
 /// sent. The mediator is lost.
 pub fn listen<

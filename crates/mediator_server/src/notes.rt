@@ -21,7 +21,7 @@ impl Display for Cause {
     fn fmt<W: Write>(&self, f: &mut Formatter<W>) -> fmt::Result {
         match self.0 {
             ServeFault::Framing(why) => why.fmt(f),
-            ServeFault::Core(why) => why.fmt(f),
+            ServeFault::Mediator(why) => why.fmt(f),
             fault => fault.fmt(f),
         }
     }

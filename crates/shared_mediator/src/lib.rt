@@ -9,7 +9,8 @@
 //! - `locked`: what lies under the lock, and what each call does there. `ledgers`: [`EntryLedger`] and [`RecordLedger`].
 //! - `counted`: [`CountedMediator`], which counts what it takes in and hands out, so that those who called it can add up their
 //!   receipts. `handed`: [`Handed`], a message that was handed out, with its number of records.
-//! - `fault`: [`CloseFault`]; the other refusals are [`mediator_state::Fault`]. `fill`: [`Fill`], how full the journal and the audit are.
+//! - `fault`: [`CloseFault`]; the other refusals are [`mediator_state::Fault`]. `fill`: [`Fill`], how full the journal and the
+//!   audit are.
 //! - `laws`: that a full count is told.
 //!
 //! Proved: whenever the lock is taken, its mediator's state stands for its journal (`mediator_calls`), one book's total is the

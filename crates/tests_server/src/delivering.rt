@@ -240,7 +240,7 @@ const FIRST_WRITE: Answer = Err((ServeFault::Write { sent: 966 }, 0));
 /// The first pull had the template and 31 of the records: nine wait.
 const NOTHING_SENT: Answer = Err((ServeFault::Write { sent: 0 }, 9));
 
-const UNKNOWN: Answer = Err((ServeFault::Core(Fault::UnknownSub), 0));
+const UNKNOWN: Answer = Err((ServeFault::Mediator(Fault::UnknownSub), 0));
 
 /// What is offered, the bounds, and what is done then; how many writes of any length come before one that fails; what is answered,
 /// and what is left. The template has 36 octets, and each record 30; the first write has 32 of these messages.

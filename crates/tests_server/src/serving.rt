@@ -217,7 +217,7 @@ fn refusals(rt: HostRuntime) -> Result<(), Fail> {
             reads: ENOUGH,
             turns: 1000,
             workers: 0,
-            due: Err(ServeFault::Core(*fault)),
+            due: Err(ServeFault::Mediator(*fault)),
             // Each message before it has one record.
             brought: brought((*messages, *messages, 0)),
         };
