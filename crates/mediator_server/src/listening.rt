@@ -32,7 +32,7 @@ pub enum ListenFault {
     NoThread,
     /// The policy, or a subscription, was refused; or memory ran out.
     Mediator(Fault),
-    /// The run has ended, but the mediator isn't given back.
+    /// The run has ended, but the mediator isn't given back, and not for want of memory.
     Close(CloseFault),
 }
 
@@ -87,6 +87,15 @@ impl From<Fault> for ListenFault {
 impl From<AllocError> for ListenFault {
     fn from(_e: AllocError) -> ListenFault {
         ListenFault::Mediator(Fault::OutOfMemory)
+    }
+}
+
+impl From<CloseFault> for ListenFault {
+    fn from(fault: CloseFault) -> ListenFault {
+        match fault {
+            CloseFault::OutOfMemory => ListenFault::Mediator(Fault::OutOfMemory),
+            why => ListenFault::Close(why),
+        }
     }
 }
 
@@ -180,7 +189,7 @@ fn listen_with<
             notes::totals(rt, &closed);
             Ok(Ended { closed, stopped })
         }
-        Err(fault) => Err(ListenFault::Close(fault)),
+        Err(fault) => Err(ListenFault::from(fault)),
     }
 }
 
