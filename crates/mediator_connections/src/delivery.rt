@@ -8,6 +8,7 @@ ghost use Rattle.mediator_connections.specs.Delivering.{Delivers, FailsToDeliver
 use crate::clock::Clock;
 use crate::fault::ServeFault;
 use mediator_calls::SubId;
+use mediator_state::Fault;
 use octet_io::{Sink, write_all};
 use shared_mediator::{
     AdminHandle, DeliveryHandle, EntryLedger, Handed, RecordLedger, SharedMediator, Waited,
