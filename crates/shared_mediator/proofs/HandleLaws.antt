@@ -13,9 +13,10 @@ use Rattle.mediator_calls.specs.Mediation.{Mediation}
 use Rattle.mediator_calls.specs.Calls.{RefusesReceive, RefusesReceivePrepared}
 use Rattle.shared_mediator.specs.declared.kept.KeptEntry.{KeptEntry}
 use Rattle.shared_mediator.specs.declared.handed.Handed.{Handed}
-use Rattle.shared_mediator.specs.Counted.{has_receipt}
+use Rattle.shared_mediator.specs.Counted.{Counted, has_receipt}
+use Rattle.shared_mediator.specs.Handing.{RefusesHanding}
 use Rattle.shared_mediator.specs.Locked.{Exporting}
-use Rattle.shared_mediator.specs.Handles.{HasReceipt, IsMessage, AreMessages, IsExporting, RefusesOffer, IsBuilt, KeepsHanded, KeepsSome}
+use Rattle.shared_mediator.specs.Handles.{HasReceipt, IsMessage, AreMessages, IsExporting, MayRefuseOffer, MayRefusePull, IsBuilt, KeepsHanded, KeepsSome}
 use Rattle.shared_mediator.specs.Closing.{KeepsMessages}
 
 -- messages have receipts
@@ -69,9 +70,9 @@ keeps_zero old new now target count so none = so.kept ∙ ap (λ t. old ++ t) (e
     empty [] l = refl
     empty (h ∷ hs) l = absurd (omega (arith, l))
 
--- ---- why an offer is refused
+-- ---- why an offer or a pull is refused
 
-pub offer_refused : (why : Fault) (m : Mediation) (session number : ℕ) (octets : List ℕ) → RefusesReceive why m session number octets → RefusesOffer why
+pub offer_refused : (why : Fault) (m : Mediation) (session number : ℕ) (octets : List ℕ) → RefusesReceive why m session number octets → MayRefuseOffer why
 offer_refused fault.UnknownSession m session number octets r = tt
 offer_refused (fault.OutOfTurn expected) m session number octets r = tt
 offer_refused (fault.Malformed why) m session number octets r = tt
@@ -81,7 +82,7 @@ offer_refused (fault.AuditFull need room) m session number octets r = tt
 offer_refused fault.OutOfMemory m session number octets r = tt
 offer_refused _ m session number octets r = absurd r
 
-pub prepared_refused : (why : Fault) (m : Mediation) (session number : ℕ) (p : Preparation) → RefusesReceivePrepared why m session number p → RefusesOffer why
+pub prepared_refused : (why : Fault) (m : Mediation) (session number : ℕ) (p : Preparation) → RefusesReceivePrepared why m session number p → MayRefuseOffer why
 prepared_refused fault.UnknownSession m session number p r = tt
 prepared_refused (fault.OutOfTurn expected) m session number p r = tt
 prepared_refused (fault.Malformed why) m session number p r = tt
@@ -91,7 +92,13 @@ prepared_refused (fault.AuditFull need room) m session number p r = tt
 prepared_refused fault.OutOfMemory m session number p r = tt
 prepared_refused _ m session number p r = absurd r
 
-pub snapshot_refused : (why : Fault) (h : List Entry) (session : ℕ) → RefusesSnapshot why h session → RefusesOffer why
+pub snapshot_refused : (why : Fault) (h : List Entry) (session : ℕ) → RefusesSnapshot why h session → MayRefuseOffer why
 snapshot_refused fault.UnknownSession h session r = tt
 snapshot_refused fault.OutOfMemory h session r = tt
 snapshot_refused _ h session r = absurd r
+
+pub handing_refused : (why : Fault) (c : Counted) (sub : ℕ) → RefusesHanding why c sub → MayRefusePull why
+handing_refused fault.UnknownSub c sub r = tt
+handing_refused fault.HandedFull c sub r = tt
+handing_refused fault.OutOfMemory c sub r = tt
+handing_refused _ c sub r = absurd r

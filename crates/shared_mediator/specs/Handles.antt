@@ -45,17 +45,26 @@ pub record KeepsEntry (old : List KeptEntry) (entry : Entry) (new : List KeptEnt
   pub position : ℕ
   pub kept : new ≡ old ++ record { position = position; entry = entry } ∷ []
 
--- a message may be refused so, by some mediator: for its session, its number, its octets, the templates by which it was prepared, or for
--- want of room or of memory
-abbrev pub RefusesOffer : Fault → Type 0
-RefusesOffer fault.UnknownSession = Unit {0}
-RefusesOffer (fault.OutOfTurn expected) = Unit {0}
-RefusesOffer (fault.Malformed why) = Unit {0}
-RefusesOffer fault.Stale = Unit {0}
-RefusesOffer fault.JournalFull = Unit {0}
-RefusesOffer (fault.AuditFull need room) = Unit {0}
-RefusesOffer fault.OutOfMemory = Unit {0}
-RefusesOffer _ = ⊥
+-- ---- why a call may be refused, whatever the mediator
+
+-- a message may be refused so: for its session, its number, its octets, the templates by which it was prepared, or for want of room or
+-- of memory
+abbrev pub MayRefuseOffer : Fault → Type 0
+MayRefuseOffer fault.UnknownSession = Unit {0}
+MayRefuseOffer (fault.OutOfTurn expected) = Unit {0}
+MayRefuseOffer (fault.Malformed why) = Unit {0}
+MayRefuseOffer fault.Stale = Unit {0}
+MayRefuseOffer fault.JournalFull = Unit {0}
+MayRefuseOffer (fault.AuditFull need room) = Unit {0}
+MayRefuseOffer fault.OutOfMemory = Unit {0}
+MayRefuseOffer _ = ⊥
+
+-- a pull may be refused so: for its subscription, or for want of room in the count or of memory
+abbrev pub MayRefusePull : Fault → Type 0
+MayRefusePull fault.UnknownSub = Unit {0}
+MayRefusePull fault.HandedFull = Unit {0}
+MayRefusePull fault.OutOfMemory = Unit {0}
+MayRefusePull _ = ⊥
 
 -- ---- records
 

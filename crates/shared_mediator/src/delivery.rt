@@ -1,8 +1,8 @@
 //! A delivery's handle on a shared mediator.
-ghost use Rattle.std.specs.Prelude.{◌≡◌, ◌-◌, ◌≤◌, [], true, length, slice_get, IfOk, OnErr};
+ghost use Rattle.std.specs.Prelude.{◌≡◌, ◌-◌, ◌≤◌, [], true, length, slice_get, IfOk, IfErr, OnErr};
 ghost use Rattle.std.specs.Option.{option_copied};
 ghost use Rattle.shared_mediator.specs.Locked.{delivering_as};
-ghost use Rattle.shared_mediator.specs.Handles.{KeepsHanded, KeepsSome, records_kept};
+ghost use Rattle.shared_mediator.specs.Handles.{KeepsHanded, KeepsSome, MayRefusePull, records_kept};
 
 use crate::handed::Handed;
 use crate::ledgers::{EntryLedger, RecordLedger};
@@ -109,6 +109,7 @@ impl<H: RecordLedger> DeliveryHandle<H> {
             KeepsHanded self.old.kept now target some_message self.new.kept) }
         ensures sub { self.new.sub ≡ self.old.sub }
         ensures unchanged { OnErr result (self.new ≡ self.old) }
+        ensures refuses { IfErr result MayRefusePull }
     {
         self.pull_next(&mut shared.locked(rt), now, target)
     }
@@ -133,6 +134,7 @@ impl<H: RecordLedger> DeliveryHandle<H> {
         ensures most { IfOk result (λ count. count ≤ most) }
         ensures sub { self.new.sub ≡ self.old.sub }
         ensures unchanged { OnErr result (self.new ≡ self.old) }
+        ensures refuses { IfErr result MayRefusePull }
     {
         let mut locked = shared.locked(rt);
         let mut count = 0;
@@ -161,6 +163,7 @@ impl<H: RecordLedger> DeliveryHandle<H> {
             KeepsHanded self.old.kept now target some_message self.new.kept) }
         ensures sub { self.new.sub ≡ self.old.sub }
         ensures unchanged { OnErr result (self.new ≡ self.old) }
+        ensures refuses { IfErr result MayRefusePull }
     {
         if self.kept.reserve(1).is_err() {
             return Err(Fault::OutOfMemory);

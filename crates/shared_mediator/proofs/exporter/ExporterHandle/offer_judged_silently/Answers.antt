@@ -2,7 +2,7 @@ use Rattle.std.proofs.Common.{◌∙◌, ◌++◌, ◌∷◌, [], List, ap, sym,
 use Rattle.event_journal.specs.declared.entry.Entry.TheVariants.{Message}
 use Rattle.shared_mediator.specs.declared.kept.KeptEntry.{KeptEntry}
 use Rattle.mediator_state.proofs.CallLaws.{err_gives}
-use Rattle.shared_mediator.specs.Handles.{RefusesOffer}
+use Rattle.shared_mediator.specs.Handles.{MayRefuseOffer}
 use Rattle.shared_mediator.proofs.HandleLaws.{offered, offer_refused}
 use Rattle.shared_mediator.proofs.exporter.ExporterHandle.offer_judged_silently.Goals as goal
 
@@ -15,4 +15,4 @@ invariant_of-self-2 g c =
 pub returns-in_err-receipt-clause-refuses : goal.returns-in_err-receipt-clause-refuses
 returns-in_err-receipt-clause-refuses g c =
     err_gives c.from_residual-in_err-receipt.result c.from_residual-in_err-receipt.ensures
-    (λ e is. subst RefusesOffer (sym is) (offer_refused c.in_err-receipt.field-0.0 _ _ _ _ c.in_err-receipt.ensures.err))
+    (λ e is. subst MayRefuseOffer (sym is) (offer_refused c.in_err-receipt.field-0.0 _ _ _ _ c.in_err-receipt.ensures.err))
