@@ -30,7 +30,8 @@
 //! Of a handle's calls (`kept`): `offer` keeps the message, under the handle's session and with its number, at the position
 //! of the receipt that it answers; an administrator's edit, subscribe, unsubscribe and advance keep the entry of their own
 //! argument with a position; `pull` keeps a message that is built for its Export Time and target at some place of some list,
-//! and its share rises by the records in that; `pull_some` keeps several. A refusal keeps nothing more (`unchanged`).
+//! and its share rises by the records in that; `pull_some` keeps several. A refusal keeps nothing more (`unchanged`); that of an
+//! offer or a pull is one that such a call may have (`refuses`).
 //!
 //! `close` answers Ok only where each receipt stands in the journal at its position, none from before `new`, no two at one
 //! position, each handle's own in their order, and where each entry since `new` that is to have a receipt has one
