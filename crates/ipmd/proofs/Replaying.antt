@@ -7,18 +7,19 @@ use Rattle.ipmd_command_line.specs.declared.task.ReplayOptions.{ReplayOptions}
 use Rattle.ipmd_commands.specs.declared.fault.ProgramFault.{ProgramFault}
 use Rattle.ipmd_commands.specs.declared.failure.Place.TheVariants.{File, Output}
 use Rattle.ipmd_commands.specs.Failures.{FailedAt, FailedAtFile, IsFileFault, failed_at}
-use Rattle.mediator_calls.specs.declared.fault.RunFault.{RunFault}
-use Rattle.mediator_calls.specs.declared.fault.RunFault.TheVariants.{BadLimits, OutOfMemory}
+use Rattle.mediator_state.specs.declared.fault.Fault.{Fault}
+use Rattle.mediator_state.specs.declared.fault.Fault.TheVariants as fault
 use Rattle.mediator_calls.specs.Limited.{RefusesLimits}
 use Rattle.replay_text.specs.declared.call_list.CallList.{CallList}
 use Rattle.replay_text.specs.Lists.{asked, list_of}
-use Rattle.ipmd_commands.specs.Status.{run_fault_of}
+use Rattle.ipmd_commands.specs.Status.{mediator_fault_of}
 use Rattle.ipmd.specs.Replays.{BeginsToAnswer, RefusesText, RefusesToReplay}
 
 -- its limits are at fault, or memory ran out
-pub no_run : (text : List ℕ) (list : CallList) (why : RunFault) → list_of text ≡ Ok (asked list) → RefusesLimits why list.limits → RefusesText (run_fault_of why) text
-no_run text list BadLimits read refused = record { list = list; read = read; bad = refused }
-no_run text list OutOfMemory read refused = tt
+pub no_run : (text : List ℕ) (list : CallList) (why : Fault) → list_of text ≡ Ok (asked list) → RefusesLimits why list.limits → RefusesText (mediator_fault_of why) text
+no_run text list fault.BadLimits read refused = record { list = list; read = read; bad = refused }
+no_run text list fault.OutOfMemory read refused = tt
+no_run text list _ read refused = absurd refused
 
 -- the file of the calls can't be read
 pub no_calls : (options : ReplayOptions) (e : ProgramFault) (held : Option (List ℕ)) → IsFileFault options.calls.now e → RefusesToReplay options e held held

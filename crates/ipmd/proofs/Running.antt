@@ -8,10 +8,9 @@ use Rattle.std.proofs.lemmas.List.Concat.{flat_map-append}
 use Rattle.ipmd_settings.specs.Asked.{Asked}
 use Rattle.mediator_server.specs.declared.plan.RunPlan.{RunPlan}
 use Rattle.mediator_server.specs.Listening.{IsServed}
-use Rattle.mediator_calls.specs.declared.fault.RunFault.{RunFault}
-use Rattle.mediator_calls.specs.declared.fault.RunFault.TheVariants as run
 use Rattle.mediator_calls.specs.declared.limits.Limits.{Limits}
 use Rattle.mediator_calls.specs.Limited.{AreAllowed, RefusesLimits}
+use Rattle.mediator_state.specs.declared.fault.Fault.{Fault}
 use Rattle.mediator_state.specs.declared.fault.Fault.TheVariants as fault
 use Rattle.mediator_server.specs.declared.listening.ListenFault.TheVariants as listen
 use Rattle.ipmd_commands.specs.declared.fault.ProgramFault.{ProgramFault}
@@ -19,7 +18,7 @@ use Rattle.ipmd_commands.specs.declared.fault.ProgramFault.TheVariants.{OutOfMem
 use Rattle.ipmd_commands.specs.declared.failure.Place.TheVariants.{Output, RandomNumbers}
 use Rattle.ipmd_commands.specs.Failures.{FailedAt}
 use Rattle.ipmd_commands.specs.HexText.{WritesSome}
-use Rattle.ipmd_commands.specs.Status.{run_fault_of}
+use Rattle.ipmd_commands.specs.Status.{mediator_fault_of}
 use Rattle.ipmd_run_journals.specs.Keeping.{IsKeepingFault, IsSomeFileFault, part_name}
 use Rattle.ipmd_run_journals.specs.Numbering.{file_name}
 use Rattle.ipmd.specs.declared.serve.Service.{Service}
@@ -156,9 +155,10 @@ kept_somewhere path number e (inl fault) = (part_name (file_name path number), f
 kept_somewhere path number e (inr fault) = (file_name path number, fault)
 
 -- a mediator with limits that it may have is refused for memory alone
-pub new_refused : (why : RunFault) (limits : Limits) → RefusesLimits why limits → AreAllowed limits → IsListenFault (run_fault_of why)
-new_refused run.BadLimits limits refused allowed = absurd (refused allowed)
-new_refused run.OutOfMemory limits refused allowed = (listen.Core fault.OutOfMemory, refl)
+pub new_refused : (why : Fault) (limits : Limits) → RefusesLimits why limits → AreAllowed limits → IsListenFault (mediator_fault_of why)
+new_refused fault.BadLimits limits refused allowed = absurd (refused allowed)
+new_refused fault.OutOfMemory limits refused allowed = (listen.Mediator fault.OutOfMemory, refl)
+new_refused _ limits refused allowed = absurd refused
 
 -- nothing was written of a run's line, some of it, or all of it
 pub told_nothing : (made : Run) (held : Option (List ℕ)) → RefusesToTell OutOfMemory made held held

@@ -1,6 +1,7 @@
 -- What `ipmd replay` does: the calls that a text lists are made on a new mediator, and the answer to each is written.
 use Rattle.std.specs.Prelude.{◌≡◌, ◌⊎◌, ℕ, List, Option, Some, IfSome, Ok, Err}
 use Rattle.std.specs.Io.KnownBytes.{Appends, Keeps}
+use Rattle.mediator_state.specs.declared.fault.Fault.TheVariants as fault
 use Rattle.mediator_calls.specs.Limited.{AreAllowed}
 use Rattle.replay_text.specs.declared.call_list.CallList.{CallList}
 use Rattle.replay_text.specs.Lists.{asked, list_of}
@@ -8,7 +9,7 @@ use Rattle.replay_text.specs.Answers.{answers_text}
 use Rattle.mediator_core.specs.declared.transcript.Transcript.{Transcript}
 use Rattle.mediator_core.specs.Headline.{IsRunOf, HistoryIsTheCalls, HandedIsDisclosed, HandedIsFront, DrainedIsAudited, AnsweredIsFromDisclosed}
 use Rattle.ipmd_commands.specs.declared.fault.ProgramFault.{ProgramFault}
-use Rattle.ipmd_commands.specs.declared.fault.ProgramFault.TheVariants.{CommandLine, Settings, Policy, Hex, Framing, Core, Cut, Calls, BadLimits, Journal, History, Absent, Close, OutOfMemory, Device}
+use Rattle.ipmd_commands.specs.declared.fault.ProgramFault.TheVariants.{CommandLine, Settings, Policy, Hex, Framing, Mediator, Cut, Calls, Journal, History, Absent, Close, OutOfMemory, Device}
 use Rattle.ipmd_command_line.specs.declared.task.ReplayOptions.{ReplayOptions}
 use Rattle.ipmd_commands.specs.declared.failure.Place.TheVariants.{Output}
 use Rattle.ipmd_commands.specs.Failures.{FailedAt, FailedAtFile}
@@ -35,14 +36,14 @@ pub record HasBadLimits (text : List ℕ) : Type 0 where
 -- why no call of a text is made: its first line that asks for nothing, its limits, or want of memory
 abbrev pub RefusesText : ProgramFault → List ℕ → Type 0
 RefusesText (Calls n) text = list_of text ≡ Err n
-RefusesText BadLimits text = HasBadLimits text
+RefusesText (Mediator fault.BadLimits) text = HasBadLimits text
 RefusesText OutOfMemory text = Unit {0}
 RefusesText (CommandLine e) text = ⊥
 RefusesText (Settings why) text = ⊥
 RefusesText (Policy why) text = ⊥
 RefusesText Hex text = ⊥
 RefusesText (Framing why) text = ⊥
-RefusesText (Core why) text = ⊥
+RefusesText (Mediator _) text = ⊥
 RefusesText Cut text = ⊥
 RefusesText (Journal why) text = ⊥
 RefusesText (History position) text = ⊥

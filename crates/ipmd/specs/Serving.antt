@@ -15,11 +15,11 @@ use Rattle.mediator_server.specs.declared.listening.Ended.{Ended}
 use Rattle.mediator_server.specs.declared.listening.ListenFault.{ListenFault}
 use Rattle.mediator_server.specs.declared.listening.ListenFault.TheVariants as listen
 use Rattle.ipmd_commands.specs.declared.fault.ProgramFault.{ProgramFault}
-use Rattle.ipmd_commands.specs.declared.fault.ProgramFault.TheVariants.{CommandLine, Settings, Policy, Hex, Framing, Core, Cut, Calls, BadLimits, Journal, History, Absent, Close, OutOfMemory, Device}
+use Rattle.ipmd_commands.specs.declared.fault.ProgramFault.TheVariants.{CommandLine, Settings, Policy, Hex, Framing, Mediator, Cut, Calls, Journal, History, Absent, Close, OutOfMemory, Device}
 use Rattle.ipmd_commands.specs.declared.failure.Place.TheVariants as placed
 use Rattle.ipmd_commands.specs.Failures.{FailedAt, FailedAtFile, IsFileFault}
 use Rattle.ipmd_commands.specs.HexText.{WritesSome}
-use Rattle.ipmd_commands.specs.Status.{core_fault_of}
+use Rattle.ipmd_commands.specs.Status.{mediator_fault_of}
 use Rattle.ipmd_run_journals.specs.Keeping.{IsSomeFileFault}
 use Rattle.ipmd.specs.declared.serve.Service.{Service}
 
@@ -71,10 +71,9 @@ RefusesToPrepare path (CommandLine e) = ⊥
 RefusesToPrepare path (Policy why) = ⊥
 RefusesToPrepare path Hex = ⊥
 RefusesToPrepare path (Framing why) = ⊥
-RefusesToPrepare path (Core why) = ⊥
+RefusesToPrepare path (Mediator why) = ⊥
 RefusesToPrepare path Cut = ⊥
 RefusesToPrepare path (Calls n) = ⊥
-RefusesToPrepare path BadLimits = ⊥
 RefusesToPrepare path (Journal why) = ⊥
 RefusesToPrepare path (History position) = ⊥
 RefusesToPrepare path (Absent what) = ⊥
@@ -146,7 +145,7 @@ abbrev pub IsMadeOf : ListenFault → ProgramFault → Type 0
 IsMadeOf listen.Bind e = e ≡ Device None
 IsMadeOf (listen.Connect place) e = e ≡ Device None
 IsMadeOf listen.NoThread e = FailedAt placed.Threads e
-IsMadeOf (listen.Core why) e = e ≡ core_fault_of why
+IsMadeOf (listen.Mediator why) e = e ≡ mediator_fault_of why
 IsMadeOf (listen.Close why) e = e ≡ Close
 
 abbrev pub IsListenFault : ProgramFault → Type 0

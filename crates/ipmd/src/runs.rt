@@ -190,7 +190,7 @@ fn fault_of(fault: ListenFault) -> ProgramFault
         ListenFault::NoThread => {
             ProgramFault::failed(Place::Threads, io::Error::other("the system refuses one"))
         }
-        ListenFault::Core(why) => ProgramFault::from(why),
+        ListenFault::Mediator(why) => ProgramFault::from(why),
         ListenFault::Close(_) => ProgramFault::Close,
     }
 }

@@ -43,7 +43,7 @@ pub(crate) struct Service {
 ///
 /// # Errors
 /// In this order: `Device` where the settings' file can't be read or isn't UTF-8, `Settings`, and `Device` for the policy's file
-/// and the journals' folder, each with its path; then of a run the refusals of `listen`: `Policy` or `Core` where the mediator
+/// and the journals' folder, each with its path; then of a run the refusals of `listen`: `Policy` or `Mediator` where the mediator
 /// refuses the policy or a subscriber, `Device` where an address can't be listened on or connected to or a thread is refused,
 /// `Close`; `Device` where the output fails, and, behind the run's line, where its journal can't be kept; `OutOfMemory`.
 #[tactic(auto, using(ipmd_commands::proofs::Lines::kept))]

@@ -19,7 +19,7 @@ use Rattle.ipmd_command_line.specs.declared.task.OfflineOptions.{OfflineOptions}
 use Rattle.ipmd_command_line.specs.declared.task.PolicySource.{PolicySource}
 use Rattle.ipmd_command_line.specs.declared.task.PolicySource.TheVariants.{File, Text}
 use Rattle.ipmd_commands.specs.declared.fault.ProgramFault.{ProgramFault}
-use Rattle.ipmd_commands.specs.declared.fault.ProgramFault.TheVariants.{CommandLine, Settings, Policy, Hex, Framing, Core, Cut, Calls, BadLimits, Journal, History, Absent, Close, OutOfMemory, Device}
+use Rattle.ipmd_commands.specs.declared.fault.ProgramFault.TheVariants.{CommandLine, Settings, Policy, Hex, Framing, Mediator, Cut, Calls, Journal, History, Absent, Close, OutOfMemory, Device}
 use Rattle.ipmd_commands.specs.declared.failure.Place.TheVariants as placed
 use Rattle.ipmd_commands.specs.Failures.{FailedAt, IsFileFault, IsNamed}
 use Rattle.ipmd_commands.specs.HexText.{SpelledBy, SpellsNothing, lines_of, WritesLines, WritesSome, WritesSomeLines}
@@ -70,10 +70,9 @@ RefusesToCount source (CommandLine e) held holds = ⊥
 RefusesToCount source (Settings why) held holds = ⊥
 RefusesToCount source Hex held holds = ⊥
 RefusesToCount source (Framing why) held holds = ⊥
-RefusesToCount source (Core why) held holds = ⊥
+RefusesToCount source (Mediator why) held holds = ⊥
 RefusesToCount source Cut held holds = ⊥
 RefusesToCount source (Calls n) held holds = ⊥
-RefusesToCount source BadLimits held holds = ⊥
 RefusesToCount source (Journal why) held holds = ⊥
 RefusesToCount source (History position) held holds = ⊥
 RefusesToCount source (Absent what) held holds = ⊥

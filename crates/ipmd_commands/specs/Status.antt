@@ -12,7 +12,7 @@ use Rattle.policy_text.specs.declared.fault.FaultKind.{FaultKind}
 use Rattle.policy_text.specs.declared.fault.FaultKind.TheVariants as kind
 use Rattle.policy_text.specs.declared.fault.PolicyFault.{PolicyFault}
 use Rattle.mediator_state.specs.declared.fault.Fault.{Fault}
-use Rattle.mediator_state.specs.declared.fault.Fault.TheVariants as core
+use Rattle.mediator_state.specs.declared.fault.Fault.TheVariants as mediator
 use Rattle.mediator_offline.specs.declared.job.OfflineFault.{OfflineFault}
 use Rattle.mediator_offline.specs.declared.job.OfflineFault.TheVariants as offline
 use Rattle.replay_text.specs.declared.fault.CallsFault.{CallsFault}
@@ -23,14 +23,12 @@ use Rattle.ipmd_settings.specs.declared.fault.SettingsFault.TheVariants as setti
 use Rattle.journal_files.specs.FaultTexts.{text_of_fault as text_of_journal}
 use Rattle.journal_files.specs.declared.fault.Fault.{Fault as JournalFault}
 use Rattle.journal_files.specs.declared.fault.Fault.TheVariants as journal
-use Rattle.mediator_calls.specs.declared.fault.RunFault.{RunFault}
-use Rattle.mediator_calls.specs.declared.fault.RunFault.TheVariants as run
 use Rattle.ipmd_commands.specs.Absent.{text_of_absent}
 use Rattle.ipmd_commands.specs.Failures.{IsLineOf, failed_at}
 use Rattle.ipmd_commands.specs.declared.failure.Failure.{Failure}
 use Rattle.ipmd_commands.specs.declared.failure.Place.TheVariants as placed
 use Rattle.ipmd_commands.specs.declared.fault.ProgramFault.{ProgramFault}
-use Rattle.ipmd_commands.specs.declared.fault.ProgramFault.TheVariants.{CommandLine, Settings, Policy, Hex, Framing, Core, Cut, Calls, BadLimits, Journal, History, Absent, Close, OutOfMemory, Device}
+use Rattle.ipmd_commands.specs.declared.fault.ProgramFault.TheVariants.{CommandLine, Settings, Policy, Hex, Framing, Mediator, Cut, Calls, Journal, History, Absent, Close, OutOfMemory, Device}
 
 -- 1: what was read is refused, or memory runs out; 2: the command line is refused; 3: a file, a stream or an address fails
 abbrev pub status_of : ProgramFault → ℕ
@@ -39,10 +37,9 @@ status_of (Settings _) = 1
 status_of (Policy _) = 1
 status_of Hex = 1
 status_of (Framing _) = 1
-status_of (Core _) = 1
+status_of (Mediator _) = 1
 status_of Cut = 1
 status_of (Calls _) = 1
-status_of BadLimits = 1
 status_of (Journal _) = 1
 status_of (History _) = 1
 status_of (Absent _) = 1
@@ -57,10 +54,9 @@ text_of (Settings why) = Some (codes "ipmd: settings: " ++ text_of_settings why)
 text_of (Policy why) = Some (codes "ipmd: policy line " ++ decimal why.line ++ codes ": " ++ text_of_kind why.kind)
 text_of Hex = Some (codes "ipmd: hex")
 text_of (Framing why) = Some (codes "ipmd: framing " ++ text_of_framing why)
-text_of (Core why) = Some (codes "ipmd: " ++ text_of_fault why)
+text_of (Mediator why) = Some (codes "ipmd: " ++ text_of_fault why)
 text_of Cut = Some (codes "ipmd: Cut")
 text_of (Calls line) = Some (codes "ipmd: calls line " ++ decimal line)
-text_of BadLimits = Some (codes "ipmd: BadLimits")
 text_of (Journal why) = Some (codes "ipmd: journal " ++ text_of_journal why)
 text_of (History position) = Some (codes "ipmd: journal BadHistory " ++ decimal position)
 text_of (Absent what) = Some (codes "ipmd: journal " ++ text_of_absent what)
@@ -119,11 +115,11 @@ policy_fault_of fault kind.DoubleAggregate = Policy fault
 policy_fault_of fault kind.BadKey = Policy fault
 policy_fault_of fault kind.TooMany = Policy fault
 
--- what the core refuses
-abbrev pub core_fault_of : Fault → ProgramFault
-core_fault_of (core.Policy why) = policy_fault_of why why.kind
-core_fault_of core.OutOfMemory = OutOfMemory
-core_fault_of why = Core why
+-- what the mediator refuses
+abbrev pub mediator_fault_of : Fault → ProgramFault
+mediator_fault_of (mediator.Policy why) = policy_fault_of why why.kind
+mediator_fault_of mediator.OutOfMemory = OutOfMemory
+mediator_fault_of why = Mediator why
 
 -- why a stream was not filtered to its end, where its ends failed so; which file has the audit isn't known here
 abbrev pub offline_fault_of : Error → Error → OfflineFault → ProgramFault
@@ -132,18 +128,13 @@ offline_fault_of input output (offline.Write sent) = failed_at placed.Output out
 offline_fault_of input output offline.Turns = failed_at placed.Input input
 offline_fault_of input output offline.AuditWrite = Device None
 offline_fault_of input output (offline.Framing why) = Framing why
-offline_fault_of input output (offline.Core why) = core_fault_of why
+offline_fault_of input output (offline.Mediator why) = mediator_fault_of why
 offline_fault_of input output offline.Cut = Cut
 
 -- a list of calls that is refused for want of memory isn't at fault
 abbrev pub calls_fault_of : CallsFault → ProgramFault
 calls_fault_of (calls.Line n) = Calls n
 calls_fault_of calls.OutOfMemory = OutOfMemory
-
--- why a run isn't begun
-abbrev pub run_fault_of : RunFault → ProgramFault
-run_fault_of run.BadLimits = BadLimits
-run_fault_of run.OutOfMemory = OutOfMemory
 
 -- why no more was read or written of a journal's file, whose path isn't known here; want of memory is no fault of the file
 abbrev pub read_fault_of : JournalFault → ProgramFault

@@ -8,7 +8,6 @@ use crate::failure::{Failure, Place};
 use ipmd_command_line::CommandLineFault;
 use ipmd_settings::SettingsFault;
 use journal_files::Fault as JournalFault;
-use mediator_calls::RunFault;
 use mediator_offline::{Fault, FramingFault};
 use octet_io::{Device, write_all};
 use policy_text::{FaultKind, PolicyFault};
@@ -68,14 +67,12 @@ pub enum ProgramFault {
     Hex,
     /// The input is no stream of messages.
     Framing(FramingFault),
-    /// The mediator refused a call, and not for its policy or for want of memory, which have variants of their own.
-    Core(Fault),
+    /// The mediator refused a call, or limits, and not for its policy or for want of memory, which have variants of their own.
+    Mediator(Fault),
     /// The subscription was cut.
     Cut,
     /// The line of this number is no call.
     Calls(usize),
-    /// The limits of a list of calls are out of their ranges.
-    BadLimits,
     /// The octets are no journal's file, and this is the first fault of it: never `Read`, `Write` or `OutOfMemory`, which are
     /// `Device` and `OutOfMemory` here.
     Journal(JournalFault),
@@ -108,10 +105,9 @@ impl Display for ProgramFault {
             }
             ProgramFault::Hex => f.write_str("ipmd: hex"),
             ProgramFault::Framing(why) => write!(f, "ipmd: framing {why}"),
-            ProgramFault::Core(why) => write!(f, "ipmd: {why}"),
+            ProgramFault::Mediator(why) => write!(f, "ipmd: {why}"),
             ProgramFault::Cut => f.write_str("ipmd: Cut"),
             ProgramFault::Calls(line) => write!(f, "ipmd: calls line {line}"),
-            ProgramFault::BadLimits => f.write_str("ipmd: BadLimits"),
             ProgramFault::Journal(why) => write!(f, "ipmd: journal {why}"),
             ProgramFault::History(position) => { write!(f, "ipmd: journal BadHistory {position}") }
             ProgramFault::Absent(what) => write!(f, "ipmd: journal {what}"),
@@ -177,10 +173,9 @@ impl ProgramFault {
             | ProgramFault::Policy(_)
             | ProgramFault::Hex
             | ProgramFault::Framing(_)
-            | ProgramFault::Core(_)
+            | ProgramFault::Mediator(_)
             | ProgramFault::Cut
             | ProgramFault::Calls(_)
-            | ProgramFault::BadLimits
             | ProgramFault::Journal(_)
             | ProgramFault::History(_)
             | ProgramFault::Absent(_)
@@ -323,15 +318,15 @@ impl From<PolicyFault> for ProgramFault {
 
 impl From<Fault> for ProgramFault {
     ghost use Rattle.std.specs.Prelude.{◌≡◌};
-    ghost use Rattle.ipmd_commands.specs.Status.{core_fault_of};
+    ghost use Rattle.ipmd_commands.specs.Status.{mediator_fault_of};
 
-    ghost from_gives = { λ f e. e ≡ core_fault_of f };
+    ghost from_gives = { λ f e. e ≡ mediator_fault_of f };
 
     fn from(fault: Fault) -> ProgramFault {
         match fault {
             Fault::Policy(why) => ProgramFault::from(why),
             Fault::OutOfMemory => ProgramFault::OutOfMemory,
-            why => ProgramFault::Core(why),
+            why => ProgramFault::Mediator(why),
         }
     }
 }
@@ -346,20 +341,6 @@ impl From<CallsFault> for ProgramFault {
         match fault {
             CallsFault::Line(line) => ProgramFault::Calls(line),
             CallsFault::OutOfMemory => ProgramFault::OutOfMemory,
-        }
-    }
-}
-
-impl From<RunFault> for ProgramFault {
-    ghost use Rattle.std.specs.Prelude.{◌≡◌};
-    ghost use Rattle.ipmd_commands.specs.Status.{run_fault_of};
-
-    ghost from_gives = { λ f e. e ≡ run_fault_of f };
-
-    fn from(fault: RunFault) -> ProgramFault {
-        match fault {
-            RunFault::BadLimits => ProgramFault::BadLimits,
-            RunFault::OutOfMemory => ProgramFault::OutOfMemory,
         }
     }
 }

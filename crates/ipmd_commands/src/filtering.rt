@@ -32,8 +32,8 @@ const ANY_NUMBER_OF_READS: u64 = u64::MAX;
 ///
 /// # Errors
 /// In this order: that of the policy's source; `Device`, of the audit's file, which is made empty; `Hex`, where the input is to
-/// be hexadecimal and isn't; and what stops `offline` ([`mediator_offline::offline`]), where `Framing`, `Policy`, `Core`, `Cut` and
-/// `OutOfMemory` keep their names, and `Device` is that of what failed. What was accepted before a fault is written.
+/// be hexadecimal and isn't; and what stops `offline` ([`mediator_offline::offline`]), where `Framing`, `Policy`, `Mediator`,
+/// `Cut` and `OutOfMemory` keep their names, and `Device` is that of what failed. What was accepted before a fault is written.
 #[tactic(auto, using(crate::proofs::Lines::kept))]
 pub fn filter<R: Files + AllocGlobal, I: Read + Drop, O: Write>(
     rt: &R,
@@ -197,7 +197,7 @@ fn fault_of(fault: OfflineFault, input: io::Error, output: io::Error) -> Program
         OfflineFault::Write { .. } => ProgramFault::failed(Place::Output, output),
         OfflineFault::AuditWrite => ProgramFault::Device(None),
         OfflineFault::Framing(why) => ProgramFault::Framing(why),
-        OfflineFault::Core(why) => ProgramFault::from(why),
+        OfflineFault::Mediator(why) => ProgramFault::from(why),
         OfflineFault::Cut => ProgramFault::Cut,
     }
 }

@@ -8,7 +8,7 @@ use Rattle.history_verify.specs.declared.verified.Verified.{Verified}
 use Rattle.history_verify.specs.Legal.{IsFirstBad}
 use Rattle.history_verify.specs.Answers.{IsVerified}
 use Rattle.ipmd_commands.specs.declared.fault.ProgramFault.{ProgramFault}
-use Rattle.ipmd_commands.specs.declared.fault.ProgramFault.TheVariants.{CommandLine, Settings, Policy, Hex, Framing, Core, Cut, Calls, BadLimits, Journal, History, Absent, Close, OutOfMemory, Device}
+use Rattle.ipmd_commands.specs.declared.fault.ProgramFault.TheVariants.{CommandLine, Settings, Policy, Hex, Framing, Mediator, Cut, Calls, Journal, History, Absent, Close, OutOfMemory, Device}
 
 -- the file says this history; of a file that isn't known nothing is said
 abbrev pub Says : Option (List ℕ) → List Entry → Type 0
@@ -48,8 +48,7 @@ RefusesFile (Settings why) given = ⊥
 RefusesFile (Policy why) given = ⊥
 RefusesFile Hex given = ⊥
 RefusesFile (Framing why) given = ⊥
-RefusesFile (Core why) given = ⊥
+RefusesFile (Mediator why) given = ⊥
 RefusesFile Cut given = ⊥
 RefusesFile (Calls n) given = ⊥
-RefusesFile BadLimits given = ⊥
 RefusesFile Close given = ⊥

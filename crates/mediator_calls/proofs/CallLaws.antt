@@ -229,6 +229,9 @@ refuses_receive (fault.Policy why) s session number octets stands r = r
 refuses_receive fault.BadName s session number octets stands r = r
 refuses_receive (fault.AlreadySubscribed sub) s session number octets stands r = r
 refuses_receive fault.UnknownSub s session number octets stands r = r
+refuses_receive fault.NoHandle s session number octets stands r = r
+refuses_receive fault.HandedFull s session number octets stands r = r
+refuses_receive fault.BadLimits s session number octets stands r = r
 refuses_receive (fault.ClockBack last) s session number octets stands r = r
 
 pub refuses_prepared : (why : Fault) (s : State Kept) (session number : ℕ) (p : Preparation) → StandsForJournal s → state.RefusesReceivePrepared why s.chronicle.limits s.engine s.chronicle.entries session number p → RefusesReceivePrepared why (view_of s) session number p
@@ -243,6 +246,9 @@ refuses_prepared (fault.Policy why) s session number p stands r = r
 refuses_prepared fault.BadName s session number p stands r = r
 refuses_prepared (fault.AlreadySubscribed sub) s session number p stands r = r
 refuses_prepared fault.UnknownSub s session number p stands r = r
+refuses_prepared fault.NoHandle s session number p stands r = r
+refuses_prepared fault.HandedFull s session number p stands r = r
+refuses_prepared fault.BadLimits s session number p stands r = r
 refuses_prepared (fault.ClockBack last) s session number p stands r = r
 
 -- ---- an advance of the clock
@@ -269,6 +275,9 @@ refuses_advance (fault.Policy why) s time stands r = absurd r
 refuses_advance fault.BadName s time stands r = absurd r
 refuses_advance (fault.AlreadySubscribed sub) s time stands r = absurd r
 refuses_advance fault.UnknownSub s time stands r = absurd r
+refuses_advance fault.NoHandle s time stands r = absurd r
+refuses_advance fault.HandedFull s time stands r = absurd r
+refuses_advance fault.BadLimits s time stands r = absurd r
 
 -- ---- what is handed out
 

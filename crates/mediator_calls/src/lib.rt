@@ -4,7 +4,8 @@
 //! - `call`: [`Call`] and [`Reply`].
 //! - `limits`: [`Limits`], with the ranges that a mediator allows.
 //! - [`SessionId`] and [`SubId`], by which calls name sessions and subscriptions, are those of [`mediator_tables`].
-//! - `fault`: [`RunFault`] and [`UnknownSub`]; the other refusals are [`mediator_state::Fault`].
+//!
+//! Refusals are [`mediator_state::Fault`].
 //!
 //! Proved of each call, by what contracts see of a mediator (its history, the places of its live subscriptions, how
 //! many audit entries were drained, its limits): an accepted call answers what the history says and goes on with just
@@ -17,13 +18,11 @@
 #![tactic(auto)]
 
 mod call;
-mod fault;
 mod finished;
 mod limits;
 mod mediator;
 
 pub use call::{Call, Reply};
-pub use fault::{RunFault, UnknownSub};
 pub use finished::Finished;
 pub use limits::Limits;
 pub use mediator::Mediator;

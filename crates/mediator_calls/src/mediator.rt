@@ -1,6 +1,7 @@
 //! The mediator, with its calls.
 ghost use Rattle.std.specs.Prelude.{◌≡◌, [], take, true, false, IsOk, IfOk, IfErr, OnOk, OnErr};
 ghost use Rattle.mediator_history.specs.Subscriptions.{is_live};
+ghost use Rattle.mediator_state.specs.declared.fault.Fault.TheVariants.{UnknownSub};
 ghost use Rattle.mediator_state.specs.Calls.{IsSnapshot, RefusesSnapshot, RefusesClose, RefusesEdit, RefusesSubscribe, RefusesUnsubscribe, RefusesPull};
 ghost use Rattle.mediator_calls.specs.Mediation.{started, noted_at, journal_limits};
 ghost use Rattle.mediator_calls.specs.Limited.{AreAllowed, RefusesLimits};
@@ -8,7 +9,7 @@ ghost use Rattle.mediator_calls.specs.Sound.{IsSound};
 ghost use Rattle.mediator_calls.specs.Calls.{Opens, RefusesOpen, Closes, Receives, RefusesReceive, RefusesReceivePrepared, Edits, Subscribes, Unsubscribes, Advances, RefusesAdvance, Pulls, IsStatusOf, Drains};
 
 use crate::finished::Finished;
-use crate::{Limits, RunFault, UnknownSub};
+use crate::Limits;
 use bytes::Bytes;
 use disclosure_audit::AuditEntry;
 use event_journal::Journal;
@@ -79,14 +80,14 @@ impl Mediator {
     /// the policy has no rules, so it withholds all. All of it is in memory from `alloc`.
     ///
     /// # Errors
-    /// [`RunFault::BadLimits`] where a limit is out of its range; or [`RunFault::OutOfMemory`].
-    pub fn new(alloc: Global, limits: Limits) -> Result<Mediator, RunFault>
+    /// [`Fault::BadLimits`] where a limit is out of its range; or [`Fault::OutOfMemory`].
+    pub fn new(alloc: Global, limits: Limits) -> Result<Mediator, Fault>
         ensures ok { IfOk result (λ m. m ≡ started limits) }
         ensures allowed { OnOk result (AreAllowed limits) }
         ensures err { IfErr result (λ e. RefusesLimits e limits) }
     {
         if !limits.are_allowed() {
-            return Err(RunFault::BadLimits);
+            return Err(Fault::BadLimits);
         }
         let streams = StreamLimits {
             queue: limits.queue,
@@ -297,14 +298,15 @@ impl Mediator {
     /// How the live subscription with the number `sub` stands. It takes no memory.
     ///
     /// # Errors
-    /// [`UnknownSub`] where no subscription with this number is live.
-    pub fn status(&self, sub: SubId) -> Result<Status, UnknownSub>
+    /// [`Fault::UnknownSub`] where no subscription with this number is live.
+    pub fn status(&self, sub: SubId) -> Result<Status, Fault>
         ensures ok { IfOk result (λ status. IsStatusOf self.now sub.0 status) }
         ensures err { OnErr result (is_live sub.0 self.now.history ≡ false) }
+        ensures fault { IfErr result (λ e. e ≡ UnknownSub) }
     {
         match self.state.status(sub) {
             Some(status) => Ok(status),
-            None => Err(UnknownSub),
+            None => Err(Fault::UnknownSub),
         }
     }
 

@@ -5,10 +5,9 @@ use Rattle.std.specs.List.{AllByRecursion}
 use Rattle.std.proofs.KnownBytes.{Consumes-trans, Consumes-nil}
 use Rattle.std.proofs.lemmas.List.{length-take-le}
 use Rattle.mediator_connections.specs.declared.fault.ServeFault.{ServeFault}
-use Rattle.mediator_connections.specs.declared.fault.ServeFault.TheVariants.{Read, Framing, Turns, Core}
+use Rattle.mediator_connections.specs.declared.fault.ServeFault.TheVariants.{Read, Framing, Turns, Mediator}
 use Rattle.ipfix_reader.specs.declared.fault.FramingFault.TheVariants as framing
 use Rattle.mediator_state.specs.declared.fault.Fault.TheVariants as fault
-use Rattle.shared_mediator.specs.declared.fault.PullFault.TheVariants as pull
 use Rattle.mediator_connections.specs.Faults.{out_of_memory}
 use Rattle.mediator_connections.specs.CommandInput.{InputState, ahead, HandsOut, EndsBehind, IsLine, IsBegun, StopsReading, Fills}
 
@@ -55,7 +54,7 @@ pub stops_then : (e : ServeFault) (i k l : InputState) (given mid left : Option 
 stops_then Read i k l given mid left front octets so stops = Consumes-trans (ahead i given) (ahead k mid) (ahead l left) front octets so.taken stops
 stops_then Turns i k l given mid left front octets so stops = (hands_out_then i k l given mid left front octets so stops.0, stops.1, stops.2)
 stops_then (Framing framing.CutOff) i k l given mid left front octets so stops = ends_then i k given mid left front octets so stops
-stops_then (Core (pull.Core fault.OutOfMemory)) i k l given mid left front octets so stops = hands_out_then i k l given mid left front octets so stops
+stops_then (Mediator fault.OutOfMemory) i k l given mid left front octets so stops = hands_out_then i k l given mid left front octets so stops
 stops_then _ i k l given mid left front octets so stops = absurd stops
 
 pub begun_then : (e : ServeFault) (front octets : List ℕ) → IsBegun e octets → IsBegun e (front ++ octets)

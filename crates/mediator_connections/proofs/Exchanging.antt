@@ -11,7 +11,6 @@ use Rattle.ipfix_reader.specs.declared.fault.FramingFault.TheVariants as framing
 use Rattle.shared_mediator.specs.declared.kept.KeptEntry.{KeptEntry}
 use Rattle.mediator_history.proofs.HistoryLaws.{flat_map-push}
 use Rattle.mediator_state.specs.declared.fault.Fault.TheVariants as fault
-use Rattle.shared_mediator.specs.declared.fault.PullFault.TheVariants as pull
 use Rattle.admin_text.specs.Sayings.{Saying}
 use Rattle.admin_text.specs.Sayings.Saying.{to_edit, to_subscribe, to_unsubscribe, to_advance, to_tell_status, to_drain_audit, to_tell, to_stop}
 use Rattle.admin_text.specs.Grammar.{longest_line, IsSubscription}
@@ -22,7 +21,7 @@ use Rattle.admin_text.specs.declared.answer.Answer.{Answer}
 use Rattle.admin_text.specs.declared.answer.Answer.TheVariants as answer
 use Rattle.admin_text.proofs.LineLaws.{command_of-only}
 use Rattle.mediator_connections.specs.declared.fault.ServeFault.{ServeFault}
-use Rattle.mediator_connections.specs.declared.fault.ServeFault.TheVariants.{Read, Write, Framing, Turns, Core}
+use Rattle.mediator_connections.specs.declared.fault.ServeFault.TheVariants.{Read, Write, Framing, Turns, Mediator}
 use Rattle.mediator_connections.specs.Faults.{out_of_memory}
 use Rattle.mediator_connections.specs.CommandInput.{InputState, unread, ahead, HandsOut, EndsBehind, IsLine, IsBegun, StopsReading}
 use Rattle.mediator_connections.specs.Answering.{handle_of, Answers, Exchange, asked, answered, IsExchange, AreExchanges, GoesOn, Exchanges, ServesAdmin, StopsInside, StopsAdmin, Performs, Hears, StopsHearing, StopsReplying}
@@ -318,7 +317,7 @@ stops_hearing Turns turns i k count sent given mid left held holds failed old ne
 )
 stops_hearing (Framing framing.CutOff) turns i k count sent given mid left held holds failed old new octets so stops begun =
     (octets, inside_of turns i count sent given mid left held holds old new octets so stops.taken, begun, stops.end)
-stops_hearing (Core (pull.Core fault.OutOfMemory)) turns i k count sent given mid left held holds failed old new octets so stops begun =
+stops_hearing (Mediator fault.OutOfMemory) turns i k count sent given mid left held holds failed old new octets so stops begun =
     (octets ++ k.pending, inside_of turns i count sent given mid left held holds old new (octets ++ k.pending) so (all_read (ahead i mid) left octets k.pending stops.taken))
 stops_hearing _ turns i k count sent given mid left held holds failed old new octets so stops begun = absurd stops
 
@@ -348,7 +347,7 @@ stops_replying (Write n) turns i k count sent given mid left held holds writes f
   where
     place : n ≡ sent + stopped.stops.0 → n ≡ length (answered so.commands) + stopped.stops.0
     place is = is ∙ ap (λ m. m + stopped.stops.0) so.sent_are
-stops_replying (Core pull.HandedFull) turns i k count sent given mid left held holds writes failed old before new reply last so hears stopped =
+stops_replying (Mediator fault.HandedFull) turns i k count sent given mid left held holds writes failed old before new reply last so hears stopped =
     let x : Exchange = exchange_of reply last i k mid left before new hears stopped.text in
     let h : Heard turns k so.commands x given left old new = heard turns i k count sent given mid left held holds old before new reply last stopped.text so hears stopped.is in (
       x,

@@ -10,9 +10,8 @@ use Rattle.ipfix_reader.specs.declared.fault.IntakeFault.{IntakeFault}
 use Rattle.ipfix_reader.specs.declared.fault.IntakeFault.TheVariants as intake
 use Rattle.ipfix_reader.specs.Intake.{IntakeState, nothing_read, Takes, Ends, Stops, HasFault, reader_after as intake_reader}
 use Rattle.shared_mediator.specs.Locked.{Exporting}
-use Rattle.shared_mediator.specs.declared.fault.PullFault.TheVariants as pull
 use Rattle.mediator_connections.specs.declared.fault.ServeFault.{ServeFault}
-use Rattle.mediator_connections.specs.declared.fault.ServeFault.TheVariants.{Read, Write, Framing, Turns, TooWide, TooManyCounts, Core}
+use Rattle.mediator_connections.specs.declared.fault.ServeFault.TheVariants.{Read, Write, Framing, Turns, TooWide, TooManyCounts, Mediator}
 use Rattle.mediator_connections.specs.Faults.{out_of_memory, intake_refusal, reader_after}
 use Rattle.mediator_connections.specs.Serving.{IsRefusalOf, Offers, OffersWhole, OffersBefore, AreRead, RefusesOne, Serves, StopsAt, StopsServing, RefusesAmong, Reaches}
 use Rattle.mediator_connections.proofs.Offering.{offers_none, offers_then, receipts_count}
@@ -104,8 +103,7 @@ refuses_one e turns i k given mid left old d new out so takes stop = record {
 }
 
 stops_there : (e : ServeFault) (turns : ℕ) (octets : List ℕ) (left : Option (List ℕ)) (old new : Exporting) → (one : RefusesOne octets old new) → IsRefusalOf e one.message → AreRead turns octets → StopsAt e turns octets left old new
-stops_there (Core (pull.Core why)) turns octets left old new one is few = (inl one, few)
-stops_there (Core pull.HandedFull) turns octets left old new one is few = absurd is
+stops_there (Mediator why) turns octets left old new one is few = (inl (one, is), few)
 stops_there TooWide turns octets left old new one is few = ((one, is), few)
 stops_there TooManyCounts turns octets left old new one is few = ((one, is), few)
 stops_there Read turns octets left old new one is few = absurd is
@@ -207,8 +205,7 @@ intake_reads intake.Turns e failed is fails = rw is fails
 intake_reads intake.OutOfMemory e failed is fails = rw is fails
 
 pub refusal_reads : (e : ServeFault) (message : List ℕ) (failed : Bool) → IsRefusalOf e message → failed ≡ false → failed ≡ reader_after e
-refusal_reads (Core (pull.Core why)) message failed is sound = sound
-refusal_reads (Core pull.HandedFull) message failed is sound = absurd is
+refusal_reads (Mediator why) message failed is sound = sound
 refusal_reads TooWide message failed is sound = sound
 refusal_reads TooManyCounts message failed is sound = sound
 refusal_reads Read message failed is sound = absurd is
@@ -216,5 +213,5 @@ refusal_reads (Write sent) message failed is sound = absurd is
 refusal_reads (Framing why) message failed is sound = absurd is
 refusal_reads Turns message failed is sound = absurd is
 
-pub core_reads : (e : ServeFault) (old new : Exporting) (out : List (List ℕ)) (failed : Bool) → RefusesAmong e old new out → failed ≡ false → failed ≡ reader_after e
-core_reads e old new out failed stop sound = refusal_reads e stop.message failed stop.is sound
+pub mediator_reads : (e : ServeFault) (old new : Exporting) (out : List (List ℕ)) (failed : Bool) → RefusesAmong e old new out → failed ≡ false → failed ≡ reader_after e
+mediator_reads e old new out failed stop sound = refusal_reads e stop.message failed stop.is sound

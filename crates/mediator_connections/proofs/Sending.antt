@@ -19,11 +19,11 @@ use Rattle.stream_meaning.proofs.Steps.{run_fits}
 use Rattle.stream_meaning.proofs.Listed.{parts_known}
 use Rattle.mediator_history.proofs.HistoryLaws.{flat_map-push}
 use Rattle.shared_mediator.specs.declared.handed.Handed.{Handed}
-use Rattle.shared_mediator.specs.declared.fault.PullFault.{PullFault}
+use Rattle.mediator_state.specs.declared.fault.Fault.{Fault}
 use Rattle.shared_mediator.specs.Locked.{Delivering}
-use Rattle.shared_mediator.specs.Handles.{IsBuilt, KeepsSome}
+use Rattle.shared_mediator.specs.Handles.{IsBuilt, KeepsSome, MayRefusePull}
 use Rattle.mediator_connections.specs.declared.fault.ServeFault.{ServeFault}
-use Rattle.mediator_connections.specs.declared.fault.ServeFault.TheVariants.{Write, Core}
+use Rattle.mediator_connections.specs.declared.fault.ServeFault.TheVariants.{Write, Mediator}
 use Rattle.mediator_connections.specs.Faults.{writer_after}
 use Rattle.mediator_connections.specs.Delivering.{octets_of, IsDue, Pulls, Delivers, StopsInside, FailsToDeliver, Sends, StopsSending}
 
@@ -231,6 +231,6 @@ sending_stops f messages begun sent place h other held holds writes failed so l 
     }
 
 -- a pull is refused
-pub refused : (f : ServeFault) (why : PullFault) (Shows : ℕ → Type 0) (target sent : ℕ) (old d e : Delivering) (held holds : Option (List ℕ)) (failed : Bool) → f ≡ Core why → e ≡ d → Delivers Shows target sent old d (writer_of held holds)
+pub refused : (f : ServeFault) (why : Fault) (Shows : ℕ → Type 0) (target sent : ℕ) (old d e : Delivering) (held holds : Option (List ℕ)) (failed : Bool) → f ≡ Mediator why → MayRefusePull why → e ≡ d → Delivers Shows target sent old d (writer_of held holds)
     → FailsToDeliver f Shows target old e (writer_of held holds) failed
-refused f why Shows target sent old d e held holds failed is same so = rw is (sent, subst (λ x. Delivers Shows target sent old x (writer_of held holds)) (sym same) so)
+refused f why Shows target sent old d e held holds failed is may same so = rw is ((sent, subst (λ x. Delivers Shows target sent old x (writer_of held holds)) (sym same) so), may)

@@ -8,7 +8,6 @@ use Rattle.event_journal.specs.declared.entry.Entry.TheVariants.{Edit, Subscribe
 use Rattle.shared_mediator.specs.declared.kept.KeptEntry.{KeptEntry}
 use Rattle.ipfix_reader.specs.declared.fault.FramingFault.TheVariants as framing
 use Rattle.mediator_state.specs.declared.fault.Fault.TheVariants as fault
-use Rattle.shared_mediator.specs.declared.fault.PullFault.TheVariants as pull
 use Rattle.shared_mediator.specs.Handles.{KeepsEntry}
 use Rattle.admin_text.specs.Sayings.{Saying}
 use Rattle.admin_text.specs.Sayings.Saying.{to_edit, to_subscribe, to_unsubscribe, to_advance, to_tell_status, to_drain_audit, to_tell, to_stop}
@@ -17,7 +16,7 @@ use Rattle.admin_text.specs.Answers.{IsTextOf}
 use Rattle.admin_text.specs.declared.answer.Answer.{Answer}
 use Rattle.admin_text.specs.declared.answer.Answer.TheVariants as answer
 use Rattle.mediator_connections.specs.declared.fault.ServeFault.{ServeFault}
-use Rattle.mediator_connections.specs.declared.fault.ServeFault.TheVariants.{Read, Write, Framing, Turns, Core}
+use Rattle.mediator_connections.specs.declared.fault.ServeFault.TheVariants.{Read, Write, Framing, Turns, Mediator}
 use Rattle.mediator_connections.specs.CommandInput.{InputState, HandsOut, IsLine, IsBegun, StopsReading}
 
 -- what an administrator's handle keeps, before and after
@@ -157,12 +156,12 @@ StopsAdmin Turns turns reader writer has_failed handle commands =
     (begun : List ℕ) × StopsInside commands begun reader writer handle × (turns ≤ length (asked commands ++ begun))
 StopsAdmin (Framing framing.CutOff) turns reader writer has_failed handle commands =
     (begun : List ℕ) × StopsInside commands begun reader writer handle × (0 < length begun) × IsAtEnd reader.left
-StopsAdmin (Core (pull.Core fault.OutOfMemory)) turns reader writer has_failed handle commands =
+StopsAdmin (Mediator fault.OutOfMemory) turns reader writer has_failed handle commands =
     (begun : List ℕ) × StopsInside commands begun reader writer handle
 StopsAdmin (Write sent) turns reader writer has_failed handle commands =
     (last : Exchange) × StopsBehind commands last reader handle
     × WritesFront writer.held writer.holds (answered (commands ++ last ∷ [])) sent has_failed × (length (answered commands) ≤ sent)
-StopsAdmin (Core pull.HandedFull) turns reader writer has_failed handle commands =
+StopsAdmin (Mediator fault.HandedFull) turns reader writer has_failed handle commands =
     (last : Exchange) × StopsBehind commands last reader handle
     × Appends writer.held writer.holds (answered commands) × (2 ^ 64 ≤ length (answered (commands ++ last ∷ [])))
 StopsAdmin _ turns reader writer has_failed handle commands = ⊥
@@ -194,7 +193,7 @@ pub record StopsHearing (e : ServeFault) (old : InputState) (given left : Option
 -- the writer failed inside these octets; or behind so many they can't be counted
 abbrev pub StopsSendingOctets : ServeFault → List ℕ → ℕ → Option (List ℕ) → Option (List ℕ) → Bool → Type 0
 StopsSendingOctets (Write count) octets sent held holds has_failed = (front : ℕ) × (count ≡ sent + front) × WritesFront held holds octets front has_failed
-StopsSendingOctets (Core pull.HandedFull) octets sent held holds has_failed = (holds ≡ held) × (2 ^ 64 ≤ sent + length octets)
+StopsSendingOctets (Mediator fault.HandedFull) octets sent held holds has_failed = (holds ≡ held) × (2 ^ 64 ≤ sent + length octets)
 StopsSendingOctets _ octets sent held holds has_failed = ⊥
 
 pub record StopsReplying (e : ServeFault) (reply : Answer) (sent : ℕ) (held holds : Option (List ℕ)) (has_failed : Bool) : Type 0 where

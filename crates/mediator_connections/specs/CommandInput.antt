@@ -6,9 +6,8 @@ use Rattle.std.specs.Io.KnownBytes.{Consumes, IsAtEnd, prepend_known}
 use Rattle.ipfix_reader.specs.declared.fault.FramingFault.TheVariants as framing
 use Rattle.admin_text.specs.Grammar.{longest_line}
 use Rattle.mediator_state.specs.declared.fault.Fault.TheVariants as fault
-use Rattle.shared_mediator.specs.declared.fault.PullFault.TheVariants as pull
 use Rattle.mediator_connections.specs.declared.fault.ServeFault.{ServeFault}
-use Rattle.mediator_connections.specs.declared.fault.ServeFault.TheVariants.{Read, Framing, Turns, Core}
+use Rattle.mediator_connections.specs.declared.fault.ServeFault.TheVariants.{Read, Framing, Turns, Mediator}
 
 -- what was read and isn't handed out yet, and how many reads are left
 pub record InputState : Type 0 where
@@ -44,7 +43,7 @@ abbrev pub StopsReading : ServeFault → InputState → Option (List ℕ) → Op
 StopsReading Read old given left octets new = Consumes (ahead old given) (ahead new left) octets
 StopsReading Turns old given left octets new = HandsOut old given left octets new × (new.pending ≡ []) × (new.turns ≡ 0)
 StopsReading (Framing framing.CutOff) old given left octets new = EndsBehind old given left octets
-StopsReading (Core (pull.Core fault.OutOfMemory)) old given left octets new = HandsOut old given left octets new
+StopsReading (Mediator fault.OutOfMemory) old given left octets new = HandsOut old given left octets new
 StopsReading _ old given left octets new = ⊥
 
 -- where the input ended inside a command, some octets of it were handed out

@@ -8,10 +8,10 @@ use Rattle.event_journal.specs.declared.entry.Entry.TheVariants.{Unsubscribe}
 use Rattle.shared_mediator.specs.declared.kept.KeptEntry.{KeptEntry}
 use Rattle.shared_mediator.specs.declared.handed.Handed.{Handed}
 use Rattle.shared_mediator.specs.Locked.{Delivering}
-use Rattle.shared_mediator.specs.Handles.{IsBuilt, KeepsEntry}
+use Rattle.shared_mediator.specs.Handles.{IsBuilt, KeepsEntry, MayRefusePull}
 use Rattle.mediator_connections.specs.declared.delivery.TheConstants.{MOST_AT_ONCE}
 use Rattle.mediator_connections.specs.declared.fault.ServeFault.{ServeFault}
-use Rattle.mediator_connections.specs.declared.fault.ServeFault.TheVariants.{Write, Core}
+use Rattle.mediator_connections.specs.declared.fault.ServeFault.TheVariants.{Write, Mediator}
 
 -- the octets of messages, one directly after another
 abbrev pub octets_of : List Handed → List ℕ
@@ -49,7 +49,7 @@ pub record StopsInside (Shows : ℕ → Type 0) (target sent : ℕ) (old new : D
 -- why it stops, and what was written then: at a refusal, all that was pulled
 abbrev pub FailsToDeliver : ServeFault → (ℕ → Type 0) → ℕ → Delivering → Delivering → Writer → Bool → Type 0
 FailsToDeliver (Write sent) Shows target old new writer has_failed = StopsInside Shows target sent old new writer has_failed
-FailsToDeliver (Core why) Shows target old new writer has_failed = (sent : ℕ) × Delivers Shows target sent old new writer
+FailsToDeliver (Mediator why) Shows target old new writer has_failed = ((sent : ℕ) × Delivers Shows target sent old new writer) × MayRefusePull why
 FailsToDeliver _ Shows target old new writer has_failed = ⊥
 
 -- what an administrator's handle keeps then: where the writer failed, the end of the subscription, unless that is refused

@@ -1,14 +1,13 @@
 -- What refusals of the parts are called here, and which device has failed after a fault.
 use Rattle.std.specs.Prelude.{Bool, true, false}
 use Rattle.mediator_state.specs.declared.fault.Fault.TheVariants as fault
-use Rattle.shared_mediator.specs.declared.fault.PullFault.TheVariants as pull
 use Rattle.ipfix_reader.specs.declared.fault.IntakeFault.{IntakeFault}
 use Rattle.ipfix_reader.specs.declared.fault.IntakeFault.TheVariants as intake
 use Rattle.mediator_connections.specs.declared.fault.ServeFault.{ServeFault}
-use Rattle.mediator_connections.specs.declared.fault.ServeFault.TheVariants.{Read, Write, Framing, Turns, Core}
+use Rattle.mediator_connections.specs.declared.fault.ServeFault.TheVariants.{Read, Write, Framing, Turns, Mediator}
 
 abbrev pub out_of_memory : ServeFault
-out_of_memory = Core (pull.Core fault.OutOfMemory)
+out_of_memory = Mediator fault.OutOfMemory
 
 -- what an intake's refusal is called
 abbrev pub intake_refusal : IntakeFault → ServeFault

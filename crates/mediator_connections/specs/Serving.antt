@@ -13,12 +13,12 @@ use Rattle.event_journal.specs.declared.entry.Entry.TheVariants.{Message}
 use Rattle.shared_mediator.specs.declared.kept.KeptEntry.{KeptEntry}
 use Rattle.mediator_state.specs.declared.fault.Fault.{Fault}
 use Rattle.mediator_state.specs.declared.fault.Fault.TheVariants as fault
-use Rattle.shared_mediator.specs.declared.fault.PullFault.TheVariants as pull
 use Rattle.prepared_message.specs.Widths.{IsTooWide}
 use Rattle.prepared_message.specs.Holding.{CountsTooMany}
 use Rattle.shared_mediator.specs.Locked.{Exporting}
+use Rattle.shared_mediator.specs.Handles.{MayRefuseOffer}
 use Rattle.mediator_connections.specs.declared.fault.ServeFault.{ServeFault}
-use Rattle.mediator_connections.specs.declared.fault.ServeFault.TheVariants.{Read, Write, Framing, Turns, TooWide, TooManyCounts, Core}
+use Rattle.mediator_connections.specs.declared.fault.ServeFault.TheVariants.{Read, Write, Framing, Turns, TooWide, TooManyCounts, Mediator}
 
 -- ---- receipts
 
@@ -102,7 +102,7 @@ StopsAt Turns turns octets left old new = ((pending : List ℕ) × OffersWhole o
 StopsAt (Framing framing.CutOff) turns octets left old new = ((pending : List ℕ) × OffersWhole octets pending old new × (0 < length pending)) × AreReadBut turns octets × IsAtEnd left
 StopsAt (Framing framing.BadVersion) turns octets left old new = OffersBefore frame.BadVersion octets old new × AreRead turns octets
 StopsAt (Framing framing.BadLength) turns octets left old new = OffersBefore frame.BadLength octets old new × AreRead turns octets
-StopsAt (Core (pull.Core why)) turns octets left old new = (RefusesOne octets old new ⊎ LosesPiece why octets old new) × AreRead turns octets
+StopsAt (Mediator why) turns octets left old new = ((RefusesOne octets old new × MayRefuseOffer why) ⊎ LosesPiece why octets old new) × AreRead turns octets
 StopsAt TooWide turns octets left old new = ((one : RefusesOne octets old new) × IsTooWideAt one.message) × AreRead turns octets
 StopsAt TooManyCounts turns octets left old new = ((one : RefusesOne octets old new) × CountsTooMany one.message) × AreRead turns octets
 StopsAt _ turns octets left old new = ⊥
@@ -117,8 +117,7 @@ pub record StopsServing (e : ServeFault) (turns : ℕ) (given left : Option (Lis
 
 -- why a message isn't offered: the mediator refuses it, it's too wide, or too many of its records count
 abbrev pub IsRefusalOf : ServeFault → List ℕ → Type 0
-IsRefusalOf (Core (pull.Core why)) message = Unit {0}
-IsRefusalOf (Core pull.HandedFull) message = ⊥
+IsRefusalOf (Mediator why) message = MayRefuseOffer why
 IsRefusalOf TooWide message = IsTooWideAt message
 IsRefusalOf TooManyCounts message = CountsTooMany message
 IsRefusalOf Read message = ⊥

@@ -16,12 +16,10 @@ use crate::room::wait_for_advance;
 use admin_text::{Answer, Command, Topic, read_command, write_answer};
 use answer_writing::{AnswerBuffer, Stopped, drained_length};
 use disclosure_audit::AuditEntry;
-use mediator_calls::{SubId, UnknownSub};
+use mediator_calls::SubId;
 use mediator_state::Fault;
 use octet_io::{Sink, Source};
-use shared_mediator::{
-    AdminHandle, EntryLedger, KeptEntry, PullFault, RecordLedger, SharedMediator,
-};
+use shared_mediator::{AdminHandle, EntryLedger, KeptEntry, RecordLedger, SharedMediator};
 use std::alloc::{AllocError, Global};
 use std::str::from_utf8;
 use std::sync::Wait;
@@ -53,10 +51,10 @@ struct Heard {
 ///
 /// # Errors
 /// `Read` where the reader failed; `Framing` where the input ends inside a command; `Turns` where its end isn't read within
-/// `turns` reads; or `Core` where memory ran out for what is read. Then no call was made for the command in hand, and those
-/// before it were answered. `Write` where the writer failed, which says how many octets of all answers were sent; or `Core` where
-/// the octets sent can't be counted in 64 bits. Then the call that was to be answered has been made. What the mediator refuses is
-/// an answer, and no error.
+/// `turns` reads; or `Mediator` where memory ran out for what is read. Then no call was made for the command in hand, and those
+/// before it were answered. `Write` where the writer failed, which says how many octets of all answers were sent; or `Mediator`,
+/// with `HandedFull`, where the octets sent can't be counted in 64 bits. Then the call that was to be answered has been made. What
+/// the mediator refuses is an answer, and no error.
 pub fn serve_admin<E: EntryLedger, H: RecordLedger, R: Source, W: Sink, C: Control>(
     rt: &impl Wait,
     alloc: Global,
@@ -364,7 +362,7 @@ fn status<E: EntryLedger, H: RecordLedger>(
 {
     match handle.status(rt, shared, SubId(sub)) {
         Ok(status) => Answer::Stands(status),
-        Err(UnknownSub) => Answer::Refused(Fault::UnknownSub),
+        Err(fault) => Answer::Refused(fault),
     }
 }
 
@@ -466,6 +464,6 @@ fn reply<W: Sink>(
     match write_answer(alloc, buffer, writer, answer, sent) {
         Ok(sent) => Ok(sent),
         Err(Stopped::Failed { sent }) => Err(ServeFault::Write { sent }),
-        Err(Stopped::Uncounted) => Err(ServeFault::Core(PullFault::HandedFull)),
+        Err(Stopped::Uncounted) => Err(ServeFault::Mediator(Fault::HandedFull)),
     }
 }

@@ -7,11 +7,11 @@ ghost use Rattle.mediator_connections.specs.Delivering.{Delivers, FailsToDeliver
 
 use crate::clock::Clock;
 use crate::fault::ServeFault;
-use mediator_calls::{SubId, UnknownSub};
+use mediator_calls::SubId;
+use mediator_state::Fault;
 use octet_io::{Sink, write_all};
 use shared_mediator::{
-    AdminHandle, DeliveryHandle, EntryLedger, Handed, PullFault, RecordLedger, SharedMediator,
-    Waited,
+    AdminHandle, DeliveryHandle, EntryLedger, Handed, RecordLedger, SharedMediator, Waited,
 };
 use std::alloc::{AllocError, Global};
 use std::sync::Wait;
@@ -31,7 +31,7 @@ const MOST_AT_ONCE: u64 = 32;
 ///
 /// # Errors
 /// `Write` where the writer failed: it says how many octets were sent of all that was pulled. Only messages of the last pull were
-/// not sent whole. `Core` where the mediator refuses a pull, or the octets sent, with those of one pull more, might not be
+/// not sent whole. `Mediator` where the mediator refuses a pull, or the octets sent, with those of one pull more, might not be
 /// counted in 64 bits: all that was pulled before is sent. Beside the fault stands how many records waited for the subscription
 /// then, before it was ended; 0 where it is no longer live.
 pub fn deliver<E: EntryLedger, H: RecordLedger, W: Sink, C: Clock>(
@@ -76,7 +76,7 @@ fn records_waiting<E: EntryLedger, H: RecordLedger>(
 ) -> u64 {
     match admin.status(rt, shared, sub) {
         Ok(status) => u64::from(status.queued),
-        Err(UnknownSub) => 0,
+        Err(_) => 0,
     }
 }
 
@@ -122,7 +122,7 @@ fn send_messages<E: EntryLedger, H: RecordLedger, W: Sink, C: Clock>(
     let mut sent = 0u64;
     'pulls: for _ in rt.forever() {
         if sent > u64::MAX - MOST_AT_ONCE * LONGEST_MESSAGE {
-            return Err(ServeFault::Core(PullFault::HandedFull));
+            return Err(ServeFault::Mediator(Fault::HandedFull));
         }
         let messages = handle.pull_some(rt, shared, clock.now(), target, MOST_AT_ONCE)?;
         if !messages.is_empty() {

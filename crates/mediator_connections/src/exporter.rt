@@ -100,8 +100,8 @@ impl Progress {
 /// `Read` where the reader failed; `Framing` where the stream is faulty, or ends inside a message; `Turns` where its end isn't
 /// read within `turns` reads; `TooWide` where a message is too wide to be offered
 /// ([`Snapshot::is_too_wide`](prepared_message::Snapshot::is_too_wide)); `TooManyCounts` where too many of its records count in
-/// aggregates ([`JudgedAhead::counts_too_many`]); or `Core` where the mediator refuses a message, or memory ran out. The messages
-/// before that were accepted, and what they brought stands beside the fault.
+/// aggregates ([`JudgedAhead::counts_too_many`]); or `Mediator` where the mediator refuses a message, or memory ran out. The
+/// messages before that were accepted, and what they brought stands beside the fault.
 pub fn serve_exporter<
     E: EntryLedger,
     H: RecordLedger,

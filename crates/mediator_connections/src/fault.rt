@@ -2,7 +2,6 @@
 
 use ipfix_reader::{FramingFault, IntakeFault};
 use mediator_state::Fault;
-use shared_mediator::PullFault;
 use std::alloc::AllocError;
 use std::error::Error;
 use std::fmt::{self, Display, Formatter, Write};
@@ -24,8 +23,9 @@ pub enum ServeFault {
     /// More records of a message count in aggregates than [`MOST_COUNTS`](prepared_message::MOST_COUNTS), added up over all
     /// subscriptions: it isn't offered.
     TooManyCounts,
-    /// The mediator refused a call; or memory ran out; or the octets that were sent can't be counted any further.
-    Core(PullFault),
+    /// The mediator refused a call; or memory ran out (`OutOfMemory`, wherever it did); or the octets that were sent can't
+    /// be counted any further (`HandedFull`).
+    Mediator(Fault),
 }
 
 impl Error for ServeFault {}
@@ -44,31 +44,19 @@ impl Display for ServeFault {
             ServeFault::Turns => "Turns",
             ServeFault::TooWide => "TooWide",
             ServeFault::TooManyCounts => "TooManyCounts",
-            ServeFault::Core(_) => "Core",
+            ServeFault::Mediator(_) => "Mediator",
         })
-    }
-}
-
-impl From<PullFault> for ServeFault {
-    ghost use Rattle.std.specs.Prelude.{◌≡◌};
-    ghost use Rattle.mediator_connections.specs.declared.fault.ServeFault.TheVariants.{Core};
-
-    ghost from_gives = { λ f e. e ≡ Core f };
-
-    fn from(fault: PullFault) -> ServeFault {
-        ServeFault::Core(fault)
     }
 }
 
 impl From<Fault> for ServeFault {
     ghost use Rattle.std.specs.Prelude.{◌≡◌};
-    ghost use Rattle.shared_mediator.specs.declared.fault.PullFault.TheVariants as pull;
-    ghost use Rattle.mediator_connections.specs.declared.fault.ServeFault.TheVariants.{Core};
+    ghost use Rattle.mediator_connections.specs.declared.fault.ServeFault.TheVariants.{Mediator};
 
-    ghost from_gives = { λ f e. e ≡ Core (pull.Core f) };
+    ghost from_gives = { λ f e. e ≡ Mediator f };
 
     fn from(fault: Fault) -> ServeFault {
-        ServeFault::Core(PullFault::Core(fault))
+        ServeFault::Mediator(fault)
     }
 }
 
@@ -79,7 +67,7 @@ impl From<AllocError> for ServeFault {
     ghost from_gives = { λ _ e. e ≡ out_of_memory };
 
     fn from(_e: AllocError) -> ServeFault {
-        ServeFault::Core(PullFault::Core(Fault::OutOfMemory))
+        ServeFault::Mediator(Fault::OutOfMemory)
     }
 }
 
@@ -94,7 +82,7 @@ impl From<IntakeFault> for ServeFault {
             IntakeFault::Read => ServeFault::Read,
             IntakeFault::Framing(why) => ServeFault::Framing(why),
             IntakeFault::Turns => ServeFault::Turns,
-            IntakeFault::OutOfMemory => ServeFault::Core(PullFault::Core(Fault::OutOfMemory)),
+            IntakeFault::OutOfMemory => ServeFault::Mediator(Fault::OutOfMemory),
         }
     }
 }

@@ -16,8 +16,8 @@
 //! stream ended (`serves`); at a fault those before it (`stops`). Each fault stands only where its cause does: `Read` where the
 //! reader has failed (`fails`), `Framing` where what was read is framed in that way, `Turns` where as many reads were made as are
 //! allowed, `TooWide` where a message in hand is too wide by the templates of some session, `TooManyCounts` where more of its
-//! records count than are allowed, by the templates of some session and on some terms, and `Core` where one was refused or memory
-//! ran out.
+//! records count than are allowed, by the templates of some session and on some terms, and `Mediator` where one was refused for
+//! what a message may be refused for, or memory ran out.
 //!
 //! Proved of `deliver`: what it writes are the messages that its handle kept in that call, in order, each built for an Export
 //! Time that the clock may show and for the target; all of them where the answer is `Ok` or a refusal, with their octets counted,

@@ -3,7 +3,7 @@ use Rattle.std.proofs.Common.{◌≡◌, Bool, false, List, ℕ, Option, refl, a
 use Rattle.mediator_offline.specs.declared.run.Run.{Run}
 use Rattle.mediator_state.specs.declared.fault.Fault.TheVariants as fault
 use Rattle.mediator_offline.specs.declared.job.OfflineFault.{OfflineFault}
-use Rattle.mediator_offline.specs.declared.job.OfflineFault.TheVariants.{Write, Core, AuditWrite}
+use Rattle.mediator_offline.specs.declared.job.OfflineFault.TheVariants.{Write, Mediator, AuditWrite}
 use Rattle.mediator_offline.specs.Failing.{writer_after, audit_after, FailsOnly}
 use Rattle.mediator_offline.specs.Recording.{StopsLines}
 use Rattle.mediator_offline.specs.Pulling.{StopsDelivery, FailsDelivery}
@@ -22,7 +22,7 @@ lines_only e x had w audit_had a is cause fails same = rw is (only x cause fails
   where
     only : (y : OfflineFault) → StopsLines y a → a ≡ audit_after y audit_had → FailsOnly y had audit_had false w a
     only AuditWrite c f = record { reader = refl; writer = same; audit = f }
-    only (Core fault.OutOfMemory) c f = record { reader = refl; writer = same; audit = f }
+    only (Mediator fault.OutOfMemory) c f = record { reader = refl; writer = same; audit = f }
     only _ c f = absurd c
 
 -- of a delivery, the writer alone
@@ -31,5 +31,5 @@ delivery_only e x d held holds had w audit_had is delivery fails = rw is (only x
   where
     only : (y : OfflineFault) → StopsDelivery y d held holds w delivery.messages → w ≡ writer_after y had → FailsOnly y had audit_had false w audit_had
     only (Write sent) s f = record { reader = refl; writer = f; audit = refl }
-    only (Core fault.OutOfMemory) s f = record { reader = refl; writer = f; audit = refl }
+    only (Mediator fault.OutOfMemory) s f = record { reader = refl; writer = f; audit = refl }
     only _ s f = absurd s

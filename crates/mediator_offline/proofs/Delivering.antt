@@ -37,7 +37,7 @@ use Rattle.mediator_offline.specs.HandsOut.{HandsOut}
 use Rattle.mediator_offline.proofs.Receiving.{within_end}
 use Rattle.mediator_offline.specs.Offline.{end_of}
 use Rattle.mediator_offline.specs.declared.job.OfflineFault.{OfflineFault}
-use Rattle.mediator_offline.specs.declared.job.OfflineFault.TheVariants.{Write, Core}
+use Rattle.mediator_offline.specs.declared.job.OfflineFault.TheVariants.{Write, Mediator}
 use Rattle.mediator_state.specs.declared.fault.Fault.TheVariants as fault
 use Rattle.mediator_offline.specs.Pulling.{IsDelivering, Pulls, Delivers, StopsDelivery, FailsDelivery}
 
@@ -329,7 +329,7 @@ write_fails old new held holds text n e failed d is front = rw is (record {
 })
 
 -- memory ran out, and nothing was written
-pub memory_fails : (old : Run) (held : Option (List ℕ)) (e : OfflineFault) (failed : Bool) → e ≡ Core fault.OutOfMemory → FailsDelivery e old held held failed
+pub memory_fails : (old : Run) (held : Option (List ℕ)) (e : OfflineFault) (failed : Bool) → e ≡ Mediator fault.OutOfMemory → FailsDelivery e old held held failed
 memory_fails old held e failed is = rw is (record {
   messages = [];
   handed = λ h p so small. (p, refl);

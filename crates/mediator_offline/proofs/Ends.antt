@@ -19,7 +19,7 @@ use Rattle.stream_meaning.proofs.Handing.{none_handed_out}
 use Rattle.mediator_offline.specs.declared.job.OfflineJob.{OfflineJob}
 use Rattle.mediator_offline.specs.declared.job.OfflineReport.{OfflineReport}
 use Rattle.mediator_offline.specs.declared.job.OfflineFault.{OfflineFault}
-use Rattle.mediator_offline.specs.declared.job.OfflineFault.TheVariants.{Write, Core, Cut, AuditWrite}
+use Rattle.mediator_offline.specs.declared.job.OfflineFault.TheVariants.{Write, Mediator, Cut, AuditWrite}
 use Rattle.mediator_offline.specs.declared.run.Run.{Run}
 use Rattle.mediator_offline.specs.Ports.{Outputs, Ports, holding, with_left, unfailed}
 use Rattle.mediator_offline.specs.Faults.{intake_refusal}
@@ -120,7 +120,7 @@ message_stops e d i k job before mid after out so takes stop = record { octets =
     }
 
     by : (x : OfflineFault) → StopsAtOne x job octets before.outputs after.outputs → StopsHere x job octets before after
-    by (Core f) s = (inl s, few)
+    by (Mediator f) s = (inl s, few)
     by (Write sent) s = (s, few)
     by Cut s = (s, few)
     by AuditWrite s = (s, few)

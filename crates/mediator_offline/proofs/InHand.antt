@@ -26,7 +26,7 @@ use Rattle.sequences.proofs.ListLaws.{take-add-append}
 use Rattle.mediator_offline.specs.declared.run.Run.{Run}
 use Rattle.mediator_offline.specs.declared.job.OfflineJob.{OfflineJob}
 use Rattle.mediator_offline.specs.declared.job.OfflineFault.{OfflineFault}
-use Rattle.mediator_offline.specs.declared.job.OfflineFault.TheVariants.{Write, Core, Cut, AuditWrite}
+use Rattle.mediator_offline.specs.declared.job.OfflineFault.TheVariants.{Write, Mediator, Cut, AuditWrite}
 use Rattle.mediator_offline.specs.Ports.{Outputs, holding}
 use Rattle.mediator_offline.specs.Lines.{lines_for, WritesSome, WritesOn}
 use Rattle.mediator_offline.specs.Recording.{Records, StopsLines}
@@ -243,7 +243,7 @@ nothing_in_hand d job messages octets {before} {after} r =
     }
 
 pub stops_refused : (f : Fault) (d : Run) (job : OfflineJob) (messages : List (List ℕ)) (octets : List ℕ) (before after : Outputs) → IsRunning d job messages before after
-    → RefusesMessage f (history_of job messages) octets → StopsAtMessage (Core f) job messages (due job messages) octets before after
+    → RefusesMessage f (history_of job messages) octets → StopsAtMessage (Mediator f) job messages (due job messages) octets before after
 stops_refused fault.OutOfMemory d job messages octets before after r refuses = nothing_in_hand d job messages octets r
 stops_refused (fault.Malformed why) d job messages octets before after r refuses = (refuses, r.writes)
 stops_refused fault.JournalFull d job messages octets before after r refuses = (refuses, r.writes)
@@ -251,9 +251,9 @@ stops_refused (fault.AuditFull need room) d job messages octets before after r r
 stops_refused _ d job messages octets before after r refuses = absurd refuses
 
 -- lines stop where the audit fails, or for want of memory
-by_lines : (P : OfflineFault → Type 0) (failed : Bool) → (failed ≡ true → P AuditWrite) → P (Core fault.OutOfMemory) → (e : OfflineFault) → StopsLines e failed → P e
+by_lines : (P : OfflineFault → Type 0) (failed : Bool) → (failed ≡ true → P AuditWrite) → P (Mediator fault.OutOfMemory) → (e : OfflineFault) → StopsLines e failed → P e
 by_lines P failed audit memory AuditWrite cause = audit cause
-by_lines P failed audit memory (Core fault.OutOfMemory) cause = memory
+by_lines P failed audit memory (Mediator fault.OutOfMemory) cause = memory
 by_lines P failed audit memory _ cause = absurd cause
 
 -- the message was delivered, and its lines stop
@@ -333,7 +333,7 @@ stops_delivering f d1 d2 job messages octets before mid writes failed afailed r 
       (due job (messages ++ octets ∷ []), due_found job (messages ++ octets ∷ []), writes_front s.0 sent s.1 s.2),
       r.writes.audit,
     )
-    by (Core fault.OutOfMemory) s = memory s
+    by (Mediator fault.OutOfMemory) s = memory s
     by _ s = absurd s
 
 -- ---- a message that cuts the subscription

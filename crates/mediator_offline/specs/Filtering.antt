@@ -15,7 +15,7 @@ use Rattle.ipfix_reader.specs.declared.fault.FramingFault.TheVariants as framing
 use Rattle.mediator_offline.specs.declared.job.OfflineJob.{OfflineJob}
 use Rattle.mediator_offline.specs.declared.job.OfflineReport.{OfflineReport}
 use Rattle.mediator_offline.specs.declared.job.OfflineFault.{OfflineFault}
-use Rattle.mediator_offline.specs.declared.job.OfflineFault.TheVariants.{Read, Write, Framing, Turns, Core, Cut, AuditWrite}
+use Rattle.mediator_offline.specs.declared.job.OfflineFault.TheVariants.{Read, Write, Framing, Turns, Mediator, Cut, AuditWrite}
 use Rattle.mediator_offline.specs.Ports.{Outputs, Ports}
 use Rattle.mediator_offline.specs.Lines.{WritesOn}
 use Rattle.mediator_offline.specs.Offline.{cuts_by, history_of, disclosed_by, audit_due}
@@ -76,8 +76,8 @@ pub record WritesPart (job : OfflineJob) (messages written : List (List ℕ)) (o
 -- the run stops at the message in hand: it is refused; or it is accepted, and then cuts the subscription, or a device fails, or
 -- memory runs out. These were due for the messages before it, and were written
 abbrev pub StopsAtMessage : OfflineFault → OfflineJob → List (List ℕ) → List (List ℕ) → List ℕ → Outputs → Outputs → Type 0
-StopsAtMessage (Core fault.OutOfMemory) job messages written octets before after = WritesPart job messages written octets before after
-StopsAtMessage (Core why) job messages written octets before after = RefusesMessage why (history_of job messages) octets × Writes before after written (audit_due job messages)
+StopsAtMessage (Mediator fault.OutOfMemory) job messages written octets before after = WritesPart job messages written octets before after
+StopsAtMessage (Mediator why) job messages written octets before after = RefusesMessage why (history_of job messages) octets × Writes before after written (audit_due job messages)
 StopsAtMessage (Write sent) job messages written octets before after =
     Accepts (history_of job messages) octets
     × ((all : List (List ℕ)) × AreDue job [] 0 (messages ++ octets ∷ []) all × WritesFront before.written after.written (concat all) sent after.writer_failed)
@@ -124,13 +124,13 @@ StopsHere (Framing framing.CutOff) job octets before after =
     ((messages : List (List ℕ)) × (pending : List ℕ) × IsFiltered job octets messages None pending before.outputs after.outputs × (0 < length pending)) × AreReadBut job.turns octets × IsAtEnd after.left
 StopsHere (Framing framing.BadVersion) job octets before after = ((messages : List (List ℕ)) × IsFiltered job octets messages (Some frame.BadVersion) [] before.outputs after.outputs) × AreRead job.turns octets
 StopsHere (Framing framing.BadLength) job octets before after = ((messages : List (List ℕ)) × IsFiltered job octets messages (Some frame.BadLength) [] before.outputs after.outputs) × AreRead job.turns octets
-StopsHere (Core why) job octets before after = (StopsAtOne (Core why) job octets before.outputs after.outputs ⊎ LosesPiece why job octets before.outputs after.outputs) × AreRead job.turns octets
+StopsHere (Mediator why) job octets before after = (StopsAtOne (Mediator why) job octets before.outputs after.outputs ⊎ LosesPiece why job octets before.outputs after.outputs) × AreRead job.turns octets
 StopsHere e job octets before after = StopsAtOne e job octets before.outputs after.outputs × AreRead job.turns octets
 
 -- the job is refused, and nothing was read or written
 pub record RefusesAll (e : OfflineFault) (job : OfflineJob) (before after : Ports) : Type 0 where
   pub why : Fault
-  pub is : e ≡ Core why
+  pub is : e ≡ Mediator why
   pub refuses : RefusesJob why job
   pub taken : Consumes before.left after.left []
   pub writes : Writes before.outputs after.outputs [] []

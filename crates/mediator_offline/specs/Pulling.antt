@@ -9,7 +9,7 @@ use Rattle.event_journal.specs.declared.entry.Entry.{Entry}
 use Rattle.mediator_history.specs.Disclosed.{disclosed}
 use Rattle.mediator_state.specs.declared.fault.Fault.TheVariants as fault
 use Rattle.mediator_offline.specs.declared.job.OfflineFault.{OfflineFault}
-use Rattle.mediator_offline.specs.declared.job.OfflineFault.TheVariants.{Write, Core}
+use Rattle.mediator_offline.specs.declared.job.OfflineFault.TheVariants.{Write, Mediator}
 use Rattle.mediator_offline.specs.declared.run.Run.{Run}
 use Rattle.mediator_offline.specs.Runs.{Stands, Small, KeepsAudit}
 use Rattle.mediator_offline.specs.HandsOut.{HandsOut}
@@ -42,7 +42,7 @@ pub record Delivers (old new : Run) (held holds : Option (List ℕ)) : Type 0 wh
 -- failed
 abbrev pub StopsDelivery : OfflineFault → Run → Option (List ℕ) → Option (List ℕ) → Bool → List (List ℕ) → Type 0
 StopsDelivery (Write sent) old held holds failed messages = (n : ℕ) × (sent ≡ old.sent + n) × WritesFront held holds (concat messages) n failed
-StopsDelivery (Core fault.OutOfMemory) old held holds failed messages = Appends held holds (concat messages)
+StopsDelivery (Mediator fault.OutOfMemory) old held holds failed messages = Appends held holds (concat messages)
 StopsDelivery _ old held holds failed messages = ⊥
 
 pub record FailsDelivery (e : OfflineFault) (old : Run) (held holds : Option (List ℕ)) (failed : Bool) : Type 0 where

@@ -2,7 +2,7 @@
 use Rattle.std.specs.Prelude.{◌≡◌, Bool, true, List, []}
 use Rattle.mediator_state.specs.declared.fault.Fault.TheVariants as fault
 use Rattle.mediator_offline.specs.declared.job.OfflineFault.{OfflineFault}
-use Rattle.mediator_offline.specs.declared.job.OfflineFault.TheVariants.{Core, AuditWrite}
+use Rattle.mediator_offline.specs.declared.job.OfflineFault.TheVariants.{Mediator, AuditWrite}
 use Rattle.event_journal.specs.declared.entry.Entry.{Entry}
 use Rattle.mediator_state.specs.Calls.{StandsFor}
 use Rattle.mediator_state.specs.Seen.{place_of}
@@ -20,5 +20,5 @@ pub record Records (old new : Run) : Type 0 where
 -- lines stop where their writer failed, or memory ran out
 abbrev pub StopsLines : OfflineFault → Bool → Type 0
 StopsLines AuditWrite failed = failed ≡ true
-StopsLines (Core fault.OutOfMemory) failed = Unit {0}
+StopsLines (Mediator fault.OutOfMemory) failed = Unit {0}
 StopsLines _ failed = ⊥

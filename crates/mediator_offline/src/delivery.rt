@@ -1,7 +1,7 @@
 //! Writes what waits for the subscriber.
 ghost use Rattle.std.specs.Prelude.{◌≡◌, ◌≤◌, ◌<◌, ◌+◌, ◌^◌, ◌++◌, [], Some, length, IfOk, IfErr, OnOk};
 ghost use Rattle.mediator_state.specs.declared.fault.Fault.TheVariants.{OutOfMemory};
-ghost use Rattle.mediator_offline.specs.declared.job.OfflineFault.TheVariants.{Core};
+ghost use Rattle.mediator_offline.specs.declared.job.OfflineFault.TheVariants.{Mediator};
 ghost use Rattle.mediator_offline.specs.Failing.{writer_after};
 ghost use Rattle.mediator_offline.specs.Runs.{IsServing, SameButState, KeepsAudit};
 ghost use Rattle.mediator_offline.specs.Pulling.{IsDelivering, Pulls, Delivers, FailsDelivery};
@@ -55,7 +55,7 @@ impl<'a> Run<'a> {
         // The job's numbers fit their types, also where it fails.
         ensures below { self.old.job.target < 2 ^ 16 }
         ensures now_below { self.old.job.now < 2 ^ 32 }
-        ensures err { IfErr result (λ e. e ≡ Core OutOfMemory) }
+        ensures err { IfErr result (λ e. e ≡ Mediator OutOfMemory) }
     {
         let mut text = Vec::new(self.alloc);
         'pulls: loop {
@@ -81,7 +81,7 @@ impl<'a> Run<'a> {
         // The job's numbers fit their types, also where it fails.
         ensures below { self.old.job.target < 2 ^ 16 }
         ensures now_below { self.old.job.now < 2 ^ 32 }
-        ensures err { IfErr result (λ e. e ≡ Core OutOfMemory) }
+        ensures err { IfErr result (λ e. e ≡ Mediator OutOfMemory) }
     {
         Ok(
             self.state
@@ -101,10 +101,10 @@ impl<'a> Run<'a> {
         // The text and the count grow by the message.
         ensures ok { OnOk result (text.new.items ≡ text.old.items ++ message.now) }
         ensures sent { OnOk result (self.new.sent ≡ self.old.sent + length message.now) }
-        ensures err { IfErr result (λ e. e ≡ Core OutOfMemory) }
+        ensures err { IfErr result (λ e. e ≡ Mediator OutOfMemory) }
     {
         if append(text, message).is_err() {
-            return Err(OfflineFault::Core(Fault::OutOfMemory));
+            return Err(OfflineFault::Mediator(Fault::OutOfMemory));
         }
         self.sent += message.len() as u64;
         Ok(())

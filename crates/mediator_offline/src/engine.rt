@@ -148,9 +148,9 @@ ghost use Rattle.mediator_offline.specs.Filtering.{FiltersAll, FailsToFilter};
 /// 131,072 audit entries of one message, and a journal of 100,000,000 entries and 2^40 octets, though none is kept.
 ///
 /// # Errors
-/// `Core` where the policy or the name of the job is refused: then nothing was read. Else the run stops at `Read`, `Write` or
+/// `Mediator` where the policy or the name of the job is refused: then nothing was read. Else the run stops at `Read`, `Write` or
 /// `AuditWrite`, where that device fails; at `Framing`, where the stream is faulty or ends inside a message; at `Turns`, where it
-/// doesn't end within the job's reads; at `Core`, where a message is refused or memory runs out; or at `Cut`, where a message
+/// doesn't end within the job's reads; at `Mediator`, where a message is refused or memory runs out; or at `Cut`, where a message
 /// cuts the subscriber. What is due for all messages before that one was written, and what more of it may have been is said with
 /// each fault.
 ///
@@ -224,7 +224,7 @@ pub fn offline<R: Source, W: Sink, A: Sink>(
 {
     let mut run = Run::open(alloc, *job)?;
     let Ok(mut intake) = Intake::new(alloc, job.turns) else {
-        return Err(OfflineFault::Core(Fault::OutOfMemory));
+        return Err(OfflineFault::Mediator(Fault::OutOfMemory));
     };
     run.read_stream(&mut intake, reader, writer, audit_writer)?;
     Ok(run.report())

@@ -45,7 +45,7 @@ pub enum OfflineFault {
     /// As many reads were made as the job allows, and the end was not read.
     Turns,
     /// The mediator refused the job, or a message; or memory ran out.
-    Core(Fault),
+    Mediator(Fault),
     /// The subscription was cut: a message would have given it records with more templates than it may use.
     Cut,
     /// The writer of the audit failed. A front of the lines that were due was written.
@@ -66,7 +66,7 @@ impl Display for OfflineFault {
             OfflineFault::Write { .. } => "Write",
             OfflineFault::Framing(_) => "Framing",
             OfflineFault::Turns => "Turns",
-            OfflineFault::Core(_) => "Core",
+            OfflineFault::Mediator(_) => "Mediator",
             OfflineFault::Cut => "Cut",
             OfflineFault::AuditWrite => "AuditWrite",
         })
@@ -75,12 +75,12 @@ impl Display for OfflineFault {
 
 impl From<Fault> for OfflineFault {
     ghost use Rattle.std.specs.Prelude.{◌≡◌};
-    ghost use Rattle.mediator_offline.specs.declared.job.OfflineFault.TheVariants.{Core};
+    ghost use Rattle.mediator_offline.specs.declared.job.OfflineFault.TheVariants.{Mediator};
 
-    ghost from_gives = { λ f e. e ≡ Core f };
+    ghost from_gives = { λ f e. e ≡ Mediator f };
 
     fn from(fault: Fault) -> OfflineFault {
-        OfflineFault::Core(fault)
+        OfflineFault::Mediator(fault)
     }
 }
 
@@ -95,7 +95,7 @@ impl From<IntakeFault> for OfflineFault {
             IntakeFault::Read => OfflineFault::Read,
             IntakeFault::Framing(why) => OfflineFault::Framing(why),
             IntakeFault::Turns => OfflineFault::Turns,
-            IntakeFault::OutOfMemory => OfflineFault::Core(Fault::OutOfMemory),
+            IntakeFault::OutOfMemory => OfflineFault::Mediator(Fault::OutOfMemory),
         }
     }
 }

@@ -33,7 +33,7 @@ pub(crate) fn write_lines<A: Sink>(
         (lines_of entries.now)) }
 {
     let Ok(text) = lines(alloc, entries) else {
-        return Err(OfflineFault::Core(Fault::OutOfMemory));
+        return Err(OfflineFault::Mediator(Fault::OutOfMemory));
     };
     match write_all(writer, text.as_bytes()) {
         Ok(()) => Ok(()),
@@ -81,7 +81,7 @@ impl<'a> Run<'a> {
             (lines_for self.old.job.audit (audit_waiting self.old))) }
     {
         let Ok(entries) = self.state.drain_audit(u32::MAX) else {
-            return Err(OfflineFault::Core(Fault::OutOfMemory));
+            return Err(OfflineFault::Mediator(Fault::OutOfMemory));
         };
         if !self.job.audit {
             return Ok(());

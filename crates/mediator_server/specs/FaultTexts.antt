@@ -7,5 +7,5 @@ abbrev pub text_of_listen : ListenFault → List ℕ
 text_of_listen listen.Bind = codes "Bind"
 text_of_listen (listen.Connect collector) = codes "Connect"
 text_of_listen listen.NoThread = codes "NoThread"
-text_of_listen (listen.Core why) = codes "Core"
+text_of_listen (listen.Mediator why) = codes "Mediator"
 text_of_listen (listen.Close why) = codes "Close"

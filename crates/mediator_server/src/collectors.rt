@@ -13,9 +13,7 @@ use crate::time::{has_passed, now};
 use log::Log;
 use mediator_connections::{Collector, ServeFault, deliver};
 use mediator_state::Fault;
-use shared_mediator::{
-    AdminHandle, DeliveryHandle, EntryLedger, Handed, HandleFault, RecordLedger,
-};
+use shared_mediator::{AdminHandle, DeliveryHandle, EntryLedger, Handed, RecordLedger};
 use std::alloc::Global;
 use std::io::{self, ErrorKind};
 use std::net::{Net, SocketAddr, TcpListener, TcpStream, ToSocketAddrs};
@@ -249,15 +247,10 @@ fn begin<E: EntryLedger, H: RecordLedger, R: Wait>(
     service: &Service<'_, E, H>,
     collector: &Collector,
     handles: &mut CollectorHandles<E, H>,
-) -> Result<(), HandleFault> {
-    if handles.deliveries.reserve(1).is_err() {
-        return Err(HandleFault::Core(Fault::OutOfMemory));
-    }
+) -> Result<(), Fault> {
+    handles.deliveries.reserve(1)?;
     let name = collector.subscriber.as_str();
-    let sub = match handles.admin.subscribe(rt, service.shared, name) {
-        Ok(sub) => sub,
-        Err(why) => return Err(HandleFault::Core(why)),
-    };
+    let sub = handles.admin.subscribe(rt, service.shared, name)?;
     service.roster.begin(rt, sub, name, Reach::Absent);
     let delivery = service.shared.delivery(rt, sub)?;
     handles.deliveries.push_reserved(delivery);

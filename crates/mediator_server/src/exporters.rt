@@ -228,7 +228,7 @@ fn is_refusal(ended: &Result<Served, (ServeFault, Served)>) -> bool {
     match ended {
         Ok(_) | Err((ServeFault::Read | ServeFault::Write { .. } | ServeFault::Turns, _)) => false,
         Err((ServeFault::Framing(why), _)) => *why != FramingFault::CutOff,
-        Err((ServeFault::Core(_) | ServeFault::TooWide | ServeFault::TooManyCounts, _)) => true,
+        Err((ServeFault::Mediator(_) | ServeFault::TooWide | ServeFault::TooManyCounts, _)) => true,
     }
 }
 

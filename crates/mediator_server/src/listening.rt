@@ -9,7 +9,7 @@ use crate::service::{Handles, serve};
 use log::Log;
 use mediator_calls::Mediator;
 use mediator_state::Fault;
-use shared_mediator::{CloseFault, Closed, EntryLedger, HandleFault, RecordLedger, SharedMediator};
+use shared_mediator::{CloseFault, Closed, EntryLedger, RecordLedger, SharedMediator};
 use std::alloc::{AllocError, Global};
 use std::error::Error;
 use std::fmt::{self, Display, Formatter, Write};
@@ -31,8 +31,8 @@ pub enum ListenFault {
     /// The system refused to start a thread.
     NoThread,
     /// The policy, or a subscription, was refused; or memory ran out.
-    Core(Fault),
-    /// The run has ended, but the mediator isn't given back.
+    Mediator(Fault),
+    /// The run has ended, but the mediator isn't given back, and not for want of memory.
     Close(CloseFault),
 }
 
@@ -58,7 +58,7 @@ impl Display for ListenFault {
             ListenFault::Bind => "Bind",
             ListenFault::Connect { .. } => "Connect",
             ListenFault::NoThread => "NoThread",
-            ListenFault::Core(_) => "Core",
+            ListenFault::Mediator(_) => "Mediator",
             ListenFault::Close(_) => "Close",
         })
     }
@@ -68,7 +68,7 @@ impl ListenFault {
     /// What a refusal at a door is called: memory ran out, or it isn't open.
     pub(crate) fn at_door(fault: &io::Error) -> ListenFault {
         match fault.kind() {
-            ErrorKind::OutOfMemory => ListenFault::Core(Fault::OutOfMemory),
+            ErrorKind::OutOfMemory => ListenFault::Mediator(Fault::OutOfMemory),
             _ => ListenFault::Bind,
         }
     }
@@ -76,22 +76,25 @@ impl ListenFault {
 
 impl From<Fault> for ListenFault {
     fn from(fault: Fault) -> ListenFault {
-        ListenFault::Core(fault)
+        match fault {
+            // Each handle is one thread's own.
+            Fault::NoHandle => ListenFault::NoThread,
+            why => ListenFault::Mediator(why),
+        }
     }
 }
 
 impl From<AllocError> for ListenFault {
     fn from(_e: AllocError) -> ListenFault {
-        ListenFault::Core(Fault::OutOfMemory)
+        ListenFault::Mediator(Fault::OutOfMemory)
     }
 }
 
-impl From<HandleFault> for ListenFault {
-    fn from(fault: HandleFault) -> ListenFault {
+impl From<CloseFault> for ListenFault {
+    fn from(fault: CloseFault) -> ListenFault {
         match fault {
-            // Each handle is one thread's own.
-            HandleFault::NoHandle => ListenFault::NoThread,
-            HandleFault::Core(why) => ListenFault::Core(why),
+            CloseFault::OutOfMemory => ListenFault::Mediator(Fault::OutOfMemory),
+            why => ListenFault::Close(why),
         }
     }
 }
@@ -127,8 +130,8 @@ fn handles_for(plan: &RunPlan) -> u64
 /// to nobody. Who comes and goes is noted in the log.
 ///
 /// # Errors
-/// `Core` where the policy or a subscription was refused, or memory ran out; `Bind` where an address can't be listened on, or a
-/// connection couldn't be accepted; `Connect` where a collector can't be connected to; `NoThread` where a thread was refused; or
+/// `Mediator` where the policy or a subscription was refused, or memory ran out; `Bind` where an address can't be listened on, or
+/// a connection couldn't be accepted; `Connect` where a collector can't be connected to; `NoThread` where a thread was refused; or
 /// `Close` where the mediator isn't given back. What runs is ended first: all who came in are hung up, and what is queued is
 /// sent. The mediator is lost.
 pub fn listen<
@@ -186,7 +189,7 @@ fn listen_with<
             notes::totals(rt, &closed);
             Ok(Ended { closed, stopped })
         }
-        Err(fault) => Err(ListenFault::Close(fault)),
+        Err(fault) => Err(ListenFault::from(fault)),
     }
 }
 

@@ -6,8 +6,8 @@ use ipfix_session::Gap;
 use log::{Log, error, info, warn};
 use mediator_calls::{Limits, SessionId};
 use mediator_connections::{Collector, ServeFault, Served};
-use mediator_state::Receipt;
-use shared_mediator::{Closed, Fill, Handed, HandleFault};
+use mediator_state::{Fault, Receipt};
+use shared_mediator::{Closed, Fill, Handed};
 use std::fmt::{self, Display, Formatter, Write};
 use std::io;
 use std::net::SocketAddr;
@@ -20,7 +20,7 @@ impl Display for Cause {
     fn fmt<W: Write>(&self, f: &mut Formatter<W>) -> fmt::Result {
         match self.0 {
             ServeFault::Framing(why) => why.fmt(f),
-            ServeFault::Core(why) => why.fmt(f),
+            ServeFault::Mediator(why) => why.fmt(f),
             fault => fault.fmt(f),
         }
     }
@@ -91,7 +91,7 @@ pub(crate) fn exporter_gap(rt: &impl Log, peer: SocketAddr, gap: Gap, position: 
 }
 
 /// No session could be opened for an exporter.
-pub(crate) fn exporter_refused(rt: &impl Log, peer: SocketAddr, why: HandleFault) {
+pub(crate) fn exporter_refused(rt: &impl Log, peer: SocketAddr, why: Fault) {
     warn!(rt; "exporter {peer} refused: {why}");
 }
 
@@ -214,7 +214,7 @@ pub(crate) fn collector_again(rt: &impl Log, collector: &Collector, dropped: u64
 }
 
 /// A collector can't be subscribed anew, and is tried again.
-pub(crate) fn cannot_subscribe(rt: &impl Log, collector: &Collector, why: HandleFault) {
+pub(crate) fn cannot_subscribe(rt: &impl Log, collector: &Collector, why: Fault) {
     let (name, address) = (collector.subscriber.as_str(), collector.address.as_str());
     warn!(rt; "collector {name} {address} not subscribed: {why}");
 }

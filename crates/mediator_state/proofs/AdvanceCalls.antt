@@ -73,6 +73,9 @@ closing_audit (fault.Policy why) limits count sizes e h t c entries counts f r l
 closing_audit fault.BadName limits count sizes e h t c entries counts f r lacks = absurd lacks
 closing_audit (fault.AlreadySubscribed sub) limits count sizes e h t c entries counts f r lacks = absurd lacks
 closing_audit fault.UnknownSub limits count sizes e h t c entries counts f r lacks = absurd lacks
+closing_audit fault.NoHandle limits count sizes e h t c entries counts f r lacks = absurd lacks
+closing_audit fault.HandedFull limits count sizes e h t c entries counts f r lacks = absurd lacks
+closing_audit fault.BadLimits limits count sizes e h t c entries counts f r lacks = absurd lacks
 closing_audit (fault.ClockBack last) limits count sizes e h t c entries counts f r lacks = absurd lacks
 
 -- memory ran out where the clock doesn't stand later

@@ -74,6 +74,9 @@ lacks_after (fault.Policy why) limits count octets h more c lacks = absurd lacks
 lacks_after fault.BadName limits count octets h more c lacks = absurd lacks
 lacks_after (fault.AlreadySubscribed sub) limits count octets h more c lacks = absurd lacks
 lacks_after fault.UnknownSub limits count octets h more c lacks = absurd lacks
+lacks_after fault.NoHandle limits count octets h more c lacks = absurd lacks
+lacks_after fault.HandedFull limits count octets h more c lacks = absurd lacks
+lacks_after fault.BadLimits limits count octets h more c lacks = absurd lacks
 lacks_after (fault.ClockBack last) limits count octets h more c lacks = absurd lacks
 lacks_after (fault.AuditFull need room) limits count octets h more c lacks = absurd lacks
 
@@ -137,6 +140,9 @@ refused_message (fault.Policy why) limits e h session number octets r = r
 refused_message fault.BadName limits e h session number octets r = r
 refused_message (fault.AlreadySubscribed sub) limits e h session number octets r = r
 refused_message fault.UnknownSub limits e h session number octets r = r
+refused_message fault.NoHandle limits e h session number octets r = r
+refused_message fault.HandedFull limits e h session number octets r = r
+refused_message fault.BadLimits limits e h session number octets r = r
 refused_message (fault.ClockBack last) limits e h session number octets r = r
 refused_message (fault.AuditFull need room) limits e h session number octets r = absurd r
 
@@ -153,6 +159,9 @@ refused_as_prepared (fault.Policy why) limits e h session number p reading read 
 refused_as_prepared fault.BadName limits e h session number p reading read r = r
 refused_as_prepared (fault.AlreadySubscribed sub) limits e h session number p reading read r = r
 refused_as_prepared fault.UnknownSub limits e h session number p reading read r = r
+refused_as_prepared fault.NoHandle limits e h session number p reading read r = r
+refused_as_prepared fault.HandedFull limits e h session number p reading read r = r
+refused_as_prepared fault.BadLimits limits e h session number p reading read r = r
 refused_as_prepared (fault.ClockBack last) limits e h session number p reading read r = r
 refused_as_prepared (fault.AuditFull need room) limits e h session number p reading read r = r
 
@@ -195,6 +204,9 @@ refused_audit (fault.Policy why) limits count sizes e h session number octets p 
 refused_audit fault.BadName limits count sizes e h session number octets p entries c f r lacks = absurd lacks
 refused_audit (fault.AlreadySubscribed sub) limits count sizes e h session number octets p entries c f r lacks = absurd lacks
 refused_audit fault.UnknownSub limits count sizes e h session number octets p entries c f r lacks = absurd lacks
+refused_audit fault.NoHandle limits count sizes e h session number octets p entries c f r lacks = absurd lacks
+refused_audit fault.HandedFull limits count sizes e h session number octets p entries c f r lacks = absurd lacks
+refused_audit fault.BadLimits limits count sizes e h session number octets p entries c f r lacks = absurd lacks
 refused_audit (fault.ClockBack last) limits count sizes e h session number octets p entries c f r lacks = absurd lacks
 
 -- memory ran out behind what was found out of a message
@@ -303,6 +315,9 @@ refused_subscribe (fault.Policy why) limits count sizes h name n written next is
 refused_subscribe fault.BadName limits count sizes h name n written next is c named free lacks = absurd lacks
 refused_subscribe (fault.AlreadySubscribed sub) limits count sizes h name n written next is c named free lacks = absurd lacks
 refused_subscribe fault.UnknownSub limits count sizes h name n written next is c named free lacks = absurd lacks
+refused_subscribe fault.NoHandle limits count sizes h name n written next is c named free lacks = absurd lacks
+refused_subscribe fault.HandedFull limits count sizes h name n written next is c named free lacks = absurd lacks
+refused_subscribe fault.BadLimits limits count sizes h name n written next is c named free lacks = absurd lacks
 refused_subscribe (fault.ClockBack last) limits count sizes h name n written next is c named free lacks = absurd lacks
 refused_subscribe (fault.AuditFull need room) limits count sizes h name n written next is c named free lacks = absurd lacks
 
@@ -320,6 +335,9 @@ refused_edit (fault.Policy why) limits count sizes h text written policy is c sp
 refused_edit fault.BadName limits count sizes h text written policy is c spelled lacks = absurd lacks
 refused_edit (fault.AlreadySubscribed sub) limits count sizes h text written policy is c spelled lacks = absurd lacks
 refused_edit fault.UnknownSub limits count sizes h text written policy is c spelled lacks = absurd lacks
+refused_edit fault.NoHandle limits count sizes h text written policy is c spelled lacks = absurd lacks
+refused_edit fault.HandedFull limits count sizes h text written policy is c spelled lacks = absurd lacks
+refused_edit fault.BadLimits limits count sizes h text written policy is c spelled lacks = absurd lacks
 refused_edit (fault.ClockBack last) limits count sizes h text written policy is c spelled lacks = absurd lacks
 refused_edit (fault.AuditFull need room) limits count sizes h text written policy is c spelled lacks = absurd lacks
 

@@ -6,10 +6,13 @@ use std::alloc::AllocError;
 use std::error::Error;
 use std::fmt::{self, Display, Formatter, Write};
 
-/// Why a call is refused. Of several reasons the first of this list is told, but for those that belong to other calls.
-/// A fault's text is its name. A refused call has changed nothing.
+/// Why a call is refused, or why a mediator, a run or a handle isn't made. Of several reasons the first of this list is
+/// told, but for those that belong to other calls. A fault's text is its name. A refused call has changed nothing.
 #[derive(Clone, Copy, Debug, PartialEq, Eq)]
 pub enum Fault {
+    /// A limit is out of its range. Only making a mediator (`Mediator::new`), or a run of calls on one (`run`), answers
+    /// it.
+    BadLimits,
     /// No session with this number is open.
     UnknownSession,
     /// The message's number isn't `expected`, which is how many messages the session had.
@@ -27,6 +30,12 @@ pub enum Fault {
     AlreadySubscribed { sub: u64 },
     /// No subscription with this number is live.
     UnknownSub,
+    /// As many handles of this kind were made as there may be. Only a shared mediator answers it, where it is asked for
+    /// a handle.
+    NoHandle,
+    /// The count of the records that were handed out, with those that wait, would come to 2^64. Only a shared mediator
+    /// answers it, to a pull.
+    HandedFull,
     /// The clock stands later already: at `last`, in milliseconds since 1970.
     ClockBack { last: u64 },
     /// The journal has no room for the entries that the call would add.
@@ -47,6 +56,7 @@ impl Display for Fault {
 
     fn fmt<W: Write>(&self, f: &mut Formatter<W>) -> fmt::Result {
         f.write_str(match self {
+            Fault::BadLimits => "BadLimits",
             Fault::UnknownSession => "UnknownSession",
             Fault::OutOfTurn { .. } => "OutOfTurn",
             Fault::Malformed(_) => "Malformed",
@@ -55,6 +65,8 @@ impl Display for Fault {
             Fault::BadName => "BadName",
             Fault::AlreadySubscribed { .. } => "AlreadySubscribed",
             Fault::UnknownSub => "UnknownSub",
+            Fault::NoHandle => "NoHandle",
+            Fault::HandedFull => "HandedFull",
             Fault::ClockBack { .. } => "ClockBack",
             Fault::JournalFull => "JournalFull",
             Fault::AuditFull { .. } => "AuditFull",

@@ -74,10 +74,13 @@ fault_details (fault.Policy why) = codes " " ++ decimal why.line ++ codes " " ++
 fault_details (fault.AlreadySubscribed sub) = codes " " ++ decimal sub
 fault_details (fault.ClockBack last) = codes " " ++ decimal last
 fault_details (fault.AuditFull need room) = codes " " ++ decimal need ++ codes " " ++ decimal room
+fault_details fault.BadLimits = []
 fault_details fault.UnknownSession = []
 fault_details fault.Stale = []
 fault_details fault.BadName = []
 fault_details fault.UnknownSub = []
+fault_details fault.NoHandle = []
+fault_details fault.HandedFull = []
 fault_details fault.JournalFull = []
 fault_details fault.OutOfMemory = []
 

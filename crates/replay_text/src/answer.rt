@@ -194,10 +194,13 @@ fn put_details(text: &mut String, why: &Fault) -> Result<(), AllocError>
         Fault::AlreadySubscribed { sub } => write!(text, " {sub}"),
         Fault::ClockBack { last } => write!(text, " {last}"),
         Fault::AuditFull { need, room } => write!(text, " {need} {room}"),
-        Fault::UnknownSession
+        Fault::BadLimits
+        | Fault::UnknownSession
         | Fault::Stale
         | Fault::BadName
         | Fault::UnknownSub
+        | Fault::NoHandle
+        | Fault::HandedFull
         | Fault::JournalFull
         | Fault::OutOfMemory => Ok(()),
     }

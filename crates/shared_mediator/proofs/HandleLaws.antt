@@ -3,12 +3,20 @@ use Rattle.std.proofs.Common.{◌≡◌, ℕ, ◌+◌, ◌<◌, List, [], ◌∷
 use Rattle.std.specs.List.{AllByRecursion}
 use Rattle.std.proofs.lemmas.List.{length-append, take_more}
 use Rattle.sequences.proofs.ListLaws.{AllByRecursion-append}
+use Rattle.event_journal.specs.declared.entry.Entry.{Entry}
 use Rattle.event_journal.specs.declared.entry.Entry.TheVariants.{Message}
+use Rattle.prepared_message.specs.Preparation.{Preparation}
+use Rattle.mediator_state.specs.declared.fault.Fault.{Fault}
+use Rattle.mediator_state.specs.declared.fault.Fault.TheVariants as fault
+use Rattle.mediator_state.specs.Calls.{RefusesSnapshot}
+use Rattle.mediator_calls.specs.Mediation.{Mediation}
+use Rattle.mediator_calls.specs.Calls.{RefusesReceive, RefusesReceivePrepared}
 use Rattle.shared_mediator.specs.declared.kept.KeptEntry.{KeptEntry}
 use Rattle.shared_mediator.specs.declared.handed.Handed.{Handed}
-use Rattle.shared_mediator.specs.Counted.{has_receipt}
+use Rattle.shared_mediator.specs.Counted.{Counted, has_receipt}
+use Rattle.shared_mediator.specs.Handing.{RefusesHanding}
 use Rattle.shared_mediator.specs.Locked.{Exporting}
-use Rattle.shared_mediator.specs.Handles.{HasReceipt, IsMessage, AreMessages, IsExporting, KeepsSome}
+use Rattle.shared_mediator.specs.Handles.{HasReceipt, IsMessage, AreMessages, IsExporting, MayRefuseOffer, MayRefusePull, KeepsSome}
 use Rattle.shared_mediator.specs.Closing.{KeepsMessages}
 
 -- messages have receipts
@@ -50,3 +58,36 @@ pub record KeepsMany (old : List Handed) (now target count : ℕ) (new : List Ha
 
 pub keeps_none : (kept : List Handed) (now target : ℕ) → KeepsMany kept now target 0 kept
 keeps_none kept now target = record { messages = []; some = record { built = tt; kept = sym (append-nil kept) }; counted = refl }
+
+-- ---- why an offer or a pull is refused
+
+pub offer_refused : (why : Fault) (m : Mediation) (session number : ℕ) (octets : List ℕ) → RefusesReceive why m session number octets → MayRefuseOffer why
+offer_refused fault.UnknownSession m session number octets r = tt
+offer_refused (fault.OutOfTurn expected) m session number octets r = tt
+offer_refused (fault.Malformed why) m session number octets r = tt
+offer_refused fault.Stale m session number octets r = tt
+offer_refused fault.JournalFull m session number octets r = tt
+offer_refused (fault.AuditFull need room) m session number octets r = tt
+offer_refused fault.OutOfMemory m session number octets r = tt
+offer_refused _ m session number octets r = absurd r
+
+pub prepared_refused : (why : Fault) (m : Mediation) (session number : ℕ) (p : Preparation) → RefusesReceivePrepared why m session number p → MayRefuseOffer why
+prepared_refused fault.UnknownSession m session number p r = tt
+prepared_refused (fault.OutOfTurn expected) m session number p r = tt
+prepared_refused (fault.Malformed why) m session number p r = tt
+prepared_refused fault.Stale m session number p r = tt
+prepared_refused fault.JournalFull m session number p r = tt
+prepared_refused (fault.AuditFull need room) m session number p r = tt
+prepared_refused fault.OutOfMemory m session number p r = tt
+prepared_refused _ m session number p r = absurd r
+
+pub snapshot_refused : (why : Fault) (h : List Entry) (session : ℕ) → RefusesSnapshot why h session → MayRefuseOffer why
+snapshot_refused fault.UnknownSession h session r = tt
+snapshot_refused fault.OutOfMemory h session r = tt
+snapshot_refused _ h session r = absurd r
+
+pub handing_refused : (why : Fault) (c : Counted) (sub : ℕ) → RefusesHanding why c sub → MayRefusePull why
+handing_refused fault.UnknownSub c sub r = tt
+handing_refused fault.HandedFull c sub r = tt
+handing_refused fault.OutOfMemory c sub r = tt
+handing_refused _ c sub r = absurd r

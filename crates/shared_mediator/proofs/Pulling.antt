@@ -16,7 +16,7 @@ use Rattle.mediator_calls.specs.Sound.{IsSound}
 use Rattle.mediator_calls.proofs.Places.{is_in-live}
 use Rattle.shared_mediator.specs.declared.handed.Handed.{Handed}
 use Rattle.shared_mediator.specs.Counted.{Counted, counted_as, receipts_in, handed_at, handed_live, IsCounted, Counts}
-use Rattle.shared_mediator.specs.Handing.{records_next, HasCountRoom, HandsOut, RefusesCore}
+use Rattle.shared_mediator.specs.Handing.{records_next, HasCountRoom, HandsOut, RefusesHanding}
 use Rattle.shared_mediator.proofs.Living.{live_apart}
 use Rattle.shared_mediator.proofs.Sums.{sum_moved}
 use Rattle.shared_mediator.proofs.Handing.{handed_moved, handed_others, next_wait}
@@ -99,18 +99,9 @@ hands_none old new from gone sub now target was answer is sound room pulled none
 pub has_count_room : (core : Mediation) (from gone handed sub queued : ℕ) → IsCounted core from gone handed → queued ≡ waiting_at core sub → handed + queued < 2 ^ 64 → HasCountRoom (counted_as core from gone) sub
 has_count_room core from gone handed sub queued counted is room = omega (arith, counted.counted, is, room)
 
-pub refuses_core : (why : Fault) (c was : Counted) (sub : ℕ) → c ≡ was → RefusesPull why c.core.history sub → HasCountRoom c sub → RefusesCore why was sub
-refuses_core why c was sub is refused room = subst (λ (k : Counted). RefusesCore why k sub) is (by_fault why refused) where
-  by_fault : (why : Fault) → RefusesPull why c.core.history sub → RefusesCore why c sub
+pub refuses_handing : (why : Fault) (c was : Counted) (sub : ℕ) → c ≡ was → RefusesPull why c.core.history sub → HasCountRoom c sub → RefusesHanding why was sub
+refuses_handing why c was sub is refused room = subst (λ (k : Counted). RefusesHanding why k sub) is (by_fault why refused) where
+  by_fault : (why : Fault) → RefusesPull why c.core.history sub → RefusesHanding why c sub
   by_fault fault.OutOfMemory r = (r, room)
   by_fault fault.UnknownSub r = r
-  by_fault fault.UnknownSession r = r
-  by_fault (fault.OutOfTurn expected) r = r
-  by_fault (fault.Malformed why) r = r
-  by_fault fault.Stale r = r
-  by_fault (fault.Policy why) r = r
-  by_fault fault.BadName r = r
-  by_fault (fault.AlreadySubscribed other) r = r
-  by_fault (fault.ClockBack last) r = r
-  by_fault fault.JournalFull r = r
-  by_fault (fault.AuditFull need room) r = r
+  by_fault _ r = absurd r

@@ -1,6 +1,6 @@
 -- Where the count has no room, the pull that it refuses isn't accepted.
 use Rattle.std.specs.Prelude.{ℕ, Option}
-use Rattle.shared_mediator.specs.declared.fault.PullFault.TheVariants.{HandedFull}
+use Rattle.mediator_state.specs.declared.fault.Fault.TheVariants.{HandedFull}
 use Rattle.shared_mediator.specs.declared.handed.Handed.{Handed}
 use Rattle.shared_mediator.specs.Counted.{Counted}
 use Rattle.shared_mediator.specs.Handing.{HandsOut, RefusesHanding}

@@ -10,8 +10,6 @@ use Rattle.mediator_state.specs.Calls.{RefusesPull}
 use Rattle.mediator_calls.specs.Mediation.{Mediation, place_at, waiting_at}
 use Rattle.mediator_calls.specs.Calls.{Pulls}
 use Rattle.shared_mediator.specs.declared.handed.Handed.{Handed}
-use Rattle.shared_mediator.specs.declared.fault.PullFault.{PullFault}
-use Rattle.shared_mediator.specs.declared.fault.PullFault.TheVariants.{HandedFull, Core}
 use Rattle.shared_mediator.specs.Counted.{Counted, Counts, handed_of}
 
 -- how many records stand in a subscription's next message
@@ -38,12 +36,9 @@ pub record HandsOut (old : Counted) (sub now target : ℕ) (answer : Option Hand
   pub records : records_of answer ≡ records_next old.core sub target
   pub counts : Counts old 0 (records_of answer) 0 new
 
--- the mediator's own refusal; memory runs out only where the count has room
-abbrev pub RefusesCore : Fault → Counted → ℕ → Type 0
-RefusesCore fault.OutOfMemory c sub = RefusesPull fault.OutOfMemory c.core.history sub × HasCountRoom c sub
-RefusesCore why c sub = RefusesPull why c.core.history sub
-
--- the count has no room for all that waits for a live subscription; or the mediator's own refusal
-abbrev pub RefusesHanding : PullFault → Counted → ℕ → Type 0
-RefusesHanding HandedFull c sub = (is_live sub c.core.history ≡ true) × (2 ^ 64 ≤ handed_of c + waiting_at c.core sub)
-RefusesHanding (Core why) c sub = RefusesCore why c sub
+-- the count has no room for all that waits for a live subscription; or the mediator's own refusal, and memory runs out only where the
+-- count has room
+abbrev pub RefusesHanding : Fault → Counted → ℕ → Type 0
+RefusesHanding fault.HandedFull c sub = (is_live sub c.core.history ≡ true) × (2 ^ 64 ≤ handed_of c + waiting_at c.core sub)
+RefusesHanding fault.OutOfMemory c sub = RefusesPull fault.OutOfMemory c.core.history sub × HasCountRoom c sub
+RefusesHanding why c sub = RefusesPull why c.core.history sub

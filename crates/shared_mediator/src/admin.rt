@@ -1,5 +1,6 @@
 //! An administrator's handle on a shared mediator.
-ghost use Rattle.std.specs.Prelude.{◌≡◌, ◌≤◌, [], length, vec_len, IfOk, OnOk, OnErr};
+ghost use Rattle.std.specs.Prelude.{◌≡◌, ◌≤◌, [], length, vec_len, IfOk, IfErr, OnOk, OnErr};
+ghost use Rattle.mediator_state.specs.declared.fault.Fault.TheVariants.{UnknownSub};
 ghost use Rattle.event_journal.specs.declared.entry.Entry.TheVariants.{Edit, Subscribe, Unsubscribe, Advance};
 ghost use Rattle.std.specs.List.{AllByRecursion};
 ghost use Rattle.shared_mediator.specs.Handles.{HasReceipt, KeepsEntry};
@@ -9,7 +10,7 @@ use crate::ledgers::{EntryLedger, RecordLedger};
 use crate::shared::SharedMediator;
 use disclosure_audit::AuditEntry;
 use event_journal::{Entry, PolicyText};
-use mediator_calls::{SubId, UnknownSub};
+use mediator_calls::SubId;
 use mediator_state::{Fault, Status};
 use policy_text::{Name, is_name};
 use std::alloc::{AllocError, Global};
@@ -185,13 +186,15 @@ impl<E: EntryLedger> AdminHandle<E> {
     /// `rt`.
     ///
     /// # Errors
-    /// [`UnknownSub`] where no subscription with this number is live.
+    /// [`Fault::UnknownSub`] where no subscription with this number is live.
     pub fn status<H: RecordLedger>(
         &self,
         rt: &impl Wait,
         shared: &SharedMediator<E, H>,
         sub: SubId,
-    ) -> Result<Status, UnknownSub> {
+    ) -> Result<Status, Fault>
+        ensures { IfErr result (λ e. e ≡ UnknownSub) }
+    {
         shared.mediator.lock(rt).status(sub)
     }
 

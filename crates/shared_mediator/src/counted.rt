@@ -1,17 +1,17 @@
 //! A mediator with the counts of what it took in and handed out, for those who call it from several threads.
 ghost use Rattle.std.specs.Prelude.{◌≡◌, ◌≤◌, [], take, false, length, IsOk, IfOk, IfErr, OnOk, OnErr};
 ghost use Rattle.mediator_history.specs.Subscriptions.{is_live};
+ghost use Rattle.mediator_state.specs.declared.fault.Fault.TheVariants.{UnknownSub};
 ghost use Rattle.mediator_state.specs.Calls.{IsSnapshot, RefusesSnapshot, RefusesClose, RefusesEdit, RefusesSubscribe, RefusesUnsubscribe};
 ghost use Rattle.mediator_calls.specs.Mediation.{noted_at, journal_limits};
 ghost use Rattle.mediator_calls.specs.Calls.{Opens, RefusesOpen, Closes, Receives, RefusesReceive, RefusesReceivePrepared, Edits, Subscribes, Unsubscribes, Advances, RefusesAdvance, IsStatusOf, Drains};
 ghost use Rattle.shared_mediator.specs.Counted.{counted_as, handed_at, handed_live, handed_of, Counts};
 ghost use Rattle.shared_mediator.specs.Handing.{HandsOut, RefusesHanding};
 
-use crate::fault::PullFault;
 use crate::handed::Handed;
 use bytes::Bytes;
 use disclosure_audit::AuditEntry;
-use mediator_calls::{Mediator, SessionId, SubId, UnknownSub};
+use mediator_calls::{Mediator, SessionId, SubId};
 use mediator_state::{Fault, Receipt, Status};
 use mediator_tables::Share;
 use prepared_message::{JudgedAhead, Prepared, Snapshot};
@@ -296,10 +296,9 @@ impl CountedMediator {
     /// `target`, and counts its records as handed out; or answers `None` where nothing waits.
     ///
     /// # Errors
-    /// [`PullFault::Core`] with [`Fault::UnknownSub`] where the subscription isn't live; [`PullFault::HandedFull`]
-    /// where the count has no room for all that waits for it; or [`PullFault::Core`] with [`Fault::OutOfMemory`].
-    /// Nothing has changed then.
-    pub fn pull(&mut self, sub: SubId, now: u32, target: u16) -> Result<Option<Handed>, PullFault>
+    /// [`Fault::UnknownSub`] where the subscription isn't live; [`Fault::HandedFull`] where the count has no room for
+    /// all that waits for it; or [`Fault::OutOfMemory`]. Nothing has changed then.
+    pub fn pull(&mut self, sub: SubId, now: u32, target: u16) -> Result<Option<Handed>, Fault>
         ensures ok { IfOk result (λ answer. HandsOut self.old sub.0 now target answer self.new) }
         ensures unchanged { OnErr result (self.new ≡ self.old) }
         ensures err { IfErr result (λ e. RefusesHanding e self.old sub.0) }
@@ -307,18 +306,18 @@ impl CountedMediator {
         let _journal = self.mediator.journal();
         let before = match self.mediator.status(sub) {
             Ok(before) => before,
-            Err(_) => return Err(PullFault::Core(Fault::UnknownSub)),
+            Err(_) => return Err(Fault::UnknownSub),
         };
         if before.queued as u64 > u64::MAX - self.handed {
-            return Err(PullFault::HandedFull);
+            return Err(Fault::HandedFull);
         }
         let message = match self.mediator.pull(sub, now, target) {
             Ok(message) => message,
-            Err(fault) => return Err(PullFault::Core(fault)),
+            Err(fault) => return Err(fault),
         };
         let after = match self.mediator.status(sub) {
             Ok(after) => after,
-            Err(_) => return Err(PullFault::Core(Fault::UnknownSub)),
+            Err(_) => return Err(Fault::UnknownSub),
         };
         let records = after.handed - before.handed;
         self.handed += records;
@@ -331,10 +330,11 @@ impl CountedMediator {
     /// How the live subscription with the number `sub` stands.
     ///
     /// # Errors
-    /// [`UnknownSub`] where no subscription with this number is live.
-    pub fn status(&self, sub: SubId) -> Result<Status, UnknownSub>
+    /// [`Fault::UnknownSub`] where no subscription with this number is live.
+    pub fn status(&self, sub: SubId) -> Result<Status, Fault>
         ensures ok { IfOk result (λ status. IsStatusOf self.now.core sub.0 status) }
         ensures err { OnErr result (is_live sub.0 self.now.core.history ≡ false) }
+        ensures fault { IfErr result (λ e. e ≡ UnknownSub) }
     {
         self.mediator.status(sub)
     }

@@ -1,12 +1,11 @@
 //! A delivery's handle on a shared mediator.
-ghost use Rattle.std.specs.Prelude.{◌≡◌, ◌≤◌, [], length, IfOk};
+ghost use Rattle.std.specs.Prelude.{◌≡◌, ◌≤◌, [], length, IfOk, IfErr};
 ghost use Rattle.std.specs.Borrow.{sem};
 ghost use Rattle.shared_mediator.specs.contracts.delivery.DeliveryHandle.{the_row};
 ghost use Rattle.shared_mediator.specs.Locked.{delivering_as};
-ghost use Rattle.shared_mediator.specs.Handles.{records_kept};
+ghost use Rattle.shared_mediator.specs.Handles.{MayRefusePull, records_kept};
 ghost use Rattle.shared_mediator.specs.Lending.{Leaves, LendsHanded, LendsSome};
 
-use crate::fault::PullFault;
 use crate::handed::Handed;
 use crate::ledgers::{EntryLedger, RecordLedger};
 use crate::locked::LockedMediator;
@@ -92,19 +91,19 @@ impl<H: RecordLedger> DeliveryHandle<H> {
     /// waits for the lock by `rt`.
     ///
     /// # Errors
-    /// [`PullFault::Core`] with [`Fault::UnknownSub`] where the subscription isn't live; [`PullFault::HandedFull`]
-    /// where the count of records handed out has no room for all that waits; or [`PullFault::Core`] with
-    /// [`Fault::OutOfMemory`]. Nothing has changed then.
+    /// [`Fault::UnknownSub`] where the subscription isn't live; [`Fault::HandedFull`] where the count of records handed
+    /// out has no room for all that waits; or [`Fault::OutOfMemory`]. Nothing has changed then.
     pub fn pull<E: EntryLedger>(
         &mut self,
         rt: &impl Wait,
         shared: &SharedMediator<E, H>,
         now: u32,
         target: u16,
-    ) -> Result<Option<&Handed>, PullFault>
+    ) -> Result<Option<&Handed>, Fault>
         // What the handle keeps, beside what it lends.
         ensures* leaves { sem 𝓛 (Leaves (the_row H.row (record { all = H.all }) H.Ledger)
             self.entry (LendsHanded now target self.old result)) }
+        ensures refuses { IfErr result MayRefusePull }
     {
         self.pull_next(&mut shared.locked(rt), now, target)
     }
@@ -123,11 +122,12 @@ impl<H: RecordLedger> DeliveryHandle<H> {
         now: u32,
         target: u16,
         most: u64,
-    ) -> Result<&[Handed], PullFault>
+    ) -> Result<&[Handed], Fault>
         ensures most { IfOk result (λ messages. length messages.now ≤ most) }
         // What the handle keeps, beside what it lends.
         ensures* leaves { sem 𝓛 (Leaves (the_row H.row (record { all = H.all }) H.Ledger)
             self.entry (LendsSome now target self.old result)) }
+        ensures refuses { IfErr result MayRefusePull }
     {
         let mut locked = shared.locked(rt);
         let before = self.kept.len();
@@ -152,12 +152,13 @@ impl<H: RecordLedger> DeliveryHandle<H> {
         locked: &mut LockedMediator<E, H>,
         now: u32,
         target: u16,
-    ) -> Result<Option<&Handed>, PullFault>
+    ) -> Result<Option<&Handed>, Fault>
         ensures* leaves { sem 𝓛 (Leaves (the_row H.row (record { all = H.all }) H.Ledger)
             self.entry (LendsHanded now target self.old result)) }
+        ensures refuses { IfErr result MayRefusePull }
     {
         if self.kept.reserve(1).is_err() {
-            return Err(PullFault::Core(Fault::OutOfMemory));
+            return Err(Fault::OutOfMemory);
         }
         match locked.pull(&mut self.share, self.sub, now, target)? {
             Some(handed) => {

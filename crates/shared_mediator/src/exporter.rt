@@ -2,7 +2,7 @@
 ghost use Rattle.std.specs.Prelude.{◌≡◌, ◌++◌, ◌∷◌, [], length, IfOk, IfErr, OnErr};
 ghost use Rattle.event_journal.specs.declared.entry.Entry.TheVariants.{Message};
 ghost use Rattle.shared_mediator.specs.Locked.{exporting_as};
-ghost use Rattle.shared_mediator.specs.Handles.{AreMessages};
+ghost use Rattle.shared_mediator.specs.Handles.{AreMessages, MayRefuseOffer};
 
 use crate::kept::KeptEntry;
 use crate::ledgers::{EntryLedger, RecordLedger};
@@ -102,6 +102,7 @@ impl<E: EntryLedger> ExporterHandle<E> {
             } ∷ []) }
         ensures session { self.new.session ≡ self.old.session }
         ensures unchanged { OnErr result (self.new ≡ self.old) }
+        ensures refuses { IfErr result MayRefuseOffer }
     {
         let receipt = self.offer_silently(rt, shared, message)?;
         shared.wake();
@@ -126,6 +127,7 @@ impl<E: EntryLedger> ExporterHandle<E> {
             } ∷ []) }
         ensures session { self.new.session ≡ self.old.session }
         ensures unchanged { OnErr result (self.new ≡ self.old) }
+        ensures refuses { IfErr result MayRefuseOffer }
     {
         self.offer_judged_silently(rt, shared, message, None)
     }
@@ -150,6 +152,7 @@ impl<E: EntryLedger> ExporterHandle<E> {
             } ∷ []) }
         ensures session { self.new.session ≡ self.old.session }
         ensures unchanged { OnErr result (self.new ≡ self.old) }
+        ensures refuses { IfErr result MayRefuseOffer }
     {
         let octets = message.clone()?;
         self.kept.reserve(1)?;
@@ -178,7 +181,9 @@ impl<E: EntryLedger> ExporterHandle<E> {
         &self,
         rt: &impl Wait,
         shared: &SharedMediator<E, H>,
-    ) -> Result<Snapshot, Fault> {
+    ) -> Result<Snapshot, Fault>
+        ensures refuses { IfErr result MayRefuseOffer }
+    {
         shared.locked(rt).snapshot(self.session)
     }
 
@@ -203,6 +208,7 @@ impl<E: EntryLedger> ExporterHandle<E> {
         ensures session { self.new.session ≡ self.old.session }
         ensures unchanged { OnErr result (self.new ≡ self.old) }
         ensures handed_back { IfErr result (λ e. e.1 ≡ prepared) }
+        ensures refuses { IfErr result (λ e. MayRefuseOffer e.0) }
     {
         let receipt = self.offer_prepared_silently(rt, shared, prepared)?;
         shared.wake();
@@ -228,6 +234,7 @@ impl<E: EntryLedger> ExporterHandle<E> {
         ensures session { self.new.session ≡ self.old.session }
         ensures unchanged { OnErr result (self.new ≡ self.old) }
         ensures handed_back { IfErr result (λ e. e.1 ≡ prepared) }
+        ensures refuses { IfErr result (λ e. MayRefuseOffer e.0) }
     {
         let octets = match prepared.message().clone() {
             Ok(octets) => octets,

@@ -1,6 +1,7 @@
 //! What lies under the lock: the mediator, with the books of what each handle adds to it.
 ghost use Rattle.std.specs.Prelude.{◌≡◌, ◌+◌, ◌*◌, ◌<◌, [], take, true, false, length, IsOk, IfOk, IfErr, OnOk, OnErr};
 ghost use Rattle.mediator_history.specs.Subscriptions.{is_live};
+ghost use Rattle.mediator_state.specs.declared.fault.Fault.TheVariants.{UnknownSub};
 ghost use Rattle.mediator_state.specs.Calls.{IsSnapshot, RefusesSnapshot, RefusesClose, RefusesEdit, RefusesSubscribe, RefusesUnsubscribe};
 ghost use Rattle.mediator_calls.specs.Mediation.{noted_at, journal_limits};
 ghost use Rattle.mediator_calls.specs.Sound.{IsSound};
@@ -8,17 +9,16 @@ ghost use Rattle.mediator_calls.specs.Calls.{Opens, Closes, Receives, RefusesRec
 ghost use Rattle.shared_mediator.specs.Counted.{counted_as, handed_at, handed_live};
 ghost use Rattle.shared_mediator.specs.Handing.{HandsOut, RefusesHanding, records_of};
 ghost use Rattle.shared_mediator.specs.Locked.{locked_as};
-ghost use Rattle.shared_mediator.specs.Calls.{Makes, Adds, RefusesExporter, RefusesDelivery, RefusesAdmin, IsWaited, is_full, is_full_handle, noted};
+ghost use Rattle.shared_mediator.specs.Calls.{Makes, Adds, RefusesExporter, RefusesDelivery, RefusesAdmin, IsWaited, is_full, noted};
 
 use crate::counted::CountedMediator;
 use crate::delivery::Waited;
-use crate::fault::{HandleFault, PullFault};
 use crate::fill::Fill;
 use crate::handed::Handed;
 use crate::ledgers::{EntryLedger, RecordLedger};
 use bytes::Bytes;
 use disclosure_audit::AuditEntry;
-use mediator_calls::{Mediator, SessionId, SubId, UnknownSub};
+use mediator_calls::{Mediator, SessionId, SubId};
 use mediator_state::{Fault, Receipt, Status};
 use mediator_tables::Share as Given;
 use prepared_message::{JudgedAhead, Prepared, Snapshot};
@@ -119,9 +119,8 @@ impl<E: EntryLedger, H: RecordLedger> LockedMediator<E, H> {
     /// Opens a session, with a share of the ledger of entries for its exporter.
     ///
     /// # Errors
-    /// [`HandleFault::NoHandle`] where as many exporters were made as there may be; or [`HandleFault::Core`] with a
-    /// fault of [`CountedMediator::open`].
-    pub(crate) fn exporter(&mut self) -> Result<OpenedSession<E>, HandleFault>
+    /// [`Fault::NoHandle`] where as many exporters were made as there may be; or those of [`CountedMediator::open`].
+    pub(crate) fn exporter(&mut self) -> Result<OpenedSession<E>, Fault>
         // A session is opened, and one handle more is made, with a share that counts nothing.
         ensures ok { IfOk result (λ opened.
             Opens self.old.counted.core opened.session.0 self.new.counted.core) }
@@ -131,16 +130,16 @@ impl<E: EntryLedger, H: RecordLedger> LockedMediator<E, H> {
         ensures position { IfOk result (λ opened.
             opened.position ≡ length self.old.counted.core.history) }
         // A refusal changes nothing, but may note that the journal is full.
-        ensures noted { IfErr result (λ e. self.new ≡ noted (is_full_handle e) self.old) }
+        ensures noted { IfErr result (λ e. self.new ≡ noted (is_full e) self.old) }
         ensures err { IfErr result (λ e. RefusesExporter e self.old) }
     {
         if self.exporters == self.handles {
-            return Err(HandleFault::NoHandle);
+            return Err(Fault::NoHandle);
         }
         let position = self.counted.mediator().journal().len();
         let session = match self.counted.open() {
             Ok(session) => session,
-            Err(fault) => return Err(HandleFault::Core(self.note(fault))),
+            Err(fault) => return Err(self.note(fault)),
         };
         self.exporters += 1;
         Ok(OpenedSession {
@@ -153,9 +152,9 @@ impl<E: EntryLedger, H: RecordLedger> LockedMediator<E, H> {
     /// A share of the ledger of records for the delivery to the live subscription with the number `sub`.
     ///
     /// # Errors
-    /// [`HandleFault::Core`] with [`Fault::UnknownSub`] where it isn't live; or [`HandleFault::NoHandle`] where as many
-    /// deliveries were made as there may be.
-    pub(crate) fn delivery(&mut self, sub: SubId) -> Result<Share<H>, HandleFault>
+    /// [`Fault::UnknownSub`] where it isn't live; or [`Fault::NoHandle`] where as many deliveries were made as there may
+    /// be.
+    pub(crate) fn delivery(&mut self, sub: SubId) -> Result<Share<H>, Fault>
         // One handle more is made, with a share that counts nothing.
         ensures live { OnOk result (is_live sub.0 self.old.counted.core.history ≡ true) }
         ensures counts { OnOk result (Makes 0 1 0 self.old self.new) }
@@ -165,10 +164,10 @@ impl<E: EntryLedger, H: RecordLedger> LockedMediator<E, H> {
         ensures err { IfErr result (λ e. RefusesDelivery e self.old sub.0) }
     {
         if self.counted.status(sub).is_err() {
-            return Err(HandleFault::Core(Fault::UnknownSub));
+            return Err(Fault::UnknownSub);
         }
         if self.deliveries == self.handles {
-            return Err(HandleFault::NoHandle);
+            return Err(Fault::NoHandle);
         }
         self.deliveries += 1;
         Ok(self.handed_left.split_off(1, 0))
@@ -177,15 +176,15 @@ impl<E: EntryLedger, H: RecordLedger> LockedMediator<E, H> {
     /// A share of the ledger of entries for an administrator.
     ///
     /// # Errors
-    /// [`HandleFault::NoHandle`] where as many administrators were made as there may be.
-    pub(crate) fn admin(&mut self) -> Result<Share<E>, HandleFault>
+    /// [`Fault::NoHandle`] where as many administrators were made as there may be.
+    pub(crate) fn admin(&mut self) -> Result<Share<E>, Fault>
         ensures counts { OnOk result (Makes 0 0 1 self.old self.new) }
         ensures share { IfOk result (λ share. (share.parts ≡ 1) × (share.amount ≡ 0)) }
         ensures unchanged { OnErr result (self.new ≡ self.old) }
         ensures err { IfErr result (λ e. RefusesAdmin e self.old) }
     {
         if self.admins == self.handles {
-            return Err(HandleFault::NoHandle);
+            return Err(Fault::NoHandle);
         }
         self.admins += 1;
         Ok(self.entries_left.split_off(1, 0))
@@ -302,7 +301,7 @@ impl<E: EntryLedger, H: RecordLedger> LockedMediator<E, H> {
         sub: SubId,
         now: u32,
         target: u16,
-    ) -> Result<Option<Handed>, PullFault>
+    ) -> Result<Option<Handed>, Fault>
         requires part { 0 < share.old.parts }
         // What the counted mediator's call does, with the records of the message on the books and in the share.
         ensures sound { IsSound self.old.counted.core }
@@ -478,10 +477,11 @@ impl<E: EntryLedger, H: RecordLedger> LockedMediator<E, H> {
     /// How the live subscription with the number `sub` stands.
     ///
     /// # Errors
-    /// [`UnknownSub`] where none with this number is live.
-    pub(crate) fn status(&self, sub: SubId) -> Result<Status, UnknownSub>
+    /// [`Fault::UnknownSub`] where none with this number is live.
+    pub(crate) fn status(&self, sub: SubId) -> Result<Status, Fault>
         ensures ok { IfOk result (λ status. IsStatusOf self.now.counted.core sub.0 status) }
         ensures err { OnErr result (is_live sub.0 self.now.counted.core.history ≡ false) }
+        ensures fault { IfErr result (λ e. e ≡ UnknownSub) }
     {
         self.counted.status(sub)
     }

@@ -1,16 +1,16 @@
 //! A mediator that threads share by one lock.
-ghost use Rattle.std.specs.Prelude.{◌≡◌, ◌+◌, ◌*◌, [], IfOk};
+ghost use Rattle.std.specs.Prelude.{◌≡◌, ◌+◌, ◌*◌, [], IfOk, IfErr};
+ghost use Rattle.mediator_state.specs.declared.fault.Fault.TheVariants.{UnknownSub};
 ghost use Rattle.shared_mediator.specs.Counted.{handed_live};
 
 use crate::admin::AdminHandle;
 use crate::delivery::DeliveryHandle;
 use crate::exporter::ExporterHandle;
-use crate::fault::HandleFault;
 use crate::fill::Fill;
 use crate::ledgers::{EntryLedger, RecordLedger};
 use crate::locked::LockedMediator;
-use mediator_calls::{Mediator, SubId, UnknownSub};
-use mediator_state::Status;
+use mediator_calls::{Mediator, SubId};
+use mediator_state::{Fault, Status};
 use mediator_tables::Share;
 use std::alloc::Global;
 use std::sync::ledger::Blank;
@@ -91,9 +91,8 @@ impl<E: EntryLedger, H: RecordLedger> SharedMediator<E, H> {
     /// Opens a session of an exporter, and answers its handle. It waits for the lock by `rt`.
     ///
     /// # Errors
-    /// [`HandleFault::NoHandle`] where as many exporters' handles were made as there may be; or [`HandleFault::Core`]
-    /// with a fault of `Mediator::open`.
-    pub fn exporter(&self, rt: &impl Wait) -> Result<ExporterHandle<E>, HandleFault>
+    /// [`Fault::NoHandle`] where as many exporters' handles were made as there may be; or those of `Mediator::open`.
+    pub fn exporter(&self, rt: &impl Wait) -> Result<ExporterHandle<E>, Fault>
         ensures { IfOk result (λ handle. handle.kept ≡ []) }
     {
         let opened = self.mediator.lock(rt).exporter()?;
@@ -103,9 +102,9 @@ impl<E: EntryLedger, H: RecordLedger> SharedMediator<E, H> {
     /// A handle for the delivery to the live subscription with the number `sub`. It waits for the lock by `rt`.
     ///
     /// # Errors
-    /// [`HandleFault::Core`] with `UnknownSub` where no subscription with this number is live; or
-    /// [`HandleFault::NoHandle`] where as many deliveries' handles were made as there may be.
-    pub fn delivery(&self, rt: &impl Wait, sub: SubId) -> Result<DeliveryHandle<H>, HandleFault>
+    /// [`Fault::UnknownSub`] where no subscription with this number is live; or [`Fault::NoHandle`] where as many
+    /// deliveries' handles were made as there may be.
+    pub fn delivery(&self, rt: &impl Wait, sub: SubId) -> Result<DeliveryHandle<H>, Fault>
         ensures sub { IfOk result (λ handle. handle.sub ≡ sub.0) }
         ensures none { IfOk result (λ handle. handle.kept ≡ []) }
     {
@@ -147,8 +146,10 @@ impl<E: EntryLedger, H: RecordLedger> SharedMediator<E, H> {
     /// How the live subscription with the number `sub` stands. It waits for the lock by `rt`.
     ///
     /// # Errors
-    /// [`UnknownSub`] where no subscription with this number is live.
-    pub fn status(&self, rt: &impl Wait, sub: SubId) -> Result<Status, UnknownSub> {
+    /// [`Fault::UnknownSub`] where no subscription with this number is live.
+    pub fn status(&self, rt: &impl Wait, sub: SubId) -> Result<Status, Fault>
+        ensures { IfErr result (λ e. e ≡ UnknownSub) }
+    {
         self.locked(rt).status(sub)
     }
 
@@ -166,8 +167,8 @@ impl<E: EntryLedger, H: RecordLedger> SharedMediator<E, H> {
     /// A handle for an administrator. It waits for the lock by `rt`.
     ///
     /// # Errors
-    /// [`HandleFault::NoHandle`] where as many administrators' handles were made as there may be.
-    pub fn admin(&self, rt: &impl Wait) -> Result<AdminHandle<E>, HandleFault>
+    /// [`Fault::NoHandle`] where as many administrators' handles were made as there may be.
+    pub fn admin(&self, rt: &impl Wait) -> Result<AdminHandle<E>, Fault>
         ensures { IfOk result (λ handle. handle ≡ []) }
     {
         let share = self.mediator.lock(rt).admin()?;

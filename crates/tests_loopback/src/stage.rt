@@ -119,6 +119,6 @@ pub(crate) fn run<
             let Ended { closed, stopped: _ } = listen(rt, alloc, &stage.plan, mediator)?;
             Ok(closed)
         }
-        Err(_) => Err(ListenFault::Core(Fault::OutOfMemory)),
+        Err(_) => Err(ListenFault::Mediator(Fault::OutOfMemory)),
     }
 }

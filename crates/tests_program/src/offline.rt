@@ -61,7 +61,7 @@ fn was_refused(ran: &Ran) -> bool {
     matches!(
         ran.answer,
         Err(
-            OfflineFault::Core(Fault::OutOfMemory)
+            OfflineFault::Mediator(Fault::OutOfMemory)
                 | OfflineFault::Write { .. }
                 | OfflineFault::AuditWrite
         )
@@ -184,7 +184,7 @@ fn expect_run(
     audited: usize,
 ) -> Result<(), AllocError> {
     let mut ran = run_by(alloc, devices)?;
-    if ran.answer == Err(OfflineFault::Core(Fault::OutOfMemory)) {
+    if ran.answer == Err(OfflineFault::Mediator(Fault::OutOfMemory)) {
         assert!(rt; BOTH_WITHOUT_OCTETS.starts_with(ran.written.as_slice()));
         assert!(rt; BOTH_LINES.starts_with(ran.audit.as_slice()));
         ran = run_by(alloc, devices)?;
@@ -282,13 +282,13 @@ const NAMES: &[(OfflineFault, &str)] = &[
     (OfflineFault::Write { sent: 3 }, "Write"),
     (OfflineFault::Framing(FramingFault::CutOff), "Framing"),
     (OfflineFault::Turns, "Turns"),
-    (OfflineFault::Core(Fault::BadName), "Core"),
+    (OfflineFault::Mediator(Fault::BadName), "Mediator"),
     (OfflineFault::Cut, "Cut"),
     (OfflineFault::AuditWrite, "AuditWrite"),
 ];
 
 /// Those that the program says are left out.
-const NAMES_OF_THE_CORE: &[(Fault, &str)] = &[
+const NAMES_OF_THE_MEDIATOR: &[(Fault, &str)] = &[
     (Fault::Policy(NO_HEADER), "Policy"),
     (Fault::JournalFull, "JournalFull"),
     (Fault::AuditFull { need: 2, room: 1 }, "AuditFull"),
@@ -311,5 +311,5 @@ fn expect_names<F: Display>(
 #[test]
 fn names_of_faults(rt: HostRuntime) -> Result<(), Fail> {
     expect_names(&rt, rt.alloc(), NAMES)?;
-    expect_names(&rt, rt.alloc(), NAMES_OF_THE_CORE)
+    expect_names(&rt, rt.alloc(), NAMES_OF_THE_MEDIATOR)
 }

@@ -7,11 +7,11 @@ use bytes::Bytes;
 use disclosure_audit::line;
 use ipfix_message::Fault as DecodeError;
 use ipfix_session::{ReadError, Skips};
-use mediator_core::{Fault, Finished, Receipt, Status, SubId, UnknownSub};
+use mediator_core::{Fault, Finished, Receipt, Status, SubId};
 use policy_text::{FaultKind, PolicyFault};
 use shared_mediator::{
-    AdminHandle, CloseFault, DeliveryHandle, EntryLedger, ExporterHandle, HandleFault, PullFault,
-    RecordLedger, SharedMediator,
+    AdminHandle, CloseFault, DeliveryHandle, EntryLedger, ExporterHandle, RecordLedger,
+    SharedMediator,
 };
 use std::alloc::{AllocError, Global};
 use std::process::Abort;
@@ -143,10 +143,10 @@ fn refuse_handles<E: EntryLedger, H: RecordLedger, R: Wait + Abort>(
     shared: &SharedMediator<E, H>,
 ) {
     let unknown = shared.delivery(rt, SubId(9));
-    assert!(rt; matches!(unknown, Err(HandleFault::Core(Fault::UnknownSub))));
-    assert!(rt; matches!(shared.exporter(rt), Err(HandleFault::NoHandle)));
-    assert!(rt; matches!(shared.delivery(rt, SubId(1)), Err(HandleFault::NoHandle)));
-    assert!(rt; matches!(shared.admin(rt), Err(HandleFault::NoHandle)));
+    assert!(rt; matches!(unknown, Err(Fault::UnknownSub)));
+    assert!(rt; matches!(shared.exporter(rt), Err(Fault::NoHandle)));
+    assert!(rt; matches!(shared.delivery(rt, SubId(1)), Err(Fault::NoHandle)));
+    assert!(rt; matches!(shared.admin(rt), Err(Fault::NoHandle)));
 }
 
 /// What an administrator is refused; the clock is put on once, and the journal is full behind that.
@@ -197,9 +197,9 @@ fn expect_gone<E: EntryLedger, H: RecordLedger, R: Wait + Abort>(
     let ended = admin.unsubscribe(rt, shared, SubId(1));
     assert!(rt; ended == Ok(()));
     let gone = delivery.pull(rt, shared, NOW, TARGET);
-    assert!(rt; matches!(gone, Err(PullFault::Core(Fault::UnknownSub))));
+    assert!(rt; matches!(gone, Err(Fault::UnknownSub)));
     let unknown = admin.status(rt, shared, SubId(1));
-    assert!(rt; unknown == Err(UnknownSub));
+    assert!(rt; unknown == Err(Fault::UnknownSub));
     let full = admin.advance(rt, shared, 1000);
     assert!(rt; full == Err(Fault::JournalFull));
 }
