@@ -17,7 +17,7 @@ use Rattle.flow_anonymize.specs.Remaining.{kept_fields, kept_values, removed_fie
 use Rattle.flow_anonymize.specs.Within.{AreJudged}
 use Rattle.flow_anonymize.specs.Disclosed.{remaining, first_lost, transformed, by_action}
 use Rattle.flow_anonymize.specs.Steps.{AreSteps}
-use Rattle.flow_anonymize.specs.Planning.{Plan, planned, passing_record, ShowsRecord, IsShowable, ShowsNone, IsPlan}
+use Rattle.flow_anonymize.specs.Planning.{Plan, planned, passing_record, ShowsRecord, IsShowable, ShowsNone, IsPlanFrom}
 use Rattle.flow_anonymize.proofs.Sound.{left_is_sound}
 use Rattle.flow_anonymize.proofs.PermittedLaws.{passed_by}
 
@@ -28,7 +28,7 @@ none_by on_record.Pass rule passing kept removed other e = other refl
 none_by on_record.Withhold rule passing kept removed other e = cc
 none_by (on_record.Aggregate definition) rule passing kept removed other e = cc
 
-pub shows_none : (t : Template) (verdict : RecordVerdict) (ws : List ElementVerdict) (plan : Plan) (values : List (List ℕ)) → IsPlan t verdict ws plan → verdict.action ≢ on_record.Pass → ShowsNone plan
+pub shows_none : (t : Template) (verdict : RecordVerdict) (ws : List ElementVerdict) (plan : Plan) (values : List (List ℕ)) → IsPlanFrom t verdict ws plan → verdict.action ≢ on_record.Pass → ShowsNone plan
 shows_none t verdict ws (Passed passing removed) values is other =
     none_by verdict.action verdict.rule (transformed (record { template = t; values = values }) ws) _ _ other (is.leaves values)
 shows_none t verdict ws (Aggregated rule definition) values is other = tt
@@ -41,7 +41,7 @@ none_showable (Withheld rule reason) r none = tt
 
 -- ---- what is shown of records on which the verdicts are these
 
-pub showable : (r : DataRecord) (verdict : RecordVerdict) (ws : List ElementVerdict) (plan : Plan) → AreJudged r ws → IsPlan r.template verdict ws plan → IsShowable plan r
+pub showable : (r : DataRecord) (verdict : RecordVerdict) (ws : List ElementVerdict) (plan : Plan) → AreJudged r ws → IsPlanFrom r.template verdict ws plan → IsShowable plan r
 showable r verdict ws (Passed passing removed) judged is =
     let same : passing.verdicts.items ≡ ws = is.by.0 in
     let kept : DataRecord = passing_record passing r.values in

@@ -12,7 +12,7 @@ use Rattle.flow_anonymize.specs.declared.disclosure.Disclosure.TheVariants.{Pass
 use Rattle.flow_anonymize.specs.declared.plan.Passing.{Passing}
 use Rattle.flow_anonymize.specs.Outcome.{Outcome}
 use Rattle.flow_anonymize.specs.Remaining.{kept_fields, kept_values}
-use Rattle.flow_anonymize.specs.Within.{AreWithin}
+use Rattle.flow_anonymize.specs.Within.{FitActions}
 use Rattle.flow_anonymize.specs.Steps.{AreSteps}
 use Rattle.flow_anonymize.specs.Disclosed.{transformed, by_verdict}
 
@@ -33,7 +33,7 @@ planned (Withheld rule reason) values = Withheld rule reason
 -- steps show it of the record's text
 pub record ShowsRecord (r : DataRecord) (t : Template) (verdicts : List ElementVerdict) (steps : List Step) : Type 0 where
   pub each : length verdicts ≡ length r.template.fields
-  pub within : AreWithin r.values verdicts
+  pub within : FitActions r.values verdicts
   pub fields : t.fields ≡ kept_fields r.template.fields verdicts
   pub sound : IsSound (record { template = t; values = kept_values r.values verdicts })
   pub by_steps : AreSteps r.template.fields verdicts steps
@@ -57,7 +57,7 @@ ShowsBy fields verdicts (Aggregated rule definition) = Unit {0}
 ShowsBy fields verdicts (Withheld rule reason) = Unit {0}
 
 -- the plan for records of a template, by the verdict on the record and those on its fields
-pub record IsPlan (t : Template) (on_record : RecordVerdict) (on_fields : List ElementVerdict) (plan : Plan) : Type 0 where
+pub record IsPlanFrom (t : Template) (on_record : RecordVerdict) (on_fields : List ElementVerdict) (plan : Plan) : Type 0 where
   pub leaves : (values : List (List ℕ)) → planned plan values ≡ by_verdict on_record (transformed (record { template = t; values = values }) on_fields)
   pub by : ShowsBy t.fields on_fields plan
 

@@ -155,7 +155,7 @@ impl PlanCache {
 
 ghost use Rattle.std.specs.Prelude.{true};
 ghost use Rattle.flow_anonymize.specs.Planning.{shown_template};
-ghost use Rattle.flow_anonymize.specs.PlanCache.{WritesOn};
+ghost use Rattle.flow_anonymize.specs.PlanCache.{WritesForTemplate};
 
 /// Adds what passes of a record by a plan, to the run that is written by this plan already or to a new one.
 ///
@@ -172,7 +172,7 @@ fn pass(
     ensures given { OnOk result
         (output.new.given ≡ output.old.given ++ passed (planned plan.now flow_record.now.values)) }
     ensures writing { OnOk result
-        (WritesOn (shown_template plan.now) output.old.writing output.new.writing) }
+        (WritesForTemplate (shown_template plan.now) output.old.writing output.new.writing) }
 {
     let Some(template) = plan.template() else {
         return Ok(());

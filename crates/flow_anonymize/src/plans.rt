@@ -49,13 +49,13 @@ impl Model for Plans {
     ghost use Rattle.std.specs.Prelude.{string_bytes};
     ghost use Rattle.std.specs.Option.{option_map};
     ghost use Rattle.std.specs.Arc.{arc_value};
-    ghost use Rattle.flow_anonymize.specs.Plans.{PlansOf, AreKept};
+    ghost use Rattle.flow_anonymize.specs.Plans.{PlansOf, ArePlansKept};
 
     ghost Value = { PlansOf };
 
     ghost view = { λ p. record { for = record { rules = arc_value p.table; cuts = arc_value p.classes; name = string_bytes p.name; domain = p.domain; template = option_map arc_value p.template }; given = p.cache.given } };
 
-    ghost invariant = { λ p. AreKept (record {
+    ghost invariant = { λ p. ArePlansKept (record {
       rules = arc_value p.table;
       cuts = arc_value p.classes;
       name = string_bytes p.name;
@@ -91,7 +91,7 @@ impl Plans {
         }) }
     {
         // There are no more cuts than a key has room for.
-        let _cuts = classes.cuts();
+        let _for_proof = classes.cuts();
         let name = String::from_str(alloc, name)?;
         Ok(Plans {
             table,
@@ -206,7 +206,7 @@ impl Plans {
             return self.disclose_singly(alloc, &flow_record.to_record()?);
         };
         // A record keeps that it is sound.
-        let _template = flow_record.template();
+        let _for_proof = flow_record.template();
         match self.cache.place_of(classes) {
             Some(place) => self.cache.give(place, flow_record),
             None => self.disclose_anew(alloc, classes, flow_record),
@@ -233,7 +233,7 @@ impl Plans {
         ensures same { self.new.for ≡ self.old.for }
     {
         // A record keeps that it is sound.
-        let _template = flow_record.template();
+        let _for_proof = flow_record.template();
         let slot = self.planned(alloc, classes, flow_record)?;
         let place = self.cache.keep(slot)?;
         self.cache.give(place, flow_record)
@@ -254,7 +254,7 @@ impl Plans {
         ensures { IfOk result (λ slot. (slot.classes ≡ classes) × IsSlot self.now.for slot) }
     {
         // Each rule is one of the grammar, so its prefixes have no bits past their lengths.
-        let _rules = self.table.rules();
+        let _for_proof = self.table.rules();
         let single = flow_record.to_record()?;
         let plan = plan_by(alloc, &self.table, self.name.as_str(), self.domain, &single)?;
         Ok(Slot { classes, plan })

@@ -72,7 +72,7 @@ pub fn disclose(
 }
 
 ghost use Rattle.flow_anonymize.specs.Remaining.{verdicts_of};
-ghost use Rattle.flow_anonymize.specs.Planning.{IsPlan, IsShowable};
+ghost use Rattle.flow_anonymize.specs.Planning.{IsPlanFrom, IsShowable};
 
 /// The plan for a record.
 fn plan_of(
@@ -82,7 +82,7 @@ fn plan_of(
     domain: u32,
     flow_record: &Record,
 ) -> Result<Plan, AllocError>
-    ensures plan { IfOk result (λ plan. IsPlan flow_record.now.template
+    ensures plan { IfOk result (λ plan. IsPlanFrom flow_record.now.template
         (record_verdict_of name.now domain flow_record.now policy.now.rules)
         (verdicts_of name.now domain flow_record.now policy.now.rules) plan) }
     ensures showable { IfOk result (λ plan. IsShowable plan flow_record.now) }

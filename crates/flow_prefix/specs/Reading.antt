@@ -52,8 +52,8 @@ at_double (c ∷ []) = None
 at_double (c ∷ d ∷ rest) = if c == 58 && d == 58 then Some ([], rest) else onto_left c (at_double (d ∷ rest))
 
 -- the groups with zeros between, at least one
-abbrev pub filled : List ℕ → List ℕ → Option (List ℕ)
-filled left right =
+abbrev pub with_zeros : List ℕ → List ℕ → Option (List ℕ)
+with_zeros left right =
     if nat_lt (length left + length right) 8
     then Some (left ++ replicate (8 - (length left + length right)) 0 ++ right) else None
 
@@ -61,7 +61,7 @@ abbrev pub shortened_of : List ℕ × List ℕ → Option (List ℕ)
 shortened_of sides = do
   left ← groups_of sides.0
   right ← groups_of sides.1
-  filled left right
+  with_zeros left right
 
 -- a list of as many parts as the family has
 abbrev pub whole : Family → List ℕ → Option (List ℕ)
@@ -92,15 +92,15 @@ prefix_in Ipv4 net = V4 net
 prefix_in Ipv6 net = V6 net
 
 -- a prefix of this family, or the first fault that stands
-unfoldable pub judged : Family → ℕ → ℕ → Result Prefix PrefixFault
-judged family address bits =
+unfoldable pub checked_prefix : Family → ℕ → ℕ → Result Prefix PrefixFault
+checked_prefix family address bits =
     if nat_lt (width family) bits then Err BadLength
     else if truncated (width family) bits address == address then Ok (prefix_in family (record { address = address; length = bits }))
     else Err HostBits
 
 abbrev pub by_family : Option ℕ → Option ℕ → ℕ → Result Prefix PrefixFault
-by_family (Some address) v6 bits = judged Ipv4 address bits
-by_family None (Some address) bits = judged Ipv6 address bits
+by_family (Some address) v6 bits = checked_prefix Ipv4 address bits
+by_family None (Some address) bits = checked_prefix Ipv6 address bits
 by_family None None bits = Err BadText
 
 abbrev pub with_bits : List ℕ → Option ℕ → Result Prefix PrefixFault

@@ -1,7 +1,7 @@
 //! Prefixes of either family: read from texts, written as texts, and asked for values.
 ghost use Rattle.std.specs.Prelude.{◌≡◌, ◌↔◌, ℕ, Bool, ◌^◌, ◌<◌, Ok, Err, IfOk, IsErrOf, string_bytes};
 ghost use Rattle.flow_prefix.specs.Family.{width};
-ghost use Rattle.flow_prefix.specs.Reading.{prefix_of, judged};
+ghost use Rattle.flow_prefix.specs.Reading.{prefix_of, checked_prefix};
 
 use crate::address::read_address;
 use crate::bits::first_bits;
@@ -102,10 +102,10 @@ fn read_prefix(text: &[u8]) -> Result<Prefix, PrefixFault>
 }
 
 /// The prefix of an address and a length, or the fault of the two.
-#[tactic(auto, unfolding(crate::specs::Reading::judged))]
+#[tactic(auto, unfolding(crate::specs::Reading::checked_prefix))]
 fn judge(family: Family, address: u128, bits: u32) -> Result<Prefix, PrefixFault>
     requires { address < 2 ^ width family }
-    ensures { result ≡ judged family address bits }
+    ensures { result ≡ checked_prefix family address bits }
 {
     if bits > family.width() {
         return Err(PrefixFault::BadLength);

@@ -20,7 +20,7 @@ use Rattle.history_verify.specs.declared.fault.VerifyFault.{VerifyFault}
 use Rattle.history_verify.specs.declared.fault.VerifyFault.TheVariants.{BadHistory, OutOfMemory}
 use Rattle.history_verify.specs.Legal.{IsAccepted, IsLegalCut, AreLegal, IsFirstBad, is_cut}
 use Rattle.history_verify.specs.Answers.{NamesFirst, NamesFirstOfAny}
-use Rattle.history_verify.specs.Standing.{MayCut, MayCutAll, IsFirstEmpty, IsFirstOr, IsSettled, StandsOver, Stands, StandsShort, IsTaken, TakesNext, RefusesNext, IsSpoilt, IsFed, IsFedShort, NamesWaiting, NamesUnborne}
+use Rattle.history_verify.specs.Standing.{MayCut, MayCutAll, IsFirstEmpty, IsFirstOr, IsSettled, StandsOver, Repeats, StandsShort, HasTaken, TakesNext, RefusesNext, IsSpoilt, IsFed, IsFedShort, NamesWaiting, NamesUnborne}
 use Rattle.history_verify.proofs.LegalLaws.{cuts_legal, unborne, unborne_at_end, may_not, first_bad, first_refused}
 use Rattle.history_verify.proofs.CutsPast.{accepted_before, accepted_behind}
 
@@ -108,7 +108,7 @@ one_more h n x is = take_more h n x (within h n x is) ∙ ap (λ (y : Entry). ta
 pub record IsLaid (v : Verifier) (g : List Entry) (ws cs : List ℕ) (h : List Entry) : Type 0 where
   pub settled : IsSettled g
   pub front : List Entry
-  pub stands : Stands v.replay front
+  pub stands : Repeats v.replay front
   pub front_is : front ≡ after_cuts g ws
   pub waiting : v.replay.waiting.items ≡ ws
   pub may : MayCutAll g ws
@@ -254,14 +254,14 @@ no_more (x ∷ xs) is = absurd (omega (arith, is))
 pub none_behind : (v : Verifier) (h : List Entry) → (fed : IsFed v h) → v.behind ≡ 0 → h ≡ fed.front
 none_behind v h fed none = fed.over.history_is ∙ ap (after_cuts fed.front) (no_more fed.cuts (sym fed.over.count ∙ none)) ∙ append-nil fed.front
 
-pub fed_front : (v : Verifier) (h : List Entry) → Stands v.replay h → v.behind ≡ 0 → IsFed v h
+pub fed_front : (v : Verifier) (h : List Entry) → Repeats v.replay h → v.behind ≡ 0 → IsFed v h
 fed_front v h so none = record { front = h; cuts = []; over = record { stands = so; count = none; history_is = sym (append-nil h); spoilt = tt } }
 
-pub fed_more : (v w : Verifier) (h : List Entry) (x : Entry) (fed : IsFed v h) → v.behind ≡ 0 → w.behind ≡ v.behind → IsTaken w.replay fed.front x → IsFed w (h ++ x ∷ [])
+pub fed_more : (v w : Verifier) (h : List Entry) (x : Entry) (fed : IsFed v h) → v.behind ≡ 0 → w.behind ≡ v.behind → HasTaken w.replay fed.front x → IsFed w (h ++ x ∷ [])
 fed_more v w h x fed none same taken =
-    fed_front w (h ++ x ∷ []) (subst (λ (t : List Entry). Stands w.replay (t ++ x ∷ [])) (sym (none_behind v h fed none)) taken.stands) (same ∙ none)
+    fed_front w (h ++ x ∷ []) (subst (λ (t : List Entry). Repeats w.replay (t ++ x ∷ [])) (sym (none_behind v h fed none)) taken.stands) (same ∙ none)
 
-pub fed_same : (v w : Verifier) (h : List Entry) → w.behind ≡ v.behind → ((g : List Entry) → Stands v.replay g → Stands w.replay g) → IsFed v h → IsFed w h
+pub fed_same : (v w : Verifier) (h : List Entry) → w.behind ≡ v.behind → ((g : List Entry) → Repeats v.replay g → Repeats w.replay g) → IsFed v h → IsFed w h
 fed_same v w h same stands fed = record { front = fed.front; cuts = fed.cuts; over = record { stands = stands fed.front fed.over.stands; count = same ∙ fed.over.count; history_is = fed.over.history_is; spoilt = fed.over.spoilt } }
 
 -- a cut that may not stand there, or stands behind such a one
@@ -269,21 +269,21 @@ spoilt_more : (front : List Entry) (cs : List ℕ) (c : ℕ) → IsSpoilt front 
 spoilt_more front [] c so bad = bad refl
 spoilt_more front (d ∷ cs) c so bad = so
 
-pub fed_spoilt : (v w : Verifier) (h : List Entry) (c : ℕ) → IsFed v h → w.replay ≡ v.replay → w.behind ≡ v.behind + 1 → (v.behind ≡ 0 → (g : List Entry) → Stands v.replay g → MayCut g c → ⊥) → IsFed w (h ++ Cut c ∷ [])
+pub fed_spoilt : (v w : Verifier) (h : List Entry) (c : ℕ) → IsFed v h → w.replay ≡ v.replay → w.behind ≡ v.behind + 1 → (v.behind ≡ 0 → (g : List Entry) → Repeats v.replay g → MayCut g c → ⊥) → IsFed w (h ++ Cut c ∷ [])
 fed_spoilt v w h c fed replay behind bad = record {
   front = fed.front;
   cuts = fed.cuts ++ c ∷ [];
   over = record {
-    stands = subst (λ (r : Replay). Stands r fed.front) (sym replay) fed.over.stands;
+    stands = subst (λ (r : Replay). Repeats r fed.front) (sym replay) fed.over.stands;
     count = omega (arith, behind, fed.over.count, length-append fed.cuts (c ∷ []));
     history_is = ap (λ (t : List Entry). t ++ Cut c ∷ []) fed.over.history_is ∙ sym (after_cuts-push fed.front fed.cuts c);
     spoilt = spoilt_more fed.front fed.cuts c fed.over.spoilt (λ none. bad (fed.over.count ∙ none) fed.front fed.over.stands);
   };
 }
 
-pub fed_cut : (v w : Verifier) (h : List Entry) (c : ℕ) (fed : IsFed v h) → v.behind ≡ 0 → w.behind ≡ v.behind → Stands w.replay (fed.front ++ Cut c ∷ []) → IsFed w (h ++ Cut c ∷ [])
+pub fed_cut : (v w : Verifier) (h : List Entry) (c : ℕ) (fed : IsFed v h) → v.behind ≡ 0 → w.behind ≡ v.behind → Repeats w.replay (fed.front ++ Cut c ∷ []) → IsFed w (h ++ Cut c ∷ [])
 fed_cut v w h c fed none same stands =
-    fed_front w (h ++ Cut c ∷ []) (subst (λ (t : List Entry). Stands w.replay (t ++ Cut c ∷ [])) (sym (none_behind v h fed none)) stands) (same ∙ none)
+    fed_front w (h ++ Cut c ∷ []) (subst (λ (t : List Entry). Repeats w.replay (t ++ Cut c ∷ [])) (sym (none_behind v h fed none)) stands) (same ∙ none)
 
 -- what its replay stands for is no longer
 pub short_front : (v : Verifier) → IsFedShort v → StandsShort v.replay

@@ -53,7 +53,7 @@ pub record IsSettled (h : List Entry) : Type 0 where
   pub closed : last_cut h ≡ 0
 
 -- no count comes near its end: no message brings more than 2^32 records, and no group closes but for a record that counted
-pub record IsSmall (h : List Entry) : Type 0 where
+pub record IsCountable (h : List Entry) : Type 0 where
   pub listed : (sub : ℕ) → length (disclosed sub h) + length (running sub h) ≤ 2 ^ 32 * length h
 
 -- the replay stands for this history and, behind it, the cuts that wait
@@ -68,17 +68,17 @@ pub record StandsOver (r : Replay) (settled h : List Entry) : Type 0 where
   pub subscribers : AreSubscribers r.subscribers h
   pub sums : AreSums r.sums settled
   pub audit : AreNoted r.audit (audit_list h)
-  pub small : IsSmall h
+  pub small : IsCountable h
 
 -- the replay stands for the history, whose last cuts wait
-pub record Stands (r : Replay) (h : List Entry) : Type 0 where
+pub record Repeats (r : Replay) (h : List Entry) : Type 0 where
   pub settled : List Entry
   pub over : StandsOver r settled h
 
 -- so it does for some history, which is no longer than a journal may be
 pub record StandsShort (r : Replay) : Type 0 where
   pub history : List Entry
-  pub stands : Stands r history
+  pub stands : Repeats r history
   pub short : length history ≤ MOST_ENTRIES
 
 -- ---- what the steps of a replay answer
@@ -86,16 +86,16 @@ pub record StandsShort (r : Replay) : Type 0 where
 -- it stands for the same histories, and the same cuts wait
 pub record IsSameReplay (old new : Replay) : Type 0 where
   pub waiting : new.waiting.items ≡ old.waiting.items
-  pub stands : (h : List Entry) → Stands old h → Stands new h
+  pub stands : (h : List Entry) → Repeats old h → Repeats new h
 
 -- it stands for the history with the entry behind it, and no cut waits
-pub record IsTaken (new : Replay) (h : List Entry) (entry : Entry) : Type 0 where
+pub record HasTaken (new : Replay) (h : List Entry) (entry : Entry) : Type 0 where
   pub none_wait : new.waiting.items ≡ []
-  pub stands : Stands new (h ++ entry ∷ [])
+  pub stands : Repeats new (h ++ entry ∷ [])
 
 -- so it is behind each history for which it stands, where no cut waits
 abbrev pub TakesNext : Replay → Entry → Replay → Type 0
-TakesNext old entry new = (h : List Entry) → Stands old h → old.waiting.items ≡ [] → IsTaken new h entry
+TakesNext old entry new = (h : List Entry) → Repeats old h → old.waiting.items ≡ [] → HasTaken new h entry
 
 -- the first entry behind those that are settled is named, and this one, which is no cut, is not accepted; or memory ran out
 abbrev pub RefusesEntry : VerifyFault → Replay → List Entry → Entry → Type 0
@@ -103,7 +103,7 @@ RefusesEntry (BadHistory position) r h entry = (position + length r.waiting.item
 RefusesEntry OutOfMemory r h entry = Unit {0}
 
 abbrev pub RefusesNext : VerifyFault → Replay → Entry → Type 0
-RefusesNext e r entry = (h : List Entry) → Stands r h → RefusesEntry e r h entry
+RefusesNext e r entry = (h : List Entry) → Repeats r h → RefusesEntry e r h entry
 
 -- ---- messages
 
@@ -125,7 +125,7 @@ IsSpoilt h (sub ∷ subs) = MayCut h sub → ⊥
 
 -- the verifier was fed what its replay stands for, and behind it these cuts
 pub record IsFedOver (v : Verifier) (front : List Entry) (cuts : List ℕ) (h : List Entry) : Type 0 where
-  pub stands : Stands v.replay front
+  pub stands : Repeats v.replay front
   pub count : v.behind ≡ length cuts
   pub history_is : h ≡ after_cuts front cuts
   pub spoilt : IsSpoilt front cuts

@@ -18,7 +18,7 @@ pub struct Exporters {
 }
 
 impl Exporters {
-    ghost use Rattle.history_verify.specs.Parts.{AreExporters, SameExporters, IsTurn, IsInTurn, HasRoomToKeep};
+    ghost use Rattle.history_verify.specs.Parts.{AreExporters, SameExporters, IsTurn, IsTurnIn, HasRoomToKeep};
 
     /// The sessions of a history without an entry. What comes to be kept is in memory from `alloc`.
     pub fn new(alloc: Global) -> Exporters
@@ -69,7 +69,7 @@ impl Exporters {
 
     /// The session with the number `session`, where it is open and had `number` messages; else `None`.
     pub fn in_turn(&self, session: u64, number: u64) -> Option<&OpenSession>
-        ensures found { IfSome result (λ o. IsInTurn self.now session number o.now) }
+        ensures found { IfSome result (λ o. IsTurnIn self.now session number o.now) }
         ensures none { IfNone result ((h : List Entry) → AreExporters self.now h
             → IsTurn h session number → ⊥) }
     {

@@ -1,11 +1,11 @@
 //! What counts in the aggregates of a history.
 ghost use Rattle.std.specs.Prelude.{◌≡◌, ◌≢◌, ◌∷◌, ◌++◌, [], ℕ, List, true, map, IfOk};
-ghost use Rattle.flow_aggregate.specs.Groups.{Counted};
+ghost use Rattle.flow_aggregate.specs.Groups.{Sample};
 ghost use Rattle.flow_aggregate.specs.declared.addition.Addition.{Addition};
 ghost use Rattle.flow_aggregate.specs.Counts.{Count, count_of};
 ghost use Rattle.flow_aggregate.specs.Closing.{closed_by};
 ghost use Rattle.flow_aggregate.specs.Running.{staying};
-ghost use Rattle.mediator_tables.specs.Adding.{tallied, reserved_for, AllReady, AreApart, AreCountable, added_to};
+ghost use Rattle.mediator_tables.specs.Adding.{tallied, reserved_for, AllReady, NoneTwice, AreCountable, added_to};
 ghost use Rattle.event_journal.specs.declared.entry.Entry.{Entry};
 ghost use Rattle.mediator_history.specs.Counting.{running};
 ghost use Rattle.mediator_history.specs.Numbers.{is_in};
@@ -41,7 +41,7 @@ impl Sums {
     /// Want of memory. Whatever the answer, only what is made ready has changed.
     pub(crate) fn reserve(&mut self, tallies: &[Tally]) -> Result<Vec<Reserved>, AllocError>
         ensures unchanged { SameSums self.old self.new }
-        ensures ready { IfOk result (λ reserved. AreApart (map tallied tallies.now)
+        ensures ready { IfOk result (λ reserved. NoneTwice (map tallied tallies.now)
             → AllReady self.new.groups (map reserved_for reserved.items)
             (map tallied tallies.now)) }
     {
@@ -51,8 +51,8 @@ impl Sums {
     /// Adds `reserved`, which was made ready. It takes no memory and can't fail.
     pub(crate) fn add(&mut self, reserved: Vec<Reserved>)
         requires { AreCountable self.old.groups (map reserved_for reserved.items) }
-        ensures { (tallies : List (ℕ × List Count)) (more : ℕ → List Counted) (h g : List Entry)
-            → AllReady self.old.groups (map reserved_for reserved.items) tallies → AreApart tallies
+        ensures { (tallies : List (ℕ × List Count)) (more : ℕ → List Sample) (h g : List Entry)
+            → AllReady self.old.groups (map reserved_for reserved.items) tallies → NoneTwice tallies
             → ((q : ℕ) → added_to q tallies ≡ map count_of (more q)) → AreSums self.old h
             → ((q : ℕ) → running q g ≡ running q h ++ more q) → AreSums self.new g }
     {

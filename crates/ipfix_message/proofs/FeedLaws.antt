@@ -6,7 +6,7 @@ use Rattle.ipfix_message.specs.declared.fault.Fault.{Fault}
 use Rattle.ipfix_message.specs.declared.fault.Fault.TheVariants.{ShortHeader, BadVersion, BadLength, BadSetLength, TemplateOverrun, OutOfMemory}
 use Rattle.ipfix_message.specs.Framing.{IsWhole, IsFaulty, IsFramed}
 use Rattle.ipfix_message.specs.FramerState.{FramerState, nothing_fed, HasFault}
-use Rattle.ipfix_message.specs.Feeds.{Feed, IsFed, AreFed, octets_taken, stream_of, messages_in, messages_of, IsFramedByPieces, IsSameInAnyPieces}
+use Rattle.ipfix_message.specs.Feeds.{Feed, Feeds, AreFed, octets_taken, stream_of, messages_in, messages_of, IsFramedByPieces, IsSameInAnyPieces}
 use Rattle.ipfix_message.proofs.FramingLaws.{number_at-append, framed_once}
 use Rattle.ipfix_message.proofs.FramerLaws.{all_framed}
 
@@ -49,7 +49,7 @@ has_fault fault fed piece messages old new framed h = elim h [
 ]
 
 -- one call, after whatever came before
-fed_framed : (fed piece : List ℕ) (messages : List (List ℕ)) (answer : Result (List (List ℕ)) Fault) (old new : FramerState) → IsFramed fed messages old.fault old.pending → IsFed old (record { piece = piece; answer = answer }) new → IsFramed (fed ++ octets_taken answer piece) (messages ++ messages_in answer) new.fault new.pending
+fed_framed : (fed piece : List ℕ) (messages : List (List ℕ)) (answer : Result (List (List ℕ)) Fault) (old new : FramerState) → IsFramed fed messages old.fault old.pending → Feeds old (record { piece = piece; answer = answer }) new → IsFramed (fed ++ octets_taken answer piece) (messages ++ messages_in answer) new.fault new.pending
 fed_framed fed piece messages (Ok out) old new framed h = h.ok.1.after fed messages framed
 fed_framed fed piece messages (Err BadVersion) old new framed h = has_fault BadVersion fed piece messages old new framed h.err
 fed_framed fed piece messages (Err BadLength) old new framed h = has_fault BadLength fed piece messages old new framed h.err

@@ -16,7 +16,7 @@ use Rattle.ipfix_message.specs.declared.fault.Fault.{Fault}
 use Rattle.ipfix_message.specs.declared.item.Item.{Item}
 use Rattle.ipfix_message.specs.declared.item.Item.TheVariants as items
 use Rattle.ipfix_message.specs.Records.{bare_item, template_item}
-use Rattle.ipfix_message.specs.Grammar.{IsSpecifierOf, IsSpecifier, AreSpecifiers, IsBody, IsTemplateRecord, AreTemplateRecords, IsContent, IsSet, AreSets, IsHeader, IsMessage}
+use Rattle.ipfix_message.specs.Grammar.{IsSpecifierOf, SpellsSpecifier, AreSpecifiers, IsBody, IsTemplateRecord, AreTemplateRecords, IsContent, IsSet, AreSets, IsHeader, IsMessage}
 use Rattle.ipfix_message.specs.Reading.{read_header, field_at, fields_at, scoped_at, template_at, found_template, template_front, set_items, set_front, items_of}
 use Rattle.ipfix_message.proofs.Shrinks.{template_takes, set_takes}
 
@@ -71,7 +71,7 @@ field_by : (pen : Option ℕ) (octets rest : List ℕ) (number len : ℕ) → Is
 field_by None octets rest number len is = plain_only octets rest number len is
 field_by (Some pen) octets rest number len is = enterprise_only octets rest pen number len is
 
-field_only : (f : FieldSpec) (octets rest : List ℕ) → IsSpecifier octets f → field_at (octets ++ rest) ≡ found_field f rest
+field_only : (f : FieldSpec) (octets rest : List ℕ) → SpellsSpecifier octets f → field_at (octets ++ rest) ≡ found_field f rest
 field_only f octets rest is = field_by f.element.pen octets rest f.element.number f.length is
 
 fields_only : (fs : List FieldSpec) (octets rest : List ℕ) → AreSpecifiers octets fs → fields_at (length fs) (octets ++ rest) ≡ found_fields fs rest

@@ -3,7 +3,7 @@ use Rattle.std.specs.Prelude.{◌≡◌, ℕ, List, [], ◌∷◌, ◌++◌, Res
 use Rattle.ipfix_message.specs.declared.fault.Fault.{Fault}
 use Rattle.ipfix_message.specs.declared.fault.Fault.TheVariants.{ShortHeader, BadVersion, BadLength, BadSetLength, TemplateOverrun, OutOfMemory}
 use Rattle.ipfix_message.specs.Framing.{IsFramed}
-use Rattle.ipfix_message.specs.FramerState.{FramerState, nothing_fed, GoesOn, FailsBy}
+use Rattle.ipfix_message.specs.FramerState.{FramerState, nothing_fed, FeedGoesOn, FailsBy}
 
 -- a call of feed: its piece, and what it answered
 pub record Feed : Type 0 where
@@ -11,14 +11,14 @@ pub record Feed : Type 0 where
   pub answer : Result (List (List ℕ)) Fault
 
 -- what a call does: what the contract of feed says in `ok` and `err`
-pub record IsFed (old : FramerState) (f : Feed) (new : FramerState) : Type 0 where
-  pub ok : IfOk f.answer (λ out. GoesOn old f.piece out new)
+pub record Feeds (old : FramerState) (f : Feed) (new : FramerState) : Type 0 where
+  pub ok : IfOk f.answer (λ out. FeedGoesOn old f.piece out new)
   pub err : IfErr f.answer (λ e. FailsBy e old f.piece new)
 
 -- calls, one after another
 abbrev pub AreFed : FramerState → List Feed → FramerState → Type 0
 AreFed old [] new = new ≡ old
-AreFed old (f ∷ feeds) new = (between : FramerState) × IsFed old f between × AreFed between feeds new
+AreFed old (f ∷ feeds) new = (between : FramerState) × Feeds old f between × AreFed between feeds new
 
 -- a piece that is refused for memory is no part of the stream
 abbrev pub octets_taken : Result (List (List ℕ)) Fault → List ℕ → List ℕ

@@ -23,8 +23,8 @@ pub record Continues (old : FramerState) (piece : List ℕ) (out : List (List �
   pub after : (fed : List ℕ) (messages : List (List ℕ)) → IsFramed fed messages old.fault old.pending → IsFramed (fed ++ piece) (messages ++ out) new.fault new.pending
 
 -- what feed says where it answers messages: no fault was there, and with the piece the stream goes on by them
-abbrev pub GoesOn : FramerState → List ℕ → List (List ℕ) → FramerState → Type 0
-GoesOn old piece out new = (old.fault ≡ None) × Continues old piece out new
+abbrev pub FeedGoesOn : FramerState → List ℕ → List (List ℕ) → FramerState → Type 0
+FeedGoesOn old piece out new = (old.fault ≡ None) × Continues old piece out new
 
 -- a fault that was there, and stays; or one that this piece brings before any message is whole
 abbrev pub HasFault : Fault → FramerState → List ℕ → FramerState → Type 0

@@ -1,7 +1,7 @@
 //! A stream of octets, cut into IPFIX messages as its octets come (RFC 7011, sections 3.1 and 10.4).
 ghost use Rattle.std.specs.Prelude.{◌≡◌, ◌≤◌, [], length, drop, None, IsSome, IfSome, IfOk, IfErr};
 ghost use Rattle.ipfix_message.specs.Framing.{EndsStream};
-ghost use Rattle.ipfix_message.specs.FramerState.{nothing_fed, GoesOn, FailsBy};
+ghost use Rattle.ipfix_message.specs.FramerState.{nothing_fed, FeedGoesOn, FailsBy};
 
 use crate::fault::Fault;
 use bytes::Bytes;
@@ -82,7 +82,7 @@ impl Framer {
     /// }
     /// ```
     pub fn feed(&mut self, piece: &[u8]) -> Result<Vec<Bytes>, Fault>
-        ensures ok { IfOk result (λ out. GoesOn self.old piece.now out.items self.new) }
+        ensures ok { IfOk result (λ out. FeedGoesOn self.old piece.now out.items self.new) }
         // No answer without messages hides a fault.
         ensures clear { IfOk result (λ out. out.items ≡ [] → self.new.fault ≡ None) }
         ensures err { IfErr result (λ e. FailsBy e self.old piece.now self.new) }

@@ -30,7 +30,7 @@ abbrev pub UsesTurn : IntakeState → IntakeState → Type 0
 UsesTurn old new = new.turns + 1 ≡ old.turns
 
 -- a piece was read, and with it the stream goes on by these messages
-pub record Takes (old : IntakeState) (given left : Option (List ℕ)) (out : List (List ℕ)) (new : IntakeState) : Type 0 where
+pub record Yields (old : IntakeState) (given left : Option (List ℕ)) (out : List (List ℕ)) (new : IntakeState) : Type 0 where
   pub piece : List ℕ
   pub is_piece : IsPiece given left piece
   pub sound : old.framing.fault ≡ None
@@ -60,8 +60,8 @@ pub record Faults (fault : DecodeError) (old : IntakeState) (given left : Option
   pub turn : UsesTurn old new
 
 -- the stream has this fault: it showed behind the messages of an earlier piece, or it shows in the one that is read now
-abbrev pub HasFault : DecodeError → IntakeState → Option (List ℕ) → Option (List ℕ) → IntakeState → Type 0
-HasFault fault old given left new = ((old.framing.fault ≡ Some fault) × IsIdle old given left new) ⊎ Faults fault old given left new
+abbrev pub StreamHasFault : DecodeError → IntakeState → Option (List ℕ) → Option (List ℕ) → IntakeState → Type 0
+StreamHasFault fault old given left new = ((old.framing.fault ≡ Some fault) × IsIdle old given left new) ⊎ Faults fault old given left new
 
 -- the stream ended inside a message
 pub record EndsInside (old : IntakeState) (given left : Option (List ℕ)) (new : IntakeState) : Type 0 where
@@ -88,13 +88,13 @@ pub record LosesPiece (old : IntakeState) (given left : Option (List ℕ)) (new 
   pub turn : UsesTurn old new
 
 -- why nothing more is handed out, by its cause
-abbrev pub Stops : IntakeFault → IntakeState → Option (List ℕ) → Option (List ℕ) → IntakeState → Type 0
-Stops Read old given left new = FailsToRead old given left new
-Stops (Framing BadVersion) old given left new = HasFault frame.BadVersion old given left new
-Stops (Framing BadLength) old given left new = HasFault frame.BadLength old given left new
-Stops (Framing CutOff) old given left new = EndsInside old given left new
-Stops Turns old given left new = (old.framing.fault ≡ None) × (old.turns ≡ 0) × IsIdle old given left new
-Stops OutOfMemory old given left new = LosesPiece old given left new
+abbrev pub StopsIntake : IntakeFault → IntakeState → Option (List ℕ) → Option (List ℕ) → IntakeState → Type 0
+StopsIntake Read old given left new = FailsToRead old given left new
+StopsIntake (Framing BadVersion) old given left new = StreamHasFault frame.BadVersion old given left new
+StopsIntake (Framing BadLength) old given left new = StreamHasFault frame.BadLength old given left new
+StopsIntake (Framing CutOff) old given left new = EndsInside old given left new
+StopsIntake Turns old given left new = (old.framing.fault ≡ None) × (old.turns ≡ 0) × IsIdle old given left new
+StopsIntake OutOfMemory old given left new = LosesPiece old given left new
 
 -- whether the reader has failed after a fault: where its failure is the fault, and else as before
 abbrev pub reader_after : IntakeFault → Bool → Bool
@@ -105,10 +105,10 @@ reader_after OutOfMemory was = was
 
 -- what a framer's refusal is called here; a framer refuses by BadVersion, BadLength and want of memory alone, and in the others a length is
 -- wrong too
-abbrev pub named : DecodeError → IntakeFault
-named frame.BadVersion = Framing BadVersion
-named frame.BadLength = Framing BadLength
-named frame.ShortHeader = Framing BadLength
-named frame.BadSetLength = Framing BadLength
-named frame.TemplateOverrun = Framing BadLength
-named frame.OutOfMemory = OutOfMemory
+abbrev pub intake_fault : DecodeError → IntakeFault
+intake_fault frame.BadVersion = Framing BadVersion
+intake_fault frame.BadLength = Framing BadLength
+intake_fault frame.ShortHeader = Framing BadLength
+intake_fault frame.BadSetLength = Framing BadLength
+intake_fault frame.TemplateOverrun = Framing BadLength
+intake_fault frame.OutOfMemory = OutOfMemory

@@ -1,7 +1,7 @@
 //! The intake: the messages of a source, in their order.
 ghost use Rattle.std.specs.Prelude.{◌≡◌, ◌≤◌, ◌<◌, [], length, take, IfOk, IfErr, OnOk, MatchOption};
 ghost use Rattle.std.specs.Io.KnownBytes.{Consumes, IsAtEnd};
-ghost use Rattle.ipfix_reader.specs.Intake.{nothing_read, Takes, Ends, Stops, reader_after};
+ghost use Rattle.ipfix_reader.specs.Intake.{nothing_read, Yields, Ends, StopsIntake, reader_after};
 
 use crate::fault::{FramingFault, IntakeFault};
 use bytes::Bytes;
@@ -66,12 +66,12 @@ impl Intake {
     pub fn next<R: Source>(&mut self, reader: &mut R) -> Result<Option<Vec<Bytes>>, IntakeFault>
         ensures ok { IfOk result (λ found. MatchOption found
             (Ends self.old (R.remaining reader.old) (R.remaining reader.new) self.new) (λ out.
-            Takes self.old (R.remaining reader.old) (R.remaining reader.new) out.items self.new)) }
+            Yields self.old (R.remaining reader.old) (R.remaining reader.new) out.items self.new)) }
         ensures sound { OnOk result (R.has_failed reader.new ≡ R.has_failed reader.old) }
         ensures fails { IfErr result (λ e.
             R.has_failed reader.new ≡ reader_after e (R.has_failed reader.old)) }
         ensures err { IfErr result (λ e.
-            Stops e self.old (R.remaining reader.old) (R.remaining reader.new) self.new) }
+            StopsIntake e self.old (R.remaining reader.old) (R.remaining reader.new) self.new) }
     {
         if let Some(fault) = self.framer.fault() {
             return Err(stream_fault(fault));
@@ -112,7 +112,7 @@ ghost use Rattle.std.specs.Prelude.{true, is_none};
 ghost use Rattle.std.specs.Io.KnownBytes.{Keeps};
 ghost use Rattle.ipfix_reader.specs.declared.fault.IntakeFault.TheVariants.{Read, Framing};
 ghost use Rattle.ipfix_reader.specs.declared.fault.FramingFault.TheVariants.{CutOff};
-ghost use Rattle.ipfix_reader.specs.Intake.{named};
+ghost use Rattle.ipfix_reader.specs.Intake.{intake_fault};
 
 /// Reads octets from `reader` into the front of `buffer`, which has some, and answers how many: none only at the end.
 ///
@@ -140,7 +140,7 @@ fn read_piece<R: Source>(reader: &mut R, buffer: &mut Vec<u8>) -> Result<usize, 
 /// The fault of an intake for `fault`, the refusal of its framer. That refuses by `BadVersion`, `BadLength` and
 /// `OutOfMemory` alone; in the others a length is wrong too.
 fn stream_fault(fault: DecodeError) -> IntakeFault
-    ensures { result ≡ named fault }
+    ensures { result ≡ intake_fault fault }
 {
     match fault {
         DecodeError::BadVersion => IntakeFault::Framing(FramingFault::BadVersion),

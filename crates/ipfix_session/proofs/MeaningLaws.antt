@@ -6,7 +6,7 @@ use Rattle.ipfix_message.specs.Reading.{header_of}
 use Rattle.sequences.specs.Results.{◌>>=◌}
 use Rattle.ipfix_session.specs.declared.read_error.ReadError.{ReadError}
 use Rattle.ipfix_session.specs.Contents.{Contents}
-use Rattle.ipfix_session.specs.Meaning.{domain_of, contents_of, gap_of, meaning_of, with_domain, records_after, joined, records_meant}
+use Rattle.ipfix_session.specs.Meaning.{domain_of, contents_of, gap_of, meaning_of, with_domain, records_after, both_records, records_meant}
 
 abbrev Records : Type 0
 Records = Result (List (ℕ × DataRecord)) ReadError
@@ -18,22 +18,22 @@ read_records records = Ok records
 abbrev with_others : ℕ → Result Contents ReadError → Records → Records
 with_others domain contents others = contents >>= λ c. others >>= λ o. Ok (map (with_domain domain) c.records ++ o)
 
-joined-nil : (r : Records) → r ≡ joined (Ok []) r
+joined-nil : (r : Records) → r ≡ both_records (Ok []) r
 joined-nil (Ok records) = refl
 joined-nil (Err e) = refl
 
-with_joined : (domain : ℕ) (contents : Result Contents ReadError) (a b : Records) → with_others domain contents (joined a b) ≡ joined (with_others domain contents a) b
+with_joined : (domain : ℕ) (contents : Result Contents ReadError) (a b : Records) → with_others domain contents (both_records a b) ≡ both_records (with_others domain contents a) b
 with_joined domain (Err e) a b = refl
 with_joined domain (Ok c) (Err e) b = refl
 with_joined domain (Ok c) (Ok records) (Err e) = refl
 with_joined domain (Ok c) (Ok records) (Ok others) = ap read_records (sym (append_assoc (map (with_domain domain) c.records) records others))
 
-pub records_after-append : (older first others : List (List ℕ)) → records_after older (first ++ others) ≡ joined (records_after older first) (records_after (reverse first ++ older) others)
+pub records_after-append : (older first others : List (List ℕ)) → records_after older (first ++ others) ≡ both_records (records_after older first) (records_after (reverse first ++ older) others)
 unfolding records_after
 records_after-append older [] others = joined-nil (records_after older others)
 records_after-append older (message ∷ first) others =
     let back : reverse first ++ (message ∷ older) ≡ reverse (message ∷ first) ++ older = sym (append_assoc (reverse first) (message ∷ []) older) ∙ ap (λ (ms : List (List ℕ)). ms ++ older) (sym (reverse-append (message ∷ []) first)) in
-    ap (with_others (domain_of message) (contents_of older message)) (records_after-append (message ∷ older) first others ∙ ap (λ (ms : List (List ℕ)). joined (records_after (message ∷ older) first) (records_after ms others)) back)
+    ap (with_others (domain_of message) (contents_of older message)) (records_after-append (message ∷ older) first others ∙ ap (λ (ms : List (List ℕ)). both_records (records_after (message ∷ older) first) (records_after ms others)) back)
     ∙ with_joined (domain_of message) (contents_of older message) (records_after (message ∷ older) first) (records_after (reverse (message ∷ first) ++ older) others)
 
 pub records_after-one : (older : List (List ℕ)) (message : List ℕ) → records_after older (message ∷ []) ≡ records_meant (domain_of message) (meaning_of older message)

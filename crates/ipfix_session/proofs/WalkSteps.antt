@@ -20,7 +20,7 @@ use Rattle.ipfix_session.specs.Keeping.{AreInForce}
 use Rattle.ipfix_session.specs.declared.changes.Changes.{Changes}
 use Rattle.ipfix_session.specs.Changing.{after}
 use Rattle.ipfix_session.specs.Answers.{is_memory, Fails}
-use Rattle.ipfix_session.specs.Walking.{Adds, IsCounted}
+use Rattle.ipfix_session.specs.Walking.{AddsContents, SkipsAtMost}
 use Rattle.ipfix_session.specs.DataSets.{AddsRecords}
 
 -- ---- the contents so far, and those of the items that are left
@@ -109,7 +109,7 @@ added_nothing done message item so_far is = (nothing, is, sym (both-nothing so_f
 rows_read : (t : Template) (content : List ℕ) (found : Option Template) → Some t ≡ found → set_contents found content ≡ rows_of t (records_in t content)
 rows_read t content found is = ap (λ (o : Option Template). set_contents o content) (sym is)
 
-pub added_records : (t : Template) (found : Option Template) (content expected : List ℕ) (old new : List DataRecord) (s : Skips) (r : Result (Unit {0}) ReadError) → Some t ≡ found → content ≡ expected → AddsRecords t content old new r → Adds (contents old s) (contents new s) (set_contents found expected) r
+pub added_records : (t : Template) (found : Option Template) (content expected : List ℕ) (old new : List DataRecord) (s : Skips) (r : Result (Unit {0}) ReadError) → Some t ≡ found → content ≡ expected → AddsRecords t content old new r → AddsContents (contents old s) (contents new s) (set_contents found expected) r
 added_records t found content expected old new s (Ok u) is same adds =
     let first = only_records (map (record_of t) adds.0) in (
       first,
@@ -121,10 +121,10 @@ added_records t found content expected old new s (Err RecordOverrun) is same add
 added_records t found content expected old new s (Err (Malformed why)) is same adds = absurd adds
 
 -- a Data Set is read by the template in force
-pub in_force : (done : List Item) (message : List ℕ) (item : Item) (id start len : ℕ) (found : ℕ → Option Template) (old new : Contents) (r : Result (Unit {0}) ReadError) → item ≡ DataSet id start len → AreInForce found done → Adds old new (set_contents (found id) (take len (drop start message))) r → Adds old new (item_contents done message item) r
+pub in_force : (done : List Item) (message : List ℕ) (item : Item) (id start len : ℕ) (found : ℕ → Option Template) (old new : Contents) (r : Result (Unit {0}) ReadError) → item ≡ DataSet id start len → AreInForce found done → AddsContents old new (set_contents (found id) (take len (drop start message))) r → AddsContents old new (item_contents done message item) r
 in_force done message item id start len found old new r is keeps adds =
     let same : set_contents (found id) (take len (drop start message)) ≡ item_contents done message item = ap (λ (o : Option Template). set_contents o (take len (drop start message))) (keeps id) ∙ ap (item_contents done message) (sym is) in
-    subst (λ (read : Result Contents ReadError). Adds old new read r) same adds
+    subst (λ (read : Result Contents ReadError). AddsContents old new read r) same adds
 
 -- what a look-up found
 pub none_there : {X : Type 0} (f : X → Template) (r : Option X) (o : Option Template) → ((x : X) → r ≡ Some x → ⊥) → option_map f r ≡ o → o ≡ None
@@ -188,6 +188,6 @@ walks_keeps message found so_far older said walks = subst (λ (items : List Item
 -- the counts stay below the number of items, which fits
 pub record HasRoom (s : Skips) (left total : ℕ) : Type 0 where
   pub done : ℕ
-  pub counted : IsCounted s done
+  pub counted : SkipsAtMost s done
   pub all : done + left ≡ total
   pub fits : total < 2 ^ 64

@@ -20,12 +20,12 @@ read_fault decode.BadSetLength = Malformed decode.BadSetLength
 read_fault decode.TemplateOverrun = Malformed decode.TemplateOverrun
 
 -- the answer, with its records as a list
-abbrev pub shown : Read → Meaning
-shown r = record { header = r.header; records = r.records; skips = r.skips; gap = r.gap }
+abbrev pub as_meaning : Read → Meaning
+as_meaning r = record { header = r.header; records = r.records; skips = r.skips; gap = r.gap }
 
 -- what was read elsewhere, with its records as a list
-abbrev pub held : DataContents → Contents
-held c = record { records = c.records; skips = c.skips }
+abbrev pub as_contents : DataContents → Contents
+as_contents c = record { records = c.records; skips = c.skips }
 
 -- only want of memory says nothing of the octets
 abbrev pub is_memory : ReadError → Bool

@@ -91,10 +91,10 @@ abbrev pub records_of : List (List ℕ) → Result (List (ℕ × DataRecord)) Re
 records_of messages = records_after [] messages
 
 -- records, and those of further messages, unless one of the two has a fault
-abbrev pub joined : Result (List (ℕ × DataRecord)) ReadError → Result (List (ℕ × DataRecord)) ReadError → Result (List (ℕ × DataRecord)) ReadError
-joined (Ok records) (Ok others) = Ok (records ++ others)
-joined (Ok records) (Err e) = Err e
-joined (Err e) others = Err e
+abbrev pub both_records : Result (List (ℕ × DataRecord)) ReadError → Result (List (ℕ × DataRecord)) ReadError → Result (List (ℕ × DataRecord)) ReadError
+both_records (Ok records) (Ok others) = Ok (records ++ others)
+both_records (Ok records) (Err e) = Err e
+both_records (Err e) others = Err e
 
 -- the records that a message of this domain brings
 abbrev pub records_meant : ℕ → Result Meaning ReadError → Result (List (ℕ × DataRecord)) ReadError

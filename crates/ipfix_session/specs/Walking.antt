@@ -11,12 +11,12 @@ abbrev pub contents_in : Walk → Contents
 contents_in w = record { records = w.records; skips = w.skips }
 
 -- what is read is added to what was read before
-abbrev pub Adds : Contents → Contents → Result Contents ReadError → Result (Unit {0}) ReadError → Type 0
-Adds old new read (Ok _) = (first : Contents) × (read ≡ Ok first) × (new ≡ both old first)
-Adds old new read (Err e) = Fails e read
+abbrev pub AddsContents : Contents → Contents → Result Contents ReadError → Result (Unit {0}) ReadError → Type 0
+AddsContents old new read (Ok _) = (first : Contents) × (read ≡ Ok first) × (new ≡ both old first)
+AddsContents old new read (Err e) = Fails e read
 
 -- after so many items no count is above their number
-pub record IsCounted (s : Skips) (n : ℕ) : Type 0 where
+pub record SkipsAtMost (s : Skips) (n : ℕ) : Type 0 where
   pub unknown : s.unknown ≤ n
   pub reserved : s.reserved ≤ n
   pub refused : s.refused ≤ n

@@ -12,7 +12,7 @@ ghost use Rattle.ipfix_session.specs.Standing.{kept_of, templates_of, StandsFor,
 ghost use Rattle.ipfix_session.specs.Unchanging.{HasNoTemplates};
 ghost use Rattle.ipfix_session.specs.ReadAhead.{IsReadingOf, HasRoomFor};
 ghost use Rattle.ipfix_message.specs.Reading as decoding;
-ghost use Rattle.ipfix_session.specs.Answers.{Gives, NamesFault, shown};
+ghost use Rattle.ipfix_session.specs.Answers.{Gives, NamesFault, as_meaning};
 ghost use Rattle.ipfix_session.specs.Settling.{contents_read, afterwards};
 
 use crate::changes::Changes;
@@ -56,9 +56,9 @@ impl Drop for Session {
 }
 
 impl Model for Session {
-    ghost use Rattle.ipfix_session.specs.Standing.{Kept};
+    ghost use Rattle.ipfix_session.specs.Standing.{KeptSession};
 
-    ghost Value = { Kept };
+    ghost Value = { KeptSession };
 
     ghost use Rattle.ipfix_session.specs.Session.{session_of};
 
@@ -114,7 +114,7 @@ impl Session {
     pub fn apply(&mut self, message: &[u8]) -> Result<Read, ReadError>
         // The answer is what the message means after those before it, or its first fault.
         ensures meaning { (older : List (List ℕ)) → StandsFor self.old older
-            → Gives shown result (meaning_of older message.now) }
+            → Gives as_meaning result (meaning_of older message.now) }
         // After it the session stands for those messages and this one.
         ensures stands { (older : List (List ℕ)) → StandsFor self.old older
             → OnOk result (StandsFor self.new (message.now ∷ older)) }
@@ -171,7 +171,7 @@ impl Session {
     /// answers what the message brings, and takes no memory.
     pub fn keep(&mut self, reading: Reading) -> Read
         requires room { HasRoomFor self.old reading }
-        ensures read { shown result ≡ reading.meaning }
+        ensures read { as_meaning result ≡ reading.meaning }
         // Where it was read after those messages that the session stands for, the session then stands for them and
         // this one.
         ensures stands { (older : List (List ℕ)) (message : List ℕ) → StandsFor self.old older

@@ -11,12 +11,12 @@ use Rattle.mediator_state.specs.declared.fault.Fault.{Fault}
 use Rattle.mediator_state.specs.declared.fault.Fault.TheVariants as fault
 use Rattle.mediator_calls.specs.Limited.{RefusesLimits}
 use Rattle.replay_text.specs.declared.call_list.CallList.{CallList}
-use Rattle.replay_text.specs.Lists.{asked, list_of}
+use Rattle.replay_text.specs.Lists.{asked_calls, list_of}
 use Rattle.ipmd_commands.specs.Status.{mediator_fault_of}
 use Rattle.ipmd.specs.Replays.{BeginsToAnswer, RefusesText, RefusesToReplay}
 
 -- its limits are at fault, or memory ran out
-pub no_run : (text : List ℕ) (list : CallList) (why : Fault) → list_of text ≡ Ok (asked list) → RefusesLimits why list.limits → RefusesText (mediator_fault_of why) text
+pub no_run : (text : List ℕ) (list : CallList) (why : Fault) → list_of text ≡ Ok (asked_calls list) → RefusesLimits why list.limits → RefusesText (mediator_fault_of why) text
 no_run text list fault.BadLimits read refused = record { list = list; read = read; bad = refused }
 no_run text list fault.OutOfMemory read refused = tt
 no_run text list _ read refused = absurd refused
@@ -28,9 +28,9 @@ no_calls options e held (inr (text, same, (why, is))) = subst (λ x. RefusesToRe
 
 -- that of the journal can't be kept
 pub no_journal : (options : ReplayOptions) (path : Bor (List ℕ)) (e : ProgramFault) (held : Option (List ℕ)) → options.journal ≡ Some path → IsFileFault path.now e → RefusesToReplay options e held held
-no_journal options path e held asked (inl is) = subst (λ x. RefusesToReplay options x held held) (sym is) (([], tt), Keeps-refl held)
-no_journal options path e held asked (inr (text, same, (why, is))) = subst (λ x. RefusesToReplay options x held held) (sym is)
-    (inl (inr (subst (λ journal. IfSome journal (λ p. FailedAtFile p.now (failed_at (File text) why))) (sym asked) (text, same, (why, refl))), Keeps-refl held))
+no_journal options path e held asked_calls (inl is) = subst (λ x. RefusesToReplay options x held held) (sym is) (([], tt), Keeps-refl held)
+no_journal options path e held asked_calls (inr (text, same, (why, is))) = subst (λ x. RefusesToReplay options x held held) (sym is)
+    (inl (inr (subst (λ journal. IfSome journal (λ p. FailedAtFile p.now (failed_at (File text) why))) (sym asked_calls) (text, same, (why, refl))), Keeps-refl held))
 
 -- the output failed
 pub no_answer : (options : ReplayOptions) (e : ProgramFault) (held holds : Option (List ℕ)) → FailedAt Output e → BeginsToAnswer held holds → RefusesToReplay options e held holds

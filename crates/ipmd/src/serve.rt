@@ -2,8 +2,8 @@
 
 ghost use Rattle.std.specs.Prelude.{IfErr, IfOk, OnOk, string_bytes};
 ghost use Rattle.octet_io.specs.Device.{device_inner};
-ghost use Rattle.ipmd_settings.specs.Asked.{asked};
-ghost use Rattle.ipmd.specs.Serving.{FailsToServe, IsAskedFor, IsServiceOf, RefusesToPrepare, Serves};
+ghost use Rattle.ipmd_settings.specs.Asked.{asked_service};
+ghost use Rattle.ipmd.specs.Serving.{FailsToServe, IsAskedFor, IsServiceOf, RefusesToPrepare, ServesRuns};
 
 use crate::descriptors::warn_of_few;
 use crate::notes::Notes;
@@ -58,7 +58,7 @@ pub(crate) fn serve<
     errors: &mut Device<E>,
     descriptor: RawFd,
 ) -> Result<(), ProgramFault>
-    ensures ok { OnOk result (Serves
+    ensures ok { OnOk result (ServesRuns
         (O.contents (device_inner output.old)) (O.contents (device_inner output.new))) }
     ensures err { IfErr result (λ e. FailsToServe path.now e
         (O.contents (device_inner output.old)) (O.contents (device_inner output.new))
@@ -95,7 +95,7 @@ fn prepare<R: Files + AllocGlobal>(rt: &R, path: &str) -> Result<Service, Progra
 
 /// What settings ask for, with this policy.
 fn service_of(settings: Settings, policy: String) -> Service
-    ensures { IsServiceOf (asked settings) (string_bytes policy) result }
+    ensures { IsServiceOf (asked_service settings) (string_bytes policy) result }
 {
     let Settings {
         exporters,

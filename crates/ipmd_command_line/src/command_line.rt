@@ -7,7 +7,7 @@ ghost use Rattle.ipmd_command_line.specs.declared.task.ExplainOptions.{ExplainOp
 ghost use Rattle.ipmd_command_line.specs.declared.task.Task.{Task};
 ghost use Rattle.ipmd_command_line.specs.declared.task.PolicySource.{PolicySource};
 ghost use Rattle.clap.specs.Words.{app_of, first_of, found_of, rows_of, rule_of, subcommand_rows_of};
-ghost use Rattle.ipmd_command_line.specs.CommandLine.{AreExplainOptions, AreOptions, AreReplayOptions, AreVerifyOptions, AsksFor, IsCommandIn, IsMaybeNumber, IsSource, RefusesWords, check_policy_command, explain_command, ipmd_command, offline_command, replay_command, serve_command, valued, verify_command, with_policy};
+ghost use Rattle.ipmd_command_line.specs.CommandLine.{AreExplainOptions, AreOptions, AreReplayOptions, AreVerifyOptions, AsksForTask, IsCommandIn, IsMaybeNumber, IsSource, RefusesWords, check_policy_command, explain_command, ipmd_command, offline_command, replay_command, serve_command, valued_option, verify_command, with_policy};
 
 use crate::fault::CommandLineFault;
 use crate::help;
@@ -76,7 +76,7 @@ pub fn read_command_line<'a, S: AsStr>(
     alloc: Global,
     words: &'a [S],
 ) -> Result<Task<'a>, CommandLineFault>
-    ensures asked { IfOk result (AsksFor (map S.text words.entry.now)) }
+    ensures asked { IfOk result (AsksForTask (map S.text words.entry.now)) }
     ensures refused { IfErr result (RefusesWords (map S.text words.entry.now)) }
 {
     let mut command = whole_command(alloc)?;
@@ -400,7 +400,7 @@ fn with_policy<'a>(alloc: Global, command: Command<'a>) -> Result<Command<'a>, A
 
 /// An option with a value, under its long name.
 fn option<'a>(alloc: Global, name: &'a str, value_name: &'a str) -> Arg<'a>
-    ensures rule { rule_of result ≡ valued name.entry.now }
+    ensures rule { rule_of result ≡ valued_option name.entry.now }
     ensures local { result.global ≡ false }
 {
     Arg::new(alloc, name).long(name).value_name(value_name)

@@ -31,8 +31,8 @@ abbrev pub line_of : List ℕ → List ℕ → List ℕ
 line_of name why = codes "ipmd: " ++ plain name ++ codes ": " ++ plain why ++ 10 ∷ []
 
 -- which it was, and some text of why: that is the system's, which isn't told here
-abbrev pub IsLineOf : Failure → List ℕ → Type 0
-IsLineOf failure line = (why : List ℕ) × (line ≡ line_of (name_of failure.place) why)
+abbrev pub IsFailureLine : Failure → List ℕ → Type 0
+IsFailureLine failure line = (why : List ℕ) × (line ≡ line_of (name_of failure.place) why)
 
 -- ---- which it was
 
@@ -53,6 +53,6 @@ abbrev pub IsFileFault : List ℕ → ProgramFault → Type 0
 IsFileFault path e = (e ≡ fault.OutOfMemory) ⊎ FailedAtFile path e
 
 -- a device that isn't known is called the file of this path, and any other fault stays
-abbrev pub IsNamed : List ℕ → ProgramFault → ProgramFault → Type 0
-IsNamed path (fault.Device None) named = IsFileFault path named
-IsNamed path e named = named ≡ e
+abbrev pub NamesFile : List ℕ → ProgramFault → ProgramFault → Type 0
+NamesFile path (fault.Device None) named = IsFileFault path named
+NamesFile path e named = named ≡ e

@@ -30,14 +30,14 @@ abbrev pub AreMessagesOf : List ℕ → List (List ℕ) → Type 0
 AreMessagesOf stream messages = (fault : Option DecodeError) × (pending : List ℕ) × IsFramed stream messages fault pending
 
 -- a front of these octets was written, or all of them
-abbrev pub WritesSome : List ℕ → Option (List ℕ) → Option (List ℕ) → Type 0
-WritesSome due held holds = (n : ℕ) × Appends held holds (take n due)
+abbrev pub WritesSomeOf : List ℕ → Option (List ℕ) → Option (List ℕ) → Type 0
+WritesSomeOf due held holds = (n : ℕ) × Appends held holds (take n due)
 
 -- a front of the lines of a stream's messages was written, or all of them
 pub record BeginsLines (stream : List ℕ) (held holds : Option (List ℕ)) : Type 0 where
   pub messages : List (List ℕ)
   pub cut : AreMessagesOf stream messages
-  pub written : WritesSome (lines_of messages) held holds
+  pub written : WritesSomeOf (lines_of messages) held holds
 
 -- the same, or nothing
 abbrev pub WritesSomeLines : List ℕ → Option (List ℕ) → Option (List ℕ) → Type 0

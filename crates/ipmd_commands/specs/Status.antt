@@ -24,7 +24,7 @@ use Rattle.journal_files.specs.FaultTexts.{text_of_fault as text_of_journal}
 use Rattle.journal_files.specs.declared.fault.Fault.{Fault as JournalFault}
 use Rattle.journal_files.specs.declared.fault.Fault.TheVariants as journal
 use Rattle.ipmd_commands.specs.Absent.{text_of_absent}
-use Rattle.ipmd_commands.specs.Failures.{IsLineOf, failed_at}
+use Rattle.ipmd_commands.specs.Failures.{IsFailureLine, failed_at}
 use Rattle.ipmd_commands.specs.declared.failure.Failure.{Failure}
 use Rattle.ipmd_commands.specs.declared.failure.Place.TheVariants as placed
 use Rattle.ipmd_commands.specs.declared.fault.ProgramFault.{ProgramFault}
@@ -69,16 +69,16 @@ abbrev pub line_of_fault : ProgramFault → Option (List ℕ)
 line_of_fault e = with_newline (text_of e)
 
 -- this was written, unless the stream for errors failed
-abbrev pub Tells : Option (List ℕ) → Bool → Option (List ℕ) → Option (List ℕ) → Type 0
-Tells line has_failed held holds = has_failed ≡ false → IfSome line (Appends held holds)
+abbrev pub TellsLine : Option (List ℕ) → Bool → Option (List ℕ) → Option (List ℕ) → Type 0
+TellsLine line has_failed held holds = has_failed ≡ false → IfSome line (Appends held holds)
 
 -- what failed was named on a line, or there was no memory for that
 abbrev pub NamesFailure : Failure → Bool → Option (List ℕ) → Option (List ℕ) → Type 0
-NamesFailure failure has_failed held holds = has_failed ≡ false → (note : List ℕ) × ((note ≡ []) ⊎ IsLineOf failure note) × Appends held holds note
+NamesFailure failure has_failed held holds = has_failed ≡ false → (note : List ℕ) × ((note ≡ []) ⊎ IsFailureLine failure note) × Appends held holds note
 
 -- what is said before a fault: of a device that failed a line that names it, or nothing; of any other fault nothing
 abbrev pub IsNoteOf : ProgramFault → List ℕ → Type 0
-IsNoteOf (Device (Some failure)) note = (note ≡ []) ⊎ IsLineOf failure note
+IsNoteOf (Device (Some failure)) note = (note ≡ []) ⊎ IsFailureLine failure note
 IsNoteOf _ note = note ≡ []
 
 abbrev pub NamesDevice : ProgramFault → Bool → Option (List ℕ) → Option (List ℕ) → Type 0

@@ -136,11 +136,11 @@ impl ProgramFault {
     }
 
     ghost use Rattle.std.specs.Prelude.{false};
-    ghost use Rattle.ipmd_commands.specs.Status.{line_of_fault, Tells};
+    ghost use Rattle.ipmd_commands.specs.Status.{line_of_fault, TellsLine};
 
     /// Says the fault.
     fn say<E: Write>(&self, errors: &mut Device<E>)
-        ensures told { Tells (line_of_fault self.now) (device_failed errors.new)
+        ensures told { TellsLine (line_of_fault self.now) (device_failed errors.new)
             (E.contents (device_inner errors.old)) (E.contents (device_inner errors.new)) }
         ensures stays { device_failed errors.new ≡ false → device_failed errors.old ≡ false }
     {
@@ -189,7 +189,7 @@ impl ProgramFault {
     ghost use Rattle.std.specs.IoError.{error_kind};
     ghost use Rattle.std.specs.declared.io.ErrorKind.TheVariants as io_error;
     ghost use Rattle.ipmd_commands.specs.declared.fault.ProgramFault.TheVariants.{OutOfMemory};
-    ghost use Rattle.ipmd_commands.specs.Failures.{FailedAt, IsFileFault, IsNamed, failed_at};
+    ghost use Rattle.ipmd_commands.specs.Failures.{FailedAt, IsFileFault, NamesFile, failed_at};
 
     /// The fault of `place`, which has failed with the error `why`.
     pub fn failed(place: Place, why: io::Error) -> ProgramFault
@@ -231,7 +231,7 @@ impl ProgramFault {
     /// This fault, where it isn't `Device` of something unknown. Else the fault of the file whose path is `path`, which failed
     /// with the error `why`.
     pub fn named(self, alloc: Global, path: &str, why: io::Error) -> ProgramFault
-        ensures { IsNamed path.now self result }
+        ensures { NamesFile path.now self result }
     {
         match self {
             ProgramFault::Device(None) => ProgramFault::at_file(alloc, path, why),

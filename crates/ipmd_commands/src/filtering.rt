@@ -3,7 +3,7 @@
 ghost use Rattle.std.specs.Prelude.{◌≡◌, IfErr, IfOk};
 ghost use Rattle.octet_io.specs.Device.{device_inner};
 ghost use Rattle.octet_io.specs.Moments.{writer_of};
-ghost use Rattle.ipmd_commands.specs.Runs.{FailsLines, FailsOn, Filters, FinishesInput, FinishesLines, FinishesOn, FinishesWithAudit, IsWriteFault, RefusesInput, RefusesToFilter, RefusesWithAudit};
+ghost use Rattle.ipmd_commands.specs.Runs.{FailsLines, FailsOn, FiltersInput, FinishesInput, FinishesLines, FinishesOn, FinishesWithAudit, IsWriteFault, RefusesInput, RefusesToFilter, RefusesWithAudit};
 ghost use Rattle.ipmd_commands.specs.Status.{offline_fault_of};
 
 use crate::failure::Place;
@@ -41,7 +41,7 @@ pub fn filter<R: Files + AllocGlobal, I: Read + Drop, O: Write>(
     input: I,
     output: &mut Device<O>,
 ) -> Result<OfflineReport, ProgramFault>
-    ensures ok { IfOk result (λ report. Filters options.entry.now report (I.remaining input)
+    ensures ok { IfOk result (λ report. FiltersInput options.entry.now report (I.remaining input)
         (O.contents (device_inner output.old)) (O.contents (device_inner output.new))) }
     ensures err { IfErr result (λ e. RefusesToFilter options.entry.now e (I.remaining input)
         (O.contents (device_inner output.old)) (O.contents (device_inner output.new))) }

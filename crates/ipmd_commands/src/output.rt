@@ -3,7 +3,7 @@
 ghost use Rattle.std.specs.Prelude.{◌≡◌, ◌⊎◌, OnOk, IfOk, IfErr, string_bytes};
 ghost use Rattle.std.specs.Io.KnownBytes.{Appends, Keeps};
 ghost use Rattle.octet_io.specs.Device.{device_inner};
-ghost use Rattle.ipmd_commands.specs.HexText.{AreMessagesOf, line_of, lines_of, WritesLines, WritesSome, WritesSomeLines};
+ghost use Rattle.ipmd_commands.specs.HexText.{AreMessagesOf, line_of, lines_of, WritesLines, WritesSomeOf, WritesSomeLines};
 ghost use Rattle.ipmd_commands.specs.declared.failure.Place.TheVariants.{Output};
 ghost use Rattle.ipmd_commands.specs.declared.fault.ProgramFault.TheVariants.{OutOfMemory};
 ghost use Rattle.ipmd_commands.specs.Failures.{FailedAt};
@@ -23,7 +23,7 @@ use std::io::Write;
 pub fn write_text<O: Write>(output: &mut Device<O>, text: &str) -> Result<(), ProgramFault>
     ensures ok { OnOk result (Appends
         (O.contents (device_inner output.old)) (O.contents (device_inner output.new)) text.now) }
-    ensures err { IfErr result (λ e. FailedAt Output e × WritesSome text.now
+    ensures err { IfErr result (λ e. FailedAt Output e × WritesSomeOf text.now
         (O.contents (device_inner output.old)) (O.contents (device_inner output.new))) }
 {
     put_text(output, text)?;
@@ -37,7 +37,7 @@ pub fn write_text<O: Write>(output: &mut Device<O>, text: &str) -> Result<(), Pr
 pub fn put_text<O: Write>(output: &mut Device<O>, text: &str) -> Result<(), ProgramFault>
     ensures ok { OnOk result (Appends
         (O.contents (device_inner output.old)) (O.contents (device_inner output.new)) text.now) }
-    ensures err { IfErr result (λ e. FailedAt Output e × WritesSome text.now
+    ensures err { IfErr result (λ e. FailedAt Output e × WritesSomeOf text.now
         (O.contents (device_inner output.old)) (O.contents (device_inner output.new))) }
 {
     match write_all(output, text.as_bytes()) {
@@ -106,7 +106,7 @@ fn write_each<O: Write>(
         (O.contents (device_inner output.old)) (O.contents (device_inner output.new))
         (lines_of messages.now)) }
     ensures err { IfErr result (λ e. ((e ≡ OutOfMemory) ⊎ FailedAt Output e)
-        × WritesSome (lines_of messages.now)
+        × WritesSomeOf (lines_of messages.now)
         (O.contents (device_inner output.old)) (O.contents (device_inner output.new))) }
 {
     'messages: for message in messages {

@@ -6,7 +6,7 @@ use Rattle.ipfix_element.specs.Element.{Element}
 use Rattle.ipfix_element.specs.Names.{element_name}
 use Rattle.ipfix_template.specs.DataRecord.{DataRecord}
 use Rattle.policy_text.specs.declared.rule.Rule.{Rule}
-use Rattle.policy_text.specs.Policies.{Aggregate, Meaning as Policy}
+use Rattle.policy_text.specs.Policies.{Aggregate, PolicyMeaning as Policy}
 use Rattle.policy_judge.specs.declared.verdict.ElementAction.{ElementAction}
 use Rattle.policy_judge.specs.declared.verdict.ElementAction.TheVariants.{Keep, Remove, Truncate, Degrade}
 use Rattle.policy_judge.specs.declared.verdict.ElementVerdict.{ElementVerdict}

@@ -9,7 +9,7 @@ use Rattle.ipmd_settings.specs.declared.key.Key.TheVariants.{Queue, Shapes, Audi
 use Rattle.ipmd_settings.specs.Laws.{AllowedLimitsAreRead}
 use Rattle.ipmd_settings.specs.Names.{name_of}
 use Rattle.ipmd_settings.specs.Reading.{limits_in}
-use Rattle.ipmd_settings.specs.Results.{needed}
+use Rattle.ipmd_settings.specs.Results.{value_at_key}
 use Rattle.ipmd_settings.specs.Values.{within, number_at}
 use Rattle.subscriber_stream.specs.declared.limits.TheConstants.{MOST_QUEUE, MOST_SHAPES}
 use Rattle.disclosure_audit.specs.declared.audit.TheConstants.{MOST_ENTRIES as MOST_AUDITED}
@@ -19,11 +19,11 @@ within-stands : (least most n : ℕ) → least ≤ n → n ≤ most → within l
 within-stands least most n low high = grind (arith, nat_tests)
 
 abbrev read : Key → ℕ → ℕ → Option Data → Result ℕ SettingsFault
-read k least most value = needed k (option_and_then (within least most) (option_and_then as_integer value))
+read k least most value = value_at_key k (option_and_then (within least most) (option_and_then as_integer value))
 
 -- a number in its range is read
 number_at-stands : (k : Key) (least most n : ℕ) (table : Members) → get_member (name_of k) table ≡ Some (integer (pos n)) → least ≤ n → n ≤ most → number_at k least most table ≡ Ok n
-number_at-stands k least most n table stands low high = ap (read k least most) stands ∙ ap (needed k) (within-stands least most n low high)
+number_at-stands k least most n table stands low high = ap (read k least most) stands ∙ ap (value_at_key k) (within-stands least most n low high)
 
 pub allowed_limits_are_read : AllowedLimitsAreRead
 unfolding limits_in

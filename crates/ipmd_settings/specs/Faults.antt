@@ -47,8 +47,8 @@ lacking table = find (λ k. not (has table k)) keys
 
 -- the text is too long; else no TOML, or a table that lacks this key and none before it; want of memory says only that it isn't too
 -- long
-abbrev pub IsFaultOf : SettingsFault → List ℕ → Type 0
-IsFaultOf fault.TooLong text = LONGEST_TEXT < length text
-IsFaultOf fault.Toml text = (length text ≤ LONGEST_TEXT) × (parse_document text ≡ None)
-IsFaultOf (fault.Key k) text = (table : Members) × (length text ≤ LONGEST_TEXT) × (parse_document text ≡ Some table) × (lacking table ≡ Some k)
-IsFaultOf fault.OutOfMemory text = length text ≤ LONGEST_TEXT
+abbrev pub IsSettingsFault : SettingsFault → List ℕ → Type 0
+IsSettingsFault fault.TooLong text = LONGEST_TEXT < length text
+IsSettingsFault fault.Toml text = (length text ≤ LONGEST_TEXT) × (parse_document text ≡ None)
+IsSettingsFault (fault.Key k) text = (table : Members) × (length text ≤ LONGEST_TEXT) × (parse_document text ≡ Some table) × (lacking table ≡ Some k)
+IsSettingsFault fault.OutOfMemory text = length text ≤ LONGEST_TEXT

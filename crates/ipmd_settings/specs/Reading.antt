@@ -12,7 +12,7 @@ use Rattle.ipmd_settings.specs.declared.key.Key.TheVariants.{Exporters, Admin, P
 use Rattle.ipmd_settings.specs.declared.fault.SettingsFault.{SettingsFault}
 use Rattle.ipmd_settings.specs.declared.fault.SettingsFault.TheVariants.{TooLong, Toml}
 use Rattle.ipmd_settings.specs.declared.reading.TheConstants.{LONGEST_TEXT}
-use Rattle.ipmd_settings.specs.Asked.{Asked}
+use Rattle.ipmd_settings.specs.Asked.{AskedService}
 use Rattle.ipmd_settings.specs.Values.{text_at, text_or_none, number_at, number_or, number_or_none, flag_or_false, collectors_at}
 
 -- the limits of the mediator
@@ -26,7 +26,7 @@ limits_in table = do
   Ok (record { queue = queue; shapes = shapes; audit = audit; entries = entries; octets = octets })
 
 -- the settings in a table, or the first key at fault; other keys are ignored
-unfoldable pub settings_in : Members → Result Asked SettingsFault
+unfoldable pub settings_in : Members → Result AskedService SettingsFault
 settings_in table = do
   exporters ← text_at Exporters table
   admin ← text_at Admin table
@@ -69,5 +69,5 @@ table_of None = Err Toml
 table_of (Some table) = Ok table
 
 -- the settings that a text gives, or its first fault
-abbrev pub settings_of : List ℕ → Result Asked SettingsFault
+abbrev pub settings_of : List ℕ → Result AskedService SettingsFault
 settings_of text = if nat_lt LONGEST_TEXT (length text) then Err TooLong else (table_of (parse_document text) >>= settings_in)

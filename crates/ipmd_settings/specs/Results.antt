@@ -6,9 +6,9 @@ use Rattle.ipmd_settings.specs.declared.fault.SettingsFault.{SettingsFault}
 use Rattle.ipmd_settings.specs.declared.fault.SettingsFault.TheVariants as fault
 
 -- what is read at a key, or the key's fault where nothing is
-abbrev pub needed : {A : Type 0} → Key → Option A → Result A SettingsFault
-needed k None = Err (fault.Key k)
-needed k (Some a) = Ok a
+abbrev pub value_at_key : {A : Type 0} → Key → Option A → Result A SettingsFault
+value_at_key k None = Err (fault.Key k)
+value_at_key k (Some a) = Ok a
 
 abbrev pub is_memory : SettingsFault → Bool
 is_memory fault.TooLong = false

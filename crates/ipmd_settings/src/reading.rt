@@ -2,11 +2,11 @@
 ghost use Rattle.std.specs.Prelude.{◌≡◌, ◌≤◌, IfErr, IfOk};
 ghost use Rattle.toml.specs.View.{table_view};
 ghost use Rattle.mediator_calls.specs.Limited.{AreAllowed};
-ghost use Rattle.ipmd_settings.specs.Asked.{asked, pairs};
-ghost use Rattle.ipmd_settings.specs.Faults.{IsFaultOf};
+ghost use Rattle.ipmd_settings.specs.Asked.{asked_service, pairs};
+ghost use Rattle.ipmd_settings.specs.Faults.{IsSettingsFault};
 ghost use Rattle.ipmd_settings.specs.Reading.{limits_in, settings_in, settings_of};
 ghost use Rattle.ipmd_settings.specs.Results.{Gives};
-ghost use Rattle.ipmd_settings.specs.Values.{Ascend};
+ghost use Rattle.ipmd_settings.specs.Values.{AscendByOctets};
 
 use crate::fault::SettingsFault;
 use crate::key::Key;
@@ -68,14 +68,14 @@ const MOST_DRAIN: u64 = 86_400;
 /// out of its range; or `OutOfMemory`.
 pub fn read_settings(alloc: Global, text: &str) -> Result<Settings, SettingsFault>
     // What the text gives, or its first fault.
-    ensures exact { Gives asked result (settings_of text.now) }
+    ensures exact { Gives asked_service result (settings_of text.now) }
     // Which key is at fault: the first that must be there and isn't, or has a value that it may not have. A text that is too long
     // has no other fault, nor want of memory.
-    ensures first { IfErr result (λ fault. IsFaultOf fault text.now) }
+    ensures first { IfErr result (λ fault. IsSettingsFault fault text.now) }
     // A mediator takes these limits.
     ensures allowed { IfOk result (λ settings. AreAllowed settings.limits) }
     // The subscribers ascend by their octets, and none stands twice.
-    ensures sorted { IfOk result (λ settings. Ascend (pairs settings.collectors)) }
+    ensures sorted { IfOk result (λ settings. AscendByOctets (pairs settings.collectors)) }
     // A run may be made.
     ensures some_run { IfOk result (λ settings. 1 ≤ settings.runs) }
 {
@@ -92,9 +92,9 @@ pub fn read_settings(alloc: Global, text: &str) -> Result<Settings, SettingsFaul
 /// Those of [`read_settings`] but for `TooLong` and `Toml`.
 #[tactic(auto, unfolding(crate::specs::Reading::settings_in))]
 fn settings_in(alloc: Global, table: &Table) -> Result<Settings, SettingsFault>
-    ensures exact { Gives asked result (settings_in (table_view table.now)) }
+    ensures exact { Gives asked_service result (settings_in (table_view table.now)) }
     ensures allowed { IfOk result (λ settings. AreAllowed settings.limits) }
-    ensures sorted { IfOk result (λ settings. Ascend (pairs settings.collectors)) }
+    ensures sorted { IfOk result (λ settings. AscendByOctets (pairs settings.collectors)) }
     ensures some_run { IfOk result (λ settings. 1 ≤ settings.runs) }
 {
     Ok(Settings {

@@ -5,8 +5,8 @@ ghost use Rattle.toml.specs.View.{view, table_view};
 ghost use Rattle.ipmd_settings.specs.declared.key.Key.TheVariants as key;
 ghost use Rattle.ipmd_settings.specs.Asked.{pair, pairs};
 ghost use Rattle.ipmd_settings.specs.Names.{name_of};
-ghost use Rattle.ipmd_settings.specs.Results.{Gives, needed};
-ghost use Rattle.ipmd_settings.specs.Values.{text_in, text_at, text_or_none, within, number_in, number_at, number_or_in, number_or, number_or_none_in, number_or_none, flag_or_false_in, flag_or_false, collectors_of, collectors_at, Ascend};
+ghost use Rattle.ipmd_settings.specs.Results.{Gives, value_at_key};
+ghost use Rattle.ipmd_settings.specs.Values.{text_in, text_at, text_or_none, within, number_in, number_at, number_or_in, number_or, number_or_none_in, number_or_none, flag_or_false_in, flag_or_false, collectors_of, collectors_at, AscendByOctets};
 
 use crate::fault::SettingsFault;
 use crate::key::Key;
@@ -57,7 +57,7 @@ pub(crate) fn text_or_none(
 /// `Key` where the value is no text, or `OutOfMemory`.
 fn text_of(alloc: Global, value: &Value, key: Key) -> Result<Option<String>, SettingsFault>
     ensures { Gives (option_map string_bytes) result
-        (needed key (option_map Some (as_str (view value.now)))) }
+        (value_at_key key (option_map Some (as_str (view value.now)))) }
 {
     match value.as_str() {
         Some(text) => Ok(Some(String::from_str(alloc, text)?)),
@@ -205,7 +205,7 @@ fn number_within(integer: i64, least: u64, most: u64) -> Option<u64>
 /// `Key` where there is no such table, or an address in it is no text; or `OutOfMemory`.
 pub(crate) fn collectors_at(alloc: Global, table: &Table) -> Result<Vec<Collector>, SettingsFault>
     ensures exact { Gives pairs result (collectors_at (table_view table.now)) }
-    ensures sorted { IfOk result (λ collectors. Ascend (pairs collectors)) }
+    ensures sorted { IfOk result (λ collectors. AscendByOctets (pairs collectors)) }
 {
     match value_at(table, Key::Deliver) {
         Some(Value::Table(addresses)) => collectors_in(alloc, addresses),
@@ -219,8 +219,8 @@ pub(crate) fn collectors_at(alloc: Global, table: &Table) -> Result<Vec<Collecto
 /// `Key` where an address is no text, or `OutOfMemory`.
 fn collectors_in(alloc: Global, addresses: &Table) -> Result<Vec<Collector>, SettingsFault>
     ensures exact { Gives pairs result
-        (needed key.Deliver (collectors_of (table_view addresses.now))) }
-    ensures sorted { IfOk result (λ collectors. Ascend (pairs collectors)) }
+        (value_at_key key.Deliver (collectors_of (table_view addresses.now))) }
+    ensures sorted { IfOk result (λ collectors. AscendByOctets (pairs collectors)) }
 {
     let mut collectors = Vec::new(alloc);
     'addresses: for (subscriber, value) in addresses.iter() {
@@ -235,7 +235,7 @@ fn collectors_in(alloc: Global, addresses: &Table) -> Result<Vec<Collector>, Set
 /// # Errors
 /// `Key` where the value is no text, or `OutOfMemory`.
 fn collector_of(alloc: Global, subscriber: &str, value: &Value) -> Result<Collector, SettingsFault>
-    ensures { Gives pair result (needed key.Deliver
+    ensures { Gives pair result (value_at_key key.Deliver
         (option_map (λ address. (subscriber.now, address)) (as_str (view value.now)))) }
 {
     match value.as_str() {

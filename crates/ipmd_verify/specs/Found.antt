@@ -24,7 +24,7 @@ abbrev pub IsNoFile : Option (List ℕ) → Fault → Type 0
 IsNoFile given why = IfSome given (λ octets. file_of octets ≡ Err why)
 
 -- it says a legal history, and this is what that discloses and, where that is wanted, what its audit names
-pub record IsFound (wanted : Bool) (given : Option (List ℕ)) (v : Verified) : Type 0 where
+pub record IsFoundIn (wanted : Bool) (given : Option (List ℕ)) (v : Verified) : Type 0 where
   pub history : List Entry
   pub said : Says given history
   pub verified : IsVerified wanted history v

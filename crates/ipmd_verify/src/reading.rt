@@ -3,7 +3,7 @@ ghost use Rattle.std.specs.Prelude.{◌≡◌, List, ℕ, Option, IfOk, IfErr, O
 ghost use Rattle.event_journal.specs.declared.entry.Entry.{Entry as OneEntry};
 ghost use Rattle.history_verify.specs.Answers.{NamesFirstOfAny};
 ghost use Rattle.ipmd_commands.specs.Status.{read_fault_of};
-ghost use Rattle.ipmd_verify.specs.Found.{IsFound, RefusesFile, SaysOn};
+ghost use Rattle.ipmd_verify.specs.Found.{IsFoundIn, RefusesFile, SaysOn};
 ghost use Rattle.ipmd_verify.specs.Reading.{IsReadTo};
 ghost use Rattle.ipmd_verify.specs.Faults.{verify_fault_of};
 
@@ -27,7 +27,7 @@ pub(crate) fn read_history<S: Source, P: Progress>(
     source: &mut S,
     progress: &mut P,
 ) -> Result<Verified, ProgramFault>
-    ensures ok { IfOk result (IsFound audit (S.remaining source.old)) }
+    ensures ok { IfOk result (IsFoundIn audit (S.remaining source.old)) }
     ensures err { IfErr result (λ e. RefusesFile e (S.remaining source.old)) }
 {
     let mut reader = JournalReader::start(alloc, source)?;

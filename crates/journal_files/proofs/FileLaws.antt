@@ -5,7 +5,7 @@ use Rattle.std.proofs.lemmas.Bool.{le-ltb, eqb-true, eq-eqb}
 use Rattle.std.proofs.lemmas.List.{drop_at}
 use Rattle.std.proofs.lemmas.List.Elements.{All-head, All-tail}
 use Rattle.std.proofs.lemmas.List.Sums.{sum_by-append, sum_by-cons}
-use Rattle.sequences.specs.Octets.{be_octets, AreOctets, IsNumber}
+use Rattle.sequences.specs.Octets.{be_octets, AreOctets, IsNumberIn}
 use Rattle.sequences.specs.Results.{◌>>=◌}
 use Rattle.sequences.proofs.OctetLaws.{AreOctets-drop}
 use Rattle.sequences.proofs.ResultLaws.{same_Ok, Err-Ok, bind_Ok}
@@ -23,7 +23,7 @@ use Rattle.journal_files.proofs.EntryWritten.{number_found, entry_written_back}
 
 -- ---- the head
 
-past_number_read : (width n : ℕ) (fault : Fault) (a rest : List ℕ) → IsNumber width a n → past_number width n fault (a ++ rest) ≡ Ok rest
+past_number_read : (width n : ℕ) (fault : Fault) (a rest : List ℕ) → IsNumberIn width a n → past_number width n fault (a ++ rest) ≡ Ok rest
 unfolding past_number
 past_number_read width n fault a rest is = rw (number_read width n a rest is, eq-eqb n n refl) refl
 

@@ -15,15 +15,15 @@ use Rattle.journal_files.specs.Faults.{IsDecodingFault}
 use Rattle.journal_files.specs.Format.{magic, version}
 
 -- what was read at the front, and the octets after it; or the first fault
-abbrev pub Found : Type 0 → Type 0
-Found A = Result (A × List ℕ) Fault
+abbrev pub Finding : Type 0 → Type 0
+Finding A = Result (A × List ℕ) Fault
 
 -- so many octets
-unfoldable pub front_of : ℕ → List ℕ → Found (List ℕ)
+unfoldable pub front_of : ℕ → List ℕ → Finding (List ℕ)
 front_of n octets = if nat_lt (length octets) n then Err Truncated else Ok (take n octets, drop n octets)
 
 -- a number in so many octets
-unfoldable pub number_of : ℕ → List ℕ → Found ℕ
+unfoldable pub number_of : ℕ → List ℕ → Finding ℕ
 number_of width octets = do
   front ← front_of width octets
   Ok (be_value front.0, front.1)
@@ -35,7 +35,7 @@ past_number width expected fault octets = do
   if number.0 == expected then Ok number.1 else Err fault
 
 -- the number of entries that a file announces
-unfoldable pub head_of : List ℕ → Found ℕ
+unfoldable pub head_of : List ℕ → Finding ℕ
 head_of octets = do
   after_magic ← past_number 4 magic BadMagic octets
   after_version ← past_number 2 version BadVersion after_magic
@@ -44,12 +44,12 @@ head_of octets = do
 -- ---- an entry, behind the octet of its kind
 
 -- one that has a number alone
-unfoldable pub numbered : (ℕ → Entry) → List ℕ → Found Entry
-numbered entry octets = do
+unfoldable pub numbered_entry : (ℕ → Entry) → List ℕ → Finding Entry
+numbered_entry entry octets = do
   number ← number_of 8 octets
   Ok (entry number.0, number.1)
 
-unfoldable pub message_of : List ℕ → Found Entry
+unfoldable pub message_of : List ℕ → Finding Entry
 message_of octets = do
   session ← number_of 8 octets
   number ← number_of 8 session.1
@@ -58,14 +58,14 @@ message_of octets = do
   Ok (Message session.0 number.0 message.0, message.1)
 
 -- a text is UTF-8
-unfoldable pub edit_of : List ℕ → Found Entry
+unfoldable pub edit_of : List ℕ → Finding Entry
 edit_of octets = do
   len ← number_of 8 octets
   text ← front_of len.0 len.1
   if is_utf8 text.0 then Ok (Edit text.0, text.1) else Err BadEntry
 
 -- a name is one that a subscriber may have
-unfoldable pub subscribe_of : List ℕ → Found Entry
+unfoldable pub subscribe_of : List ℕ → Finding Entry
 subscribe_of octets = do
   sub ← number_of 8 octets
   len ← number_of 1 sub.1
@@ -73,20 +73,20 @@ subscribe_of octets = do
   if is_name name.0 then Ok (Subscribe sub.0 name.0, name.1) else Err BadEntry
 
 -- an entry of a kind
-unfoldable pub entry_by : ℕ → List ℕ → Found Entry
+unfoldable pub entry_by : ℕ → List ℕ → Finding Entry
 entry_by kind octets =
-    if kind == 1 then numbered Open octets
-    else if kind == 2 then numbered Close octets
+    if kind == 1 then numbered_entry Open octets
+    else if kind == 2 then numbered_entry Close octets
     else if kind == 3 then message_of octets
     else if kind == 4 then edit_of octets
     else if kind == 5 then subscribe_of octets
-    else if kind == 6 then numbered Unsubscribe octets
-    else if kind == 7 then numbered Advance octets
-    else if kind == 8 then numbered Cut octets
+    else if kind == 6 then numbered_entry Unsubscribe octets
+    else if kind == 7 then numbered_entry Advance octets
+    else if kind == 8 then numbered_entry Cut octets
     else Err BadEntry
 
 -- the entry at the front
-unfoldable pub entry_of : List ℕ → Found Entry
+unfoldable pub entry_of : List ℕ → Finding Entry
 entry_of octets = do
   kind ← number_of 1 octets
   entry_by kind.0 kind.1

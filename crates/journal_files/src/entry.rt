@@ -3,7 +3,7 @@ ghost use Rattle.std.specs.Prelude.{◌≡◌, ◌++◌, ◌≤◌, ◌<◌, ◌
 ghost use Rattle.std.specs.Str.{is_utf8};
 ghost use Rattle.policy_text.specs.Naming.{is_name};
 ghost use Rattle.event_journal.specs.Spelled.{IsSpelled};
-ghost use Rattle.journal_files.specs.Reading.{Gives, front_of, number_of, past_number, head_of, numbered, message_of, edit_of, subscribe_of, entry_by, entry_of};
+ghost use Rattle.journal_files.specs.Reading.{Gives, front_of, number_of, past_number, head_of, numbered_entry, message_of, edit_of, subscribe_of, entry_by, entry_of};
 ghost use Rattle.journal_files.specs.Format.{magic, version, head_octets, octets_of};
 ghost use Rattle.journal_files.specs.Seen.{entry_seen, number_seen, octets_seen};
 ghost use Rattle.journal_files.specs.declared.fault.Fault.TheVariants.{BadMagic, BadVersion, BadEntry};
@@ -97,7 +97,7 @@ fn first_entry(alloc: Global, octets: &[u8]) -> Result<(Entry, &[u8]), Fault>
 }
 
 /// The entry of this `kind` whose numbers are at the front of `octets`, and the octets after it.
-#[tactic(auto, unfolding(crate::specs::Reading::entry_by, crate::specs::Reading::numbered))]
+#[tactic(auto, unfolding(crate::specs::Reading::entry_by, crate::specs::Reading::numbered_entry))]
 fn read_by(alloc: Global, kind: u8, octets: &[u8]) -> Result<(Entry, &[u8]), Fault>
     ensures read { Gives entry_seen result (entry_by kind octets.now) }
     ensures spelled { IfOk result (λ f. IsSpelled f.0) }

@@ -3,7 +3,7 @@ ghost use Rattle.std.specs.Prelude.{◌≡◌, ◌+◌, ◌<◌, ◌^◌, OnOk, 
 ghost use Rattle.std.specs.Io.KnownBytes.{Consumes};
 ghost use Rattle.journal_files.specs.Format.{head_octets};
 ghost use Rattle.journal_files.specs.Reading.{head_of};
-ghost use Rattle.journal_files.specs.Streaming.{StopsReading, TakesEntry, EndsFile, step_of};
+ghost use Rattle.journal_files.specs.Streaming.{StopsReadingFile, TakesEntry, EndsFile, step_of};
 
 use crate::entry::{read_entry, read_head};
 use crate::fault::Fault;
@@ -33,9 +33,9 @@ pub struct JournalReader {
 impl Model for JournalReader {
     ghost use Rattle.std.specs.Prelude.{◌≤◌};
     ghost use Rattle.event_journal.specs.declared.limits.TheConstants.{MOST_ENTRIES, MOST_OCTETS};
-    ghost use Rattle.journal_files.specs.Streaming.{Place};
+    ghost use Rattle.journal_files.specs.Streaming.{FilePlace};
 
-    ghost Value = { Place };
+    ghost Value = { FilePlace };
 
     ghost view = { λ r. record { left = r.left; count = r.count; octets = r.octets } };
 
@@ -55,7 +55,7 @@ impl JournalReader {
         ensures few { IfOk result (λ r. r.left < 2 ^ 64) }
         ensures stays { OnOk result (R.has_failed source.new ≡ R.has_failed source.old) }
         ensures err { IfErr result (λ e.
-            StopsReading e head_of (R.remaining source.old) (R.remaining source.new)
+            StopsReadingFile e head_of (R.remaining source.old) (R.remaining source.new)
             (R.has_failed source.old) (R.has_failed source.new)) }
     {
         let mut piece = Vec::new(alloc);
@@ -91,7 +91,7 @@ impl JournalReader {
             TakesEntry self.old (R.remaining source.old) (R.remaining source.new) entry self.new)) }
         ensures stays { OnOk result (R.has_failed source.new ≡ R.has_failed source.old) }
         ensures err { IfErr result (λ e.
-            StopsReading e (step_of self.old) (R.remaining source.old) (R.remaining source.new)
+            StopsReadingFile e (step_of self.old) (R.remaining source.old) (R.remaining source.new)
             (R.has_failed source.old) (R.has_failed source.new)) }
     {
         self.held.clear();

@@ -5,11 +5,11 @@ ghost use Rattle.mediator_state.specs.declared.fault.Fault.TheVariants.{UnknownS
 ghost use Rattle.mediator_state.specs.Calls.{IsSnapshot, RefusesSnapshot, RefusesClose, RefusesEdit, RefusesSubscribe, RefusesUnsubscribe, RefusesPull};
 ghost use Rattle.mediator_calls.specs.Mediation.{started, noted_at, journal_limits};
 ghost use Rattle.mediator_calls.specs.Limited.{AreAllowed, RefusesLimits};
-ghost use Rattle.mediator_calls.specs.Sound.{IsSound};
+ghost use Rattle.mediator_calls.specs.Sound.{IsSoundMediation};
 ghost use Rattle.mediator_calls.specs.Calls.{Opens, RefusesOpen, Closes, Receives, RefusesReceive, RefusesReceivePrepared, Edits, Subscribes, Unsubscribes, Advances, RefusesAdvance, Pulls, IsStatusOf, Drains};
 
-use crate::finished::Finished;
 use crate::Limits;
+use crate::finished::Finished;
 use bytes::Bytes;
 use disclosure_audit::AuditEntry;
 use event_journal::Journal;
@@ -66,13 +66,13 @@ impl Drop for Mediator {
 
 impl Model for Mediator {
     ghost use Rattle.mediator_calls.specs.Mediation.{Mediation};
-    ghost use Rattle.mediator_calls.specs.View.{view_of, IsKept};
+    ghost use Rattle.mediator_calls.specs.View.{view_of, IsStateKept};
 
     ghost Value = { Mediation };
 
     ghost view = { λ m. view_of m.state };
 
-    ghost invariant = { λ m. IsKept m.state };
+    ghost invariant = { λ m. IsStateKept m.state };
 }
 
 impl Mediator {
@@ -112,7 +112,7 @@ impl Mediator {
         ensures entries { result.now.entries ≡ self.now.history }
         ensures limits { result.now.limits ≡ journal_limits self.now.limits }
         // What is kept of every mediator: callers learn it here.
-        ensures sound { IsSound self.now }
+        ensures sound { IsSoundMediation self.now }
     {
         self.state.chronicle()
     }
@@ -354,7 +354,7 @@ impl Mediator {
         ensures entries { result.journal.entries ≡ self.history }
         ensures limits { result.journal.limits ≡ journal_limits self.limits }
         // What is kept of every mediator holds of the history that is left.
-        ensures sound { IsSound self }
+        ensures sound { IsSoundMediation self }
     {
         let Mediator { state } = self;
         Finished {

@@ -8,7 +8,7 @@ use Rattle.ipfix_message.specs.Framing.{IsFramed}
 use Rattle.ipfix_reader.specs.declared.fault.FramingFault.TheVariants as framing
 use Rattle.ipfix_reader.specs.declared.fault.IntakeFault.{IntakeFault}
 use Rattle.ipfix_reader.specs.declared.fault.IntakeFault.TheVariants as intake
-use Rattle.ipfix_reader.specs.Intake.{IntakeState, nothing_read, Takes, Ends, Stops, HasFault, reader_after as intake_reader}
+use Rattle.ipfix_reader.specs.Intake.{IntakeState, nothing_read, Yields, Ends, StopsIntake, StreamHasFault, reader_after as intake_reader}
 use Rattle.shared_mediator.specs.Locked.{Exporting}
 use Rattle.mediator_connections.specs.declared.fault.ServeFault.{ServeFault}
 use Rattle.mediator_connections.specs.declared.fault.ServeFault.TheVariants.{Read, Write, Framing, Turns, TooWide, TooManyCounts, Mediator}
@@ -44,7 +44,7 @@ reading_starts turns i given d new = record {
 }
 
 -- a piece was read, and the messages that it made whole were offered
-pub reads_on : (turns : ℕ) (i k : IntakeState) (given mid left : Option (List ℕ)) (old d e : Exporting) (out : List (List ℕ)) → Reaches turns i given mid old d → Takes i mid left out k → Offers d e out → Reaches turns k given left old e
+pub reads_on : (turns : ℕ) (i k : IntakeState) (given mid left : Option (List ℕ)) (old d e : Exporting) (out : List (List ℕ)) → Reaches turns i given mid old d → Yields i mid left out k → Offers d e out → Reaches turns k given left old e
 reads_on turns i k given mid left old d e out so takes offers = record {
   octets = so.octets ++ takes.piece;
   messages = so.messages ++ out;
@@ -89,7 +89,7 @@ begins_not turns given d = record {
 }
 
 -- one of the messages is refused
-refuses_one : (e : ServeFault) (turns : ℕ) (i k : IntakeState) (given mid left : Option (List ℕ)) (old d new : Exporting) (out : List (List ℕ)) → (so : Reaches turns i given mid old d) → (takes : Takes i mid left out k) → RefusesAmong e d new out
+refuses_one : (e : ServeFault) (turns : ℕ) (i k : IntakeState) (given mid left : Option (List ℕ)) (old d new : Exporting) (out : List (List ℕ)) → (so : Reaches turns i given mid old d) → (takes : Yields i mid left out k) → RefusesAmong e d new out
     → RefusesOne (so.octets ++ takes.piece) old new
 refuses_one e turns i k given mid left old d new out so takes stop = record {
   before = so.messages ++ stop.before;
@@ -111,7 +111,7 @@ stops_there (Write sent) turns octets left old new one is few = absurd is
 stops_there (Framing why) turns octets left old new one is few = absurd is
 stops_there Turns turns octets left old new one is few = absurd is
 
-pub message_stops : (e : ServeFault) (turns : ℕ) (i k : IntakeState) (given mid left : Option (List ℕ)) (old d new : Exporting) (out : List (List ℕ)) → Reaches turns i given mid old d → Takes i mid left out k → RefusesAmong e d new out
+pub message_stops : (e : ServeFault) (turns : ℕ) (i k : IntakeState) (given mid left : Option (List ℕ)) (old d new : Exporting) (out : List (List ℕ)) → Reaches turns i given mid old d → Yields i mid left out k → RefusesAmong e d new out
     → StopsServing e turns given left old new
 unfolding refuses_one
 message_stops e turns i k given mid left old d new out so takes stop = record {
@@ -134,7 +134,7 @@ record FaultIn (w : DecodeError) (turns : ℕ) (given left : Option (List ℕ)) 
   pub before : OffersBefore w octets old d
   pub few : AreRead turns octets
 
-faulty : (w : DecodeError) (turns : ℕ) (i k : IntakeState) (given mid left : Option (List ℕ)) (old d : Exporting) → Reaches turns i given mid old d → HasFault w i mid left k → FaultIn w turns given left old d
+faulty : (w : DecodeError) (turns : ℕ) (i k : IntakeState) (given mid left : Option (List ℕ)) (old d : Exporting) → Reaches turns i given mid old d → StreamHasFault w i mid left k → FaultIn w turns given left old d
 faulty w turns i k given mid left old d so (inl was) = record {
   octets = so.octets;
   taken = same_read given mid left so.octets so.taken was.1.read;
@@ -158,7 +158,7 @@ faulty w turns i k given mid left old d so (inr now) = record {
 }
 
 -- the intake hands out nothing more
-pub intake_stops : (w : IntakeFault) (turns : ℕ) (i k : IntakeState) (given mid left : Option (List ℕ)) (old d : Exporting) → Reaches turns i given mid old d → Stops w i mid left k → StopsServing (intake_refusal w) turns given left old d
+pub intake_stops : (w : IntakeFault) (turns : ℕ) (i k : IntakeState) (given mid left : Option (List ℕ)) (old d : Exporting) → Reaches turns i given mid old d → StopsIntake w i mid left k → StopsServing (intake_refusal w) turns given left old d
 intake_stops intake.Read turns i k given mid left old d so stops = record {
   octets = so.octets;
   taken = same_read given mid left so.octets so.taken stops.read;

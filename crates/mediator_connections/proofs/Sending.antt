@@ -25,7 +25,7 @@ use Rattle.shared_mediator.specs.Handles.{IsBuilt, KeepsSome, MayRefusePull}
 use Rattle.mediator_connections.specs.declared.fault.ServeFault.{ServeFault}
 use Rattle.mediator_connections.specs.declared.fault.ServeFault.TheVariants.{Write, Mediator}
 use Rattle.mediator_connections.specs.Faults.{writer_after}
-use Rattle.mediator_connections.specs.Delivering.{octets_of, IsDue, Pulls, Delivers, StopsInside, FailsToDeliver, Sends, StopsSending}
+use Rattle.mediator_connections.specs.Delivering.{octets_of, IsDue, PullsSome, DeliversSome, StopsInsideMessages, FailsToDeliver, Sends, StopsSending}
 
 -- ---- how long a message is
 
@@ -82,7 +82,7 @@ all_pushed : {X : Type 0} (P : X → Type 0) (xs : List X) (x : X) → AllByRecu
 all_pushed P [] x all p = (p, tt)
 all_pushed P (y ∷ xs) x all p = (all.0, all_pushed P xs x all.1 p)
 
-pub sends_none : (Shows : ℕ → Type 0) (target : ℕ) (d : Delivering) (held : Option (List ℕ)) → Delivers Shows target 0 d d (writer_of held held)
+pub sends_none : (Shows : ℕ → Type 0) (target : ℕ) (d : Delivering) (held : Option (List ℕ)) → DeliversSome Shows target 0 d d (writer_of held held)
 sends_none Shows target d held = record {
   messages = [];
   pulls = record { sub = refl; kept = sym (append-nil d.kept); due = tt };
@@ -91,7 +91,7 @@ sends_none Shows target d held = record {
 }
 
 -- nothing was pulled
-pub sends_same : (Shows : ℕ → Type 0) (target sent : ℕ) (old d e : Delivering) (held holds : Option (List ℕ)) → Delivers Shows target sent old d (writer_of held holds) → e.kept ≡ d.kept → e.sub ≡ d.sub → Delivers Shows target sent old e (writer_of held holds)
+pub sends_same : (Shows : ℕ → Type 0) (target sent : ℕ) (old d e : Delivering) (held holds : Option (List ℕ)) → DeliversSome Shows target sent old d (writer_of held holds) → e.kept ≡ d.kept → e.sub ≡ d.sub → DeliversSome Shows target sent old e (writer_of held holds)
 sends_same Shows target sent old d e held holds so kept sub = record {
   messages = so.messages;
   pulls = record { sub = sub ∙ so.pulls.sub; kept = kept ∙ so.pulls.kept; due = so.pulls.due };
@@ -104,7 +104,7 @@ all_behind : {X : Type 0} (P : X → Type 0) (xs ys : List X) → AllByRecursion
 all_behind P [] ys all then = then
 all_behind P (x ∷ xs) ys all then = (all.0, all_behind P xs ys all.1 then)
 
-pulls_on : (Shows : ℕ → Type 0) (target : ℕ) (old d e : Delivering) (messages more : List Handed) → Pulls Shows target old d messages → Pulled Shows target d e more → Pulls Shows target old e (messages ++ more)
+pulls_on : (Shows : ℕ → Type 0) (target : ℕ) (old d e : Delivering) (messages more : List Handed) → PullsSome Shows target old d messages → Pulled Shows target d e more → PullsSome Shows target old e (messages ++ more)
 pulls_on Shows target old d e messages more so p = record {
   sub = p.sub ∙ so.sub;
   kept = p.kept ∙ ap (λ t. t ++ more) so.kept ∙ append_assoc old.kept messages more;
@@ -115,8 +115,8 @@ octets_joined : (messages more : List Handed) → octets_of (messages ++ more) �
 octets_joined messages more = flat_map-append (λ k. k.message) messages more
 
 -- and written
-pub sends_on : (Shows : ℕ → Type 0) (target sent n : ℕ) (old d e : Delivering) (more : List Handed) (held holds writes : Option (List ℕ)) → Delivers Shows target sent old d (writer_of held holds) → Pulled Shows target d e more
-    → Sends (octets_of more) sent n holds writes → Delivers Shows target n old e (writer_of held writes)
+pub sends_on : (Shows : ℕ → Type 0) (target sent n : ℕ) (old d e : Delivering) (more : List Handed) (held holds writes : Option (List ℕ)) → DeliversSome Shows target sent old d (writer_of held holds) → Pulled Shows target d e more
+    → Sends (octets_of more) sent n holds writes → DeliversSome Shows target n old e (writer_of held writes)
 sends_on Shows target sent n old d e more held holds writes so p sends = record {
   messages = so.messages ++ more;
   pulls = pulls_on Shows target old d e so.messages more so.pulls p;
@@ -136,14 +136,14 @@ front_behind before due front held holds writes failed so stops = record {
 }
 
 -- inside the messages that were pulled at once
-pub sends_inside : (f : ServeFault) (Shows : ℕ → Type 0) (target sent : ℕ) (old d e : Delivering) (more : List Handed) (held holds writes : Option (List ℕ)) (failed : Bool) → Delivers Shows target sent old d (writer_of held holds) → Pulled Shows target d e more
+pub sends_inside : (f : ServeFault) (Shows : ℕ → Type 0) (target sent : ℕ) (old d e : Delivering) (more : List Handed) (held holds writes : Option (List ℕ)) (failed : Bool) → DeliversSome Shows target sent old d (writer_of held holds) → Pulled Shows target d e more
     → length more ≤ 32 → StopsSending f (octets_of more) sent holds writes failed → FailsToDeliver f Shows target old e (writer_of held writes) failed
 sends_inside f Shows target sent old d e more held holds writes failed so p few stops = rw stops.is inside
   where
     place : sent + stops.front ≡ length (octets_of so.messages) + stops.front
     place = ap (λ n. n + stops.front) so.counted
 
-    inside : StopsInside Shows target (sent + stops.front) old e (writer_of held writes) failed
+    inside : StopsInsideMessages Shows target (sent + stops.front) old e (writer_of held writes) failed
     inside = record {
       messages = so.messages;
       last = more;
@@ -231,6 +231,6 @@ sending_stops f messages begun sent place h other held holds writes failed so l 
     }
 
 -- a pull is refused
-pub refused : (f : ServeFault) (why : Fault) (Shows : ℕ → Type 0) (target sent : ℕ) (old d e : Delivering) (held holds : Option (List ℕ)) (failed : Bool) → f ≡ Mediator why → MayRefusePull why → e ≡ d → Delivers Shows target sent old d (writer_of held holds)
+pub refused : (f : ServeFault) (why : Fault) (Shows : ℕ → Type 0) (target sent : ℕ) (old d e : Delivering) (held holds : Option (List ℕ)) (failed : Bool) → f ≡ Mediator why → MayRefusePull why → e ≡ d → DeliversSome Shows target sent old d (writer_of held holds)
     → FailsToDeliver f Shows target old e (writer_of held holds) failed
-refused f why Shows target sent old d e held holds failed is may same so = rw is ((sent, subst (λ x. Delivers Shows target sent old x (writer_of held holds)) (sym same) so), may)
+refused f why Shows target sent old d e held holds failed is may same so = rw is ((sent, subst (λ x. DeliversSome Shows target sent old x (writer_of held holds)) (sym same) so), may)

@@ -23,7 +23,7 @@ abbrev pub ahead : InputState → Option (List ℕ) → Option (List ℕ)
 ahead i left = prepend_known i.pending left
 
 -- these octets were handed out; each read for them gave some
-pub record HandsOut (old : InputState) (given left : Option (List ℕ)) (octets : List ℕ) (new : InputState) : Type 0 where
+pub record HandsOutOctets (old : InputState) (given left : Option (List ℕ)) (octets : List ℕ) (new : InputState) : Type 0 where
   pub taken : Consumes (ahead old given) (ahead new left) octets
   pub reads : length old.pending + old.turns ≤ length octets + length new.pending + new.turns
 
@@ -41,15 +41,15 @@ pub record IsLine (line octets : List ℕ) : Type 0 where
 -- no memory
 abbrev pub StopsReading : ServeFault → InputState → Option (List ℕ) → Option (List ℕ) → List ℕ → InputState → Type 0
 StopsReading Read old given left octets new = Consumes (ahead old given) (ahead new left) octets
-StopsReading Turns old given left octets new = HandsOut old given left octets new × (new.pending ≡ []) × (new.turns ≡ 0)
+StopsReading Turns old given left octets new = HandsOutOctets old given left octets new × (new.pending ≡ []) × (new.turns ≡ 0)
 StopsReading (Framing framing.CutOff) old given left octets new = EndsBehind old given left octets
-StopsReading (Mediator fault.OutOfMemory) old given left octets new = HandsOut old given left octets new
+StopsReading (Mediator fault.OutOfMemory) old given left octets new = HandsOutOctets old given left octets new
 StopsReading _ old given left octets new = ⊥
 
 -- where the input ended inside a command, some octets of it were handed out
-abbrev pub IsBegun : ServeFault → List ℕ → Type 0
-IsBegun (Framing framing.CutOff) octets = 0 < length octets
-IsBegun _ octets = Unit {0}
+abbrev pub IsInside : ServeFault → List ℕ → Type 0
+IsInside (Framing framing.CutOff) octets = 0 < length octets
+IsInside _ octets = Unit {0}
 
 -- ---- what no public clause cites
 

@@ -24,32 +24,32 @@ pub record IsDue (Shows : ℕ → Type 0) (target : ℕ) (h : Handed) : Type 0 w
   pub built : IsBuilt now target h
 
 -- these messages were pulled: the handle keeps them behind those that it had
-pub record Pulls (Shows : ℕ → Type 0) (target : ℕ) (old new : Delivering) (messages : List Handed) : Type 0 where
+pub record PullsSome (Shows : ℕ → Type 0) (target : ℕ) (old new : Delivering) (messages : List Handed) : Type 0 where
   pub sub : new.sub ≡ old.sub
   pub kept : new.kept ≡ old.kept ++ messages
   pub due : AllByRecursion (IsDue Shows target) messages
 
 -- messages were pulled, and all of them were written and their octets counted
-pub record Delivers (Shows : ℕ → Type 0) (target sent : ℕ) (old new : Delivering) (writer : Writer) : Type 0 where
+pub record DeliversSome (Shows : ℕ → Type 0) (target sent : ℕ) (old new : Delivering) (writer : Writer) : Type 0 where
   pub messages : List Handed
-  pub pulls : Pulls Shows target old new messages
+  pub pulls : PullsSome Shows target old new messages
   pub written : Appends writer.held writer.holds (octets_of messages)
   pub counted : sent ≡ length (octets_of messages)
 
 -- messages were pulled, and the first so many octets of them were written, which end inside the last ones, of which at most so many are
 -- pulled at once; then the writer failed
-pub record StopsInside (Shows : ℕ → Type 0) (target sent : ℕ) (old new : Delivering) (writer : Writer) (has_failed : Bool) : Type 0 where
+pub record StopsInsideMessages (Shows : ℕ → Type 0) (target sent : ℕ) (old new : Delivering) (writer : Writer) (has_failed : Bool) : Type 0 where
   pub messages : List Handed
   pub last : List Handed
   pub few : length last ≤ MOST_AT_ONCE
-  pub pulls : Pulls Shows target old new (messages ++ last)
+  pub pulls : PullsSome Shows target old new (messages ++ last)
   pub written : WritesFront writer.held writer.holds (octets_of (messages ++ last)) sent has_failed
   pub whole : length (octets_of messages) ≤ sent
 
 -- why it stops, and what was written then: at a refusal, all that was pulled
 abbrev pub FailsToDeliver : ServeFault → (ℕ → Type 0) → ℕ → Delivering → Delivering → Writer → Bool → Type 0
-FailsToDeliver (Write sent) Shows target old new writer has_failed = StopsInside Shows target sent old new writer has_failed
-FailsToDeliver (Mediator why) Shows target old new writer has_failed = ((sent : ℕ) × Delivers Shows target sent old new writer) × MayRefusePull why
+FailsToDeliver (Write sent) Shows target old new writer has_failed = StopsInsideMessages Shows target sent old new writer has_failed
+FailsToDeliver (Mediator why) Shows target old new writer has_failed = ((sent : ℕ) × DeliversSome Shows target sent old new writer) × MayRefusePull why
 FailsToDeliver _ Shows target old new writer has_failed = ⊥
 
 -- what an administrator's handle keeps then: where the writer failed, the end of the subscription, unless that is refused

@@ -86,7 +86,7 @@ pub record RefusesOne (octets : List ℕ) (old new : Exporting) : Type 0 where
   pub offers : Offers old new before
 
 -- what the last read gave found no memory, or there was none before the first; all whole messages of the octets before that were offered
-pub record LosesPiece (why : Fault) (octets : List ℕ) (old new : Exporting) : Type 0 where
+pub record LosesLastRead (why : Fault) (octets : List ℕ) (old new : Exporting) : Type 0 where
   pub memory : why ≡ fault.OutOfMemory
   pub fed : List ℕ
   pub piece : List ℕ
@@ -102,7 +102,7 @@ StopsAt Turns turns octets left old new = ((pending : List ℕ) × OffersWhole o
 StopsAt (Framing framing.CutOff) turns octets left old new = ((pending : List ℕ) × OffersWhole octets pending old new × (0 < length pending)) × AreReadBut turns octets × IsAtEnd left
 StopsAt (Framing framing.BadVersion) turns octets left old new = OffersBefore frame.BadVersion octets old new × AreRead turns octets
 StopsAt (Framing framing.BadLength) turns octets left old new = OffersBefore frame.BadLength octets old new × AreRead turns octets
-StopsAt (Mediator why) turns octets left old new = ((RefusesOne octets old new × MayRefuseOffer why) ⊎ LosesPiece why octets old new) × AreRead turns octets
+StopsAt (Mediator why) turns octets left old new = ((RefusesOne octets old new × MayRefuseOffer why) ⊎ LosesLastRead why octets old new) × AreRead turns octets
 StopsAt TooWide turns octets left old new = ((one : RefusesOne octets old new) × IsTooWideAt one.message) × AreRead turns octets
 StopsAt TooManyCounts turns octets left old new = ((one : RefusesOne octets old new) × CountsTooMany one.message) × AreRead turns octets
 StopsAt _ turns octets left old new = ⊥

@@ -7,7 +7,7 @@ ghost use Rattle.admin_text.specs.Reading.{command_of};
 ghost use Rattle.admin_text.specs.Answers.{WritesAnswer};
 ghost use Rattle.mediator_connections.specs.Faults.{reader_after, writer_after};
 ghost use Rattle.mediator_connections.specs.CommandInput.{EndsBehind, StopsReading};
-ghost use Rattle.mediator_connections.specs.Answering.{handle_of, Edits, Subscribes, Unsubscribes, Advances, TellsStatus, DrainsAudit, Tells, Exchange, ServesAdmin, StopsAdmin, Performs, Hears, StopsHearing, StopsReplying};
+ghost use Rattle.mediator_connections.specs.Answering.{handle_of, AnswersEdit, AnswersSubscribe, AnswersUnsubscribe, AnswersAdvance, TellsStatus, DrainsAudit, TellsPage, Exchange, ServesAdmin, StopsAdmin, Performs, Hears, StopsHearing, StopsReplying};
 
 use crate::command_input::CommandInput;
 use crate::control::{Control, Patience};
@@ -249,7 +249,7 @@ fn perform<E: EntryLedger, H: RecordLedger, R: Source, C: Control>(
         Command::Unsubscribe { sub } => Ok(unsubscribe(rt, shared, handle, sub)),
         Command::Advance { t } => Ok(advance(rt, shared, handle, t, control)),
         Command::Status { sub } => Ok(status(rt, shared, handle, sub)),
-        Command::Audit { max } => Ok(drain_audit(rt, alloc, shared, handle, max)),
+        Command::Audit { most } => Ok(drain_audit(rt, alloc, shared, handle, most)),
         Command::Tell { topic } => Ok(tell(handle, topic, control)),
         Command::Stop => {
             control.stop();
@@ -265,7 +265,7 @@ fn edit<E: EntryLedger, H: RecordLedger>(
     handle: &mut AdminHandle<E>,
     octets: &[u8],
 ) -> Answer
-    ensures { Edits octets.now result handle.old handle.new }
+    ensures { AnswersEdit octets.now result handle.old handle.new }
 {
     match from_utf8(octets) {
         Ok(text) => edit_by_text(rt, shared, handle, text),
@@ -280,7 +280,7 @@ fn edit_by_text<E: EntryLedger, H: RecordLedger>(
     handle: &mut AdminHandle<E>,
     text: &str,
 ) -> Answer
-    ensures { Edits text.now result handle.old handle.new }
+    ensures { AnswersEdit text.now result handle.old handle.new }
 {
     match handle.edit(rt, shared, text) {
         Ok(revision) => Answer::Edited(revision),
@@ -295,7 +295,7 @@ fn subscribe<E: EntryLedger, H: RecordLedger>(
     handle: &mut AdminHandle<E>,
     octets: &[u8],
 ) -> Answer
-    ensures { Subscribes octets.now result handle.old handle.new }
+    ensures { AnswersSubscribe octets.now result handle.old handle.new }
 {
     match from_utf8(octets) {
         Ok(name) => subscribe_by_name(rt, shared, handle, name),
@@ -311,7 +311,7 @@ fn subscribe_by_name<E: EntryLedger, H: RecordLedger>(
     handle: &mut AdminHandle<E>,
     name: &str,
 ) -> Answer
-    ensures { Subscribes name.now result handle.old handle.new }
+    ensures { AnswersSubscribe name.now result handle.old handle.new }
 {
     match handle.subscribe(rt, shared, name) {
         Ok(sub) => Answer::Subscribed(sub.0),
@@ -326,7 +326,7 @@ fn unsubscribe<E: EntryLedger, H: RecordLedger>(
     handle: &mut AdminHandle<E>,
     sub: u64,
 ) -> Answer
-    ensures { Unsubscribes sub result handle.old handle.new }
+    ensures { AnswersUnsubscribe sub result handle.old handle.new }
 {
     match handle.unsubscribe(rt, shared, SubId(sub)) {
         Ok(()) => Answer::Done,
@@ -342,7 +342,7 @@ fn advance<E: EntryLedger, H: RecordLedger, P: Patience>(
     t: u64,
     patience: &P,
 ) -> Answer
-    ensures { Advances t result handle.old handle.new }
+    ensures { AnswersAdvance t result handle.old handle.new }
 {
     wait_for_advance(rt, shared, t, patience);
     match handle.advance(rt, shared, t) {
@@ -368,7 +368,7 @@ fn status<E: EntryLedger, H: RecordLedger>(
 
 /// The lines of a page.
 fn tell<E: EntryLedger, C: Control>(handle: &AdminHandle<E>, topic: Topic, control: &C) -> Answer
-    ensures { Tells result handle.now handle.now }
+    ensures { TellsPage result handle.now handle.now }
 {
     match control.tell(topic, handle.kept()) {
         Ok(page) => Answer::Told(page),

@@ -3,7 +3,7 @@ ghost use Rattle.std.specs.Prelude.{◌≡◌, ℕ, ◌+◌, ◌≤◌, ◌<◌,
 ghost use Rattle.std.specs.Io.KnownBytes.{Consumes, IsAtEnd, Keeps};
 ghost use Rattle.mediator_connections.specs.declared.fault.ServeFault.TheVariants.{Read};
 ghost use Rattle.mediator_connections.specs.Faults.{reader_after};
-ghost use Rattle.mediator_connections.specs.CommandInput.{unread, Fills, HandsOut, EndsBehind, IsLine, IsBegun, StopsReading};
+ghost use Rattle.mediator_connections.specs.CommandInput.{unread, Fills, HandsOutOctets, EndsBehind, IsLine, IsInside, StopsReading};
 
 use crate::fault::ServeFault;
 use admin_text::LONGEST_LINE;
@@ -70,13 +70,13 @@ impl CommandInput {
         // The line, or that the input ended before it.
         ensures ok { IfOk result (λ found. MatchOption found
             (EndsBehind self.old (R.remaining reader.old) (R.remaining reader.new) [])
-            (λ line. (octets : List ℕ) × IsLine line.items octets × HandsOut self.old
+            (λ line. (octets : List ℕ) × IsLine line.items octets × HandsOutOctets self.old
             (R.remaining reader.old) (R.remaining reader.new) octets self.new)) }
         ensures sound { OnOk result (R.has_failed reader.new ≡ false) }
         // The reader has failed only where the fault is `Read`; and behind which octets of the line it stopped.
         ensures fails { IfErr result (λ e. R.has_failed reader.new ≡ reader_after e) }
         ensures err { IfErr result (λ e. (octets : List ℕ) × StopsReading e self.old
-            (R.remaining reader.old) (R.remaining reader.new) octets self.new × IsBegun e octets) }
+            (R.remaining reader.old) (R.remaining reader.new) octets self.new × IsInside e octets) }
     {
         let mut line = Vec::new(alloc);
         'octets: while line.len() <= LONGEST_LINE {
@@ -105,7 +105,7 @@ impl CommandInput {
     ) -> Result<Vec<u8>, ServeFault>
         requires reader { R.has_failed reader.old ≡ false }
         // The next octets, and just as many as are wanted.
-        ensures ok { IfOk result (λ text. HandsOut self.old
+        ensures ok { IfOk result (λ text. HandsOutOctets self.old
             (R.remaining reader.old) (R.remaining reader.new) text.items self.new) }
         ensures count { IfOk result (λ text. length text.items ≡ count) }
         // The reader has failed only where the fault is `Read`; and behind which octets of the text it stopped.
@@ -136,13 +136,13 @@ impl CommandInput {
         // The next octet, or that the input ended before it.
         ensures ok { IfOk result (λ found. MatchOption found
             (EndsBehind self.old (R.remaining reader.old) (R.remaining reader.new) [])
-            (λ octet. HandsOut self.old (R.remaining reader.old) (R.remaining reader.new)
+            (λ octet. HandsOutOctets self.old (R.remaining reader.old) (R.remaining reader.new)
             (octet ∷ []) self.new)) }
         ensures sound { OnOk result (R.has_failed reader.new ≡ false) }
         // The reader has failed only where the fault is `Read`. No octet was handed out.
         ensures fails { IfErr result (λ e. R.has_failed reader.new ≡ reader_after e) }
         ensures err { IfErr result (λ e. StopsReading e self.old
-            (R.remaining reader.old) (R.remaining reader.new) [] self.new × IsBegun e []) }
+            (R.remaining reader.old) (R.remaining reader.new) [] self.new × IsInside e []) }
     {
         self.fill(reader)?;
         Ok(self.pop())
@@ -161,7 +161,7 @@ impl CommandInput {
         // The reader has failed only where the fault is `Read`. No octet was handed out.
         ensures fails { IfErr result (λ e. R.has_failed reader.new ≡ reader_after e) }
         ensures err { IfErr result (λ e. StopsReading e self.old
-            (R.remaining reader.old) (R.remaining reader.new) [] self.new × IsBegun e []) }
+            (R.remaining reader.old) (R.remaining reader.new) [] self.new × IsInside e []) }
     {
         if self.from != self.to {
             return Ok(());

@@ -3,7 +3,7 @@ ghost use Rattle.std.specs.Prelude.{◌≡◌, ◌+◌, ◌<◌, ◌^◌, false,
 ghost use Rattle.std.specs.Io.KnownBytes.{Appends};
 ghost use Rattle.octet_io.specs.Moments.{writer_of};
 ghost use Rattle.mediator_connections.specs.Faults.{writer_after};
-ghost use Rattle.mediator_connections.specs.Delivering.{Delivers, FailsToDeliver, Sends, StopsSending, EndsOnWrite, octets_of};
+ghost use Rattle.mediator_connections.specs.Delivering.{DeliversSome, FailsToDeliver, Sends, StopsSending, EndsOnWrite, octets_of};
 
 use crate::clock::Clock;
 use crate::fault::ServeFault;
@@ -45,7 +45,7 @@ pub fn deliver<E: EntryLedger, H: RecordLedger, W: Sink, C: Clock>(
 ) -> Result<u64, (ServeFault, u64)>
     requires writer { W.has_failed writer.old ≡ false }
     // All that was pulled was written.
-    ensures delivers { IfOk result (λ sent. Delivers (C.shows clock.now) target sent
+    ensures delivers { IfOk result (λ sent. DeliversSome (C.shows clock.now) target sent
         handle.old handle.new (writer_of (W.contents writer.old) (W.contents writer.new))) }
     ensures sound { OnOk result (W.has_failed writer.new ≡ false) }
     // Where it stopped, and what was written by then.
@@ -109,7 +109,7 @@ fn send_messages<E: EntryLedger, H: RecordLedger, W: Sink, C: Clock>(
 ) -> Result<u64, ServeFault>
     requires writer { W.has_failed writer.old ≡ false }
     // All that was pulled was written.
-    ensures delivers { IfOk result (λ sent. Delivers (C.shows clock.now) target sent
+    ensures delivers { IfOk result (λ sent. DeliversSome (C.shows clock.now) target sent
         handle.old handle.new (writer_of (W.contents writer.old) (W.contents writer.new))) }
     ensures sound { OnOk result (W.has_failed writer.new ≡ false) }
     // Where it stopped, and what was written by then.

@@ -136,6 +136,6 @@ pub fn run(alloc: Global, limits: Limits, calls: Vec<Call>) -> Result<Transcript
         let reply = answer(&mut mediator, call);
         replies.push_reserved(reply);
     }
-    let _journal = mediator.journal();
+    let _for_proof = mediator.journal();
     Ok(Transcript { replies, mediator })
 }

@@ -16,7 +16,7 @@ use Rattle.flow_aggregate.specs.declared.timing.Timing.TheVariants as timing
 use Rattle.event_journal.specs.declared.entry.Entry.{Entry}
 use Rattle.event_journal.specs.declared.entry.Entry.TheVariants.{Message, Cut}
 use Rattle.mediator_history.specs.Subscriptions.{policy_in_force, served}
-use Rattle.mediator_history.specs.Accepted.{Accepted, accepted_at}
+use Rattle.mediator_history.specs.Accepted.{AcceptedRecord, accepted_at}
 use Rattle.mediator_history.specs.Counting.{outcome_for, clock_of, timing_at}
 
 -- what was kept back of a record; nothing of one that passes with all its fields
@@ -40,7 +40,7 @@ abbrev pub audit_entry : ℕ → ℕ → ℕ → What → AuditEntry
 audit_entry position index sub said = record { position = position; index = index; sub = sub; what = said }
 
 -- what is kept back of an accepted record from a subscription
-abbrev pub audit_of : List Entry → Accepted → ℕ → List AuditEntry
+abbrev pub audit_of : List Entry → AcceptedRecord → ℕ → List AuditEntry
 audit_of before a sub =
     map (audit_entry a.position a.index sub) (kept_back (policy_in_force before).aggregates (clock_of before) a.flow (outcome_for sub before a.domain a.flow))
 

@@ -1,6 +1,6 @@
 -- Which device has failed where a run stops.
 use Rattle.std.proofs.Common.{◌≡◌, Bool, false, List, ℕ, Option, refl, ap, ◌∙◌}
-use Rattle.mediator_offline.specs.declared.run.Run.{Run}
+use Rattle.mediator_offline.specs.declared.run.OfflineRun.{OfflineRun}
 use Rattle.mediator_state.specs.declared.fault.Fault.TheVariants as fault
 use Rattle.mediator_offline.specs.declared.job.OfflineFault.{OfflineFault}
 use Rattle.mediator_offline.specs.declared.job.OfflineFault.TheVariants.{Write, Mediator, AuditWrite}
@@ -26,7 +26,7 @@ lines_only e x had w audit_had a is cause fails same = rw is (only x cause fails
     only _ c f = absurd c
 
 -- of a delivery, the writer alone
-pub delivery_only : (e x : OfflineFault) (d : Run) (held holds : Option (List ℕ)) (had w audit_had : Bool) → e ≡ x → FailsDelivery x d held holds w → w ≡ writer_after x had → FailsOnly e had audit_had false w audit_had
+pub delivery_only : (e x : OfflineFault) (d : OfflineRun) (held holds : Option (List ℕ)) (had w audit_had : Bool) → e ≡ x → FailsDelivery x d held holds w → w ≡ writer_after x had → FailsOnly e had audit_had false w audit_had
 delivery_only e x d held holds had w audit_had is delivery fails = rw is (only x delivery.stops fails)
   where
     only : (y : OfflineFault) → StopsDelivery y d held holds w delivery.messages → w ≡ writer_after y had → FailsOnly y had audit_had false w audit_had

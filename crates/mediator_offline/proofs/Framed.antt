@@ -12,7 +12,7 @@ use Rattle.ipfix_message.specs.Framing.{IsWhole, IsFramed}
 use Rattle.ipfix_message.proofs.FramingLaws.{framed_once}
 use Rattle.ipfix_message.proofs.FramerLaws.{all_framed}
 use Rattle.ipfix_session.specs.Meaning.{domain_of, items_of_domain, read_items, contents_of, Meaning, gap_of, meaning_of}
-use Rattle.stream_meaning.specs.Means.{plain_meaning, AreRead, Means}
+use Rattle.stream_meaning.specs.Means.{plain_meaning, AreReadAs, Means}
 
 -- a message that is read is whole
 read_is_whole : (older : List (List ℕ)) (octets : List ℕ) (m : Meaning) → meaning_of older octets ≡ Ok m → IsWhole octets
@@ -30,7 +30,7 @@ read_is_whole older octets m means = by_tests (ltb (length octets) 16) (eqb (num
       whole = eqb-true (number_at 2 2 octets) (length octets) f;
     }
 
-all_whole : (messages : List (List ℕ)) (handed : ℕ) (older : List (List ℕ)) (records : List DataRecord) → AreRead handed older messages records → All IsWhole messages
+all_whole : (messages : List (List ℕ)) (handed : ℕ) (older : List (List ℕ)) (records : List DataRecord) → AreReadAs handed older messages records → All IsWhole messages
 all_whole [] handed older records read = All-nil IsWhole
 all_whole (message ∷ messages) handed older records read =
     All-cons IsWhole message messages (read_is_whole older message (plain_meaning read.0 handed read.1) read.4)

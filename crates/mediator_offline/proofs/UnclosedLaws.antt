@@ -9,7 +9,7 @@ use Rattle.sequences.proofs.BeforeLaws.{last_of-none}
 use Rattle.sequences.proofs.ListLaws.{AllByRecursion-append}
 use Rattle.ipfix_template.specs.DataRecord.{DataRecord}
 use Rattle.policy_text.specs.Words.{lines_of}
-use Rattle.policy_text.specs.Policies.{Meaning as Policy, Aggregate, nothing as no_policy}
+use Rattle.policy_text.specs.Policies.{PolicyMeaning as Policy, Aggregate, nothing as no_policy}
 use Rattle.policy_text.specs.Parsing.{policy_of}
 use Rattle.policy_text.specs.Grammar.{AreAggregates}
 use Rattle.policy_text.specs.declared.fault.PolicyFault.{PolicyFault}
@@ -29,14 +29,14 @@ use Rattle.flow_aggregate.specs.declared.timing.Timing.TheVariants.{Placed, NoTi
 use Rattle.flow_aggregate.specs.Placing.{start_of, interval_start, closes_at, has_key, timing_of, timing_at as placed_at}
 use Rattle.event_journal.specs.declared.entry.Entry.{Entry}
 use Rattle.event_journal.specs.declared.entry.Entry.TheVariants.{Message, Edit, Advance, Cut}
-use Rattle.mediator_history.specs.Subscriptions.{policy_or_none, edited, policy_in_force, name_of, served}
-use Rattle.mediator_history.specs.Accepted.{Accepted, accepted_at}
+use Rattle.mediator_history.specs.Subscriptions.{policy_or_none, policy_from, policy_in_force, name_of, served}
+use Rattle.mediator_history.specs.Accepted.{AcceptedRecord, accepted_at}
 use Rattle.mediator_history.specs.Counting.{clock_in, timing_at, outcome_for}
 use Rattle.mediator_history.specs.Disclosed.{given_at}
 use Rattle.mediator_history.specs.Auditing.{removed_of, told_of, kept_back, audit_entry, audit_of, audit_at, audit_list}
 use Rattle.mediator_history.specs.Cuts.{is_cut_by}
 use Rattle.mediator_offline.specs.declared.job.OfflineJob.{OfflineJob}
-use Rattle.mediator_offline.specs.Offline.{started, stream_limits, next_message, cuts_by, after_message, history_of, disclosed_by}
+use Rattle.mediator_offline.specs.Offline.{first_entries, stream_limits, next_message, cuts_by, after_message, history_of, disclosed_by}
 use Rattle.mediator_offline.specs.Unclosed.{passing_at, passing_by, IsNotLate}
 
 -- ---- the clock
@@ -55,7 +55,7 @@ none_after [] h none = none
 none_after (octets ∷ messages) h none = none_after messages (after_message h octets) (none_more h octets none)
 
 pub no_advance : (job : OfflineJob) (messages : List (List ℕ)) → HasNone clock_in (history_of job messages)
-no_advance job messages = none_after messages (started job) (refl, (refl, (refl, tt)))
+no_advance job messages = none_after messages (first_entries job) (refl, (refl, (refl, tt)))
 
 -- ---- what passes
 
@@ -84,7 +84,7 @@ intervals_of : (before aggregates : List Aggregate) → AreAggregates before agg
 intervals_of before [] are = tt
 intervals_of before (a ∷ aggregates) are = (are.0.ranged.interval_low, intervals_of (before ++ a ∷ []) aggregates are.1)
 
-edited_lasts : (e : Entry) (policy : Policy) → edited e ≡ Some policy → HaveIntervals policy.aggregates
+edited_lasts : (e : Entry) (policy : Policy) → policy_from e ≡ Some policy → HaveIntervals policy.aggregates
 edited_lasts (Edit text) policy is = by (policy_of text) refl is where
   by : (r : Result Policy PolicyFault) → policy_of text ≡ r → policy_or_none r ≡ Some policy → HaveIntervals policy.aggregates
   by (Ok q) read is = subst (λ p. HaveIntervals p.aggregates) same (intervals_of [] q.aggregates (spelled_kept q (lines_of text) (policy_of-found text q read)).aggregates) where
@@ -93,10 +93,10 @@ edited_lasts (Edit text) policy is = by (policy_of text) refl is where
   by (Err why) read is = absurd cc
 edited_lasts _ policy is = absurd cc
 
-last_lasts : (start : Policy) (h : List Entry) → HaveIntervals start.aggregates → HaveIntervals (last_of edited start h).aggregates
+last_lasts : (start : Policy) (h : List Entry) → HaveIntervals start.aggregates → HaveIntervals (last_of policy_from start h).aggregates
 last_lasts start [] lasts = lasts
-last_lasts start (e ∷ h) lasts = last_lasts (unwrap_or (edited e) start) h (by (edited e) refl) where
-  by : (o : Option Policy) → edited e ≡ o → HaveIntervals (unwrap_or o start).aggregates
+last_lasts start (e ∷ h) lasts = last_lasts (unwrap_or (policy_from e) start) h (by (policy_from e) refl) where
+  by : (o : Option Policy) → policy_from e ≡ o → HaveIntervals (unwrap_or o start).aggregates
   by None is = lasts
   by (Some policy) is = edited_lasts e policy is
 
@@ -156,7 +156,7 @@ stamped : (position index sub : ℕ) (said : List What) → AllByRecursion SaysO
 stamped position index sub [] other = tt
 stamped position index sub (one ∷ said) other = (other.0, stamped position index sub said other.1)
 
-noted : (before : List Entry) (a : Accepted) (sub : ℕ) → HasNone clock_in before → AllByRecursion IsNotLate (audit_of before a sub)
+noted : (before : List Entry) (a : AcceptedRecord) (sub : ℕ) → HasNone clock_in before → AllByRecursion IsNotLate (audit_of before a sub)
 noted before a sub none =
     let P : ℕ → Type 0 = λ clock. AllByRecursion IsNotLate (map (audit_entry a.position a.index sub) (kept_back (policy_in_force before).aggregates clock a.flow (outcome_for sub before a.domain a.flow))) in
     subst P (sym (last_of-none clock_in 0 before none))

@@ -21,7 +21,7 @@ use Rattle.mediator_offline.specs.Lines.{WritesOn}
 use Rattle.mediator_offline.specs.Offline.{cuts_by, history_of, disclosed_by, audit_due}
 use Rattle.mediator_offline.specs.Due.{AreDue}
 use Rattle.mediator_offline.specs.Opening.{IsAcceptedJob, RefusesJob}
-use Rattle.mediator_offline.specs.Accepting.{Accepts, RefusesMessage, AreAccepted}
+use Rattle.mediator_offline.specs.Accepting.{AcceptsMessage, RefusesOctets, AreAccepted}
 
 -- so many reads, each of at most 65,536 octets, may have given these
 abbrev pub AreRead : ℕ → List ℕ → Type 0
@@ -77,15 +77,15 @@ pub record WritesPart (job : OfflineJob) (messages written : List (List ℕ)) (o
 -- memory runs out. These were due for the messages before it, and were written
 abbrev pub StopsAtMessage : OfflineFault → OfflineJob → List (List ℕ) → List (List ℕ) → List ℕ → Outputs → Outputs → Type 0
 StopsAtMessage (Mediator fault.OutOfMemory) job messages written octets before after = WritesPart job messages written octets before after
-StopsAtMessage (Mediator why) job messages written octets before after = RefusesMessage why (history_of job messages) octets × Writes before after written (audit_due job messages)
+StopsAtMessage (Mediator why) job messages written octets before after = RefusesOctets why (history_of job messages) octets × Writes before after written (audit_due job messages)
 StopsAtMessage (Write sent) job messages written octets before after =
-    Accepts (history_of job messages) octets
+    AcceptsMessage (history_of job messages) octets
     × ((all : List (List ℕ)) × AreDue job [] 0 (messages ++ octets ∷ []) all × WritesFront before.written after.written (concat all) sent after.writer_failed)
     × Appends before.audited after.audited (audit_due job messages)
 StopsAtMessage Cut job messages written octets before after =
-    Accepts (history_of job messages) octets × (cuts_by (history_of job messages) octets ≡ CutEntry 1 ∷ []) × Writes before after written (audit_due job (messages ++ octets ∷ []))
+    AcceptsMessage (history_of job messages) octets × (cuts_by (history_of job messages) octets ≡ CutEntry 1 ∷ []) × Writes before after written (audit_due job (messages ++ octets ∷ []))
 StopsAtMessage AuditWrite job messages written octets before after =
-    Accepts (history_of job messages) octets
+    AcceptsMessage (history_of job messages) octets
     × ((all : List (List ℕ)) × AreDue job [] 0 (messages ++ octets ∷ []) all × Appends before.written after.written (concat all))
     × WritesOn before.audited after.audited (audit_due job messages) (audit_due job (messages ++ octets ∷ [])) × (after.audit_failed ≡ true)
 StopsAtMessage _ job messages written octets before after = ⊥
@@ -104,7 +104,7 @@ pub record StopsAtOne (e : OfflineFault) (job : OfflineJob) (octets : List ℕ) 
   pub stops : StopsAtMessage e job messages written message before after
 
 -- a piece that was read last found no memory; the octets before it were filtered
-pub record LosesPiece (why : Fault) (job : OfflineJob) (octets : List ℕ) (before after : Outputs) : Type 0 where
+pub record LosesLastPiece (why : Fault) (job : OfflineJob) (octets : List ℕ) (before after : Outputs) : Type 0 where
   pub memory : why ≡ fault.OutOfMemory
   pub fed : List ℕ
   pub piece : List ℕ
@@ -124,7 +124,7 @@ StopsHere (Framing framing.CutOff) job octets before after =
     ((messages : List (List ℕ)) × (pending : List ℕ) × IsFiltered job octets messages None pending before.outputs after.outputs × (0 < length pending)) × AreReadBut job.turns octets × IsAtEnd after.left
 StopsHere (Framing framing.BadVersion) job octets before after = ((messages : List (List ℕ)) × IsFiltered job octets messages (Some frame.BadVersion) [] before.outputs after.outputs) × AreRead job.turns octets
 StopsHere (Framing framing.BadLength) job octets before after = ((messages : List (List ℕ)) × IsFiltered job octets messages (Some frame.BadLength) [] before.outputs after.outputs) × AreRead job.turns octets
-StopsHere (Mediator why) job octets before after = (StopsAtOne (Mediator why) job octets before.outputs after.outputs ⊎ LosesPiece why job octets before.outputs after.outputs) × AreRead job.turns octets
+StopsHere (Mediator why) job octets before after = (StopsAtOne (Mediator why) job octets before.outputs after.outputs ⊎ LosesLastPiece why job octets before.outputs after.outputs) × AreRead job.turns octets
 StopsHere e job octets before after = StopsAtOne e job octets before.outputs after.outputs × AreRead job.turns octets
 
 -- the job is refused, and nothing was read or written

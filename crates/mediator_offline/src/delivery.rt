@@ -4,23 +4,23 @@ ghost use Rattle.mediator_state.specs.declared.fault.Fault.TheVariants.{OutOfMem
 ghost use Rattle.mediator_offline.specs.declared.job.OfflineFault.TheVariants.{Mediator};
 ghost use Rattle.mediator_offline.specs.Failing.{writer_after};
 ghost use Rattle.mediator_offline.specs.Runs.{IsServing, SameButState, KeepsAudit};
-ghost use Rattle.mediator_offline.specs.Pulling.{IsDelivering, Pulls, Delivers, FailsDelivery};
+ghost use Rattle.mediator_offline.specs.Pulling.{IsDeliveringRun, PullsMessage, Delivers, FailsDelivery};
 
 use crate::job::OfflineFault;
-use crate::run::{Run, SUBSCRIPTION};
+use crate::run::{OfflineRun, SUBSCRIPTION};
 use bytes::Bytes;
 use mediator_state::Fault;
 use octet_io::{Sink, write_all};
 use std::alloc::AllocError;
 
-impl<'a> Run<'a> {
+impl<'a> OfflineRun<'a> {
     /// Pulls the messages of what waits for the subscriber, until nothing waits, and writes them to `writer` in one piece.
     ///
     /// # Errors
     /// The writer failed, and the fault says how many octets of the whole run were written; or memory ran out, and then nothing
     /// was written.
     pub(crate) fn deliver<W: Sink>(&mut self, writer: &mut W) -> Result<(), OfflineFault>
-        requires delivering { IsDelivering self.old }
+        requires delivering { IsDeliveringRun self.old }
         // What waited was written.
         ensures ok { OnOk result (Delivers self.old self.new
             (W.contents writer.old) (W.contents writer.new)) }
@@ -49,7 +49,7 @@ impl<'a> Run<'a> {
     /// # Errors
     /// Want of memory.
     fn pull_all(&mut self) -> Result<Vec<u8>, OfflineFault>
-        requires delivering { IsDelivering self.old }
+        requires delivering { IsDeliveringRun self.old }
         // The text is what is due for what waited.
         ensures ok { IfOk result (λ text. Delivers self.old self.new (Some []) (Some text.items)) }
         // The job's numbers fit their types, also where it fails.
@@ -77,7 +77,7 @@ impl<'a> Run<'a> {
         ensures sent { self.new.sent ≡ self.old.sent }
         ensures audit { OnOk result (KeepsAudit self.old self.new) }
         // It is the next message of what waits.
-        ensures ok { IfOk result (λ m. Pulls self.old m self.new) }
+        ensures ok { IfOk result (λ m. PullsMessage self.old m self.new) }
         // The job's numbers fit their types, also where it fails.
         ensures below { self.old.job.target < 2 ^ 16 }
         ensures now_below { self.old.job.now < 2 ^ 32 }

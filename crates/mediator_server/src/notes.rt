@@ -1,7 +1,7 @@
 //! The notes of a run, a line of the log each: who came and went, and the totals.
 
 use crate::exporters::WhyEnded;
-use crate::run_state::TurnOver;
+use crate::run_state::Dismissal;
 use ipfix_session::Gap;
 use log::{Log, error, info, warn};
 use mediator_calls::{Limits, SessionId};
@@ -185,13 +185,13 @@ pub(crate) fn admin_ends(
     rt: &impl Log,
     peer: SocketAddr,
     answered: Result<u64, ServeFault>,
-    over: Option<TurnOver>,
+    over: Option<Dismissal>,
 ) {
     match (over, answered) {
-        (Some(TurnOver::Silent), _) => {
+        (Some(Dismissal::Silent), _) => {
             warn!(rt; "admin {peer} closed: silent while another waits")
         }
-        (Some(TurnOver::Closing), _) => info!(rt; "admin {peer} closed, the run ends"),
+        (Some(Dismissal::Closing), _) => info!(rt; "admin {peer} closed, the run ends"),
         (None, Ok(commands)) => info!(rt; "admin {peer} ended: commands {commands}"),
         (None, Err(fault)) => {
             let why = Cause(fault);

@@ -10,7 +10,7 @@ use Rattle.disclosure_audit.specs.declared.entry.What.{What}
 use Rattle.disclosure_audit.specs.declared.entry.What.TheVariants as what
 use Rattle.policy_text.specs.Policies.{Aggregate}
 use Rattle.flow_anonymize.specs.declared.disclosure.Disclosure.TheVariants.{Passed, Aggregated, Withheld}
-use Rattle.flow_aggregate.specs.Groups.{Counted}
+use Rattle.flow_aggregate.specs.Groups.{Sample}
 use Rattle.mediator_history.specs.Counting.{counts, counted_in, timing_at}
 use Rattle.mediator_history.specs.Auditing.{kept_back, removed_of, told_of}
 use Rattle.mediator_shares.specs.InForce.{InForce}
@@ -60,7 +60,7 @@ kept_back_by aggregates clock r (Passed kept removed) = removed_of removed
 kept_back_by aggregates clock r (Aggregated rule place) = told_of rule (timing_at aggregates place r clock) ∷ []
 kept_back_by aggregates clock r (Withheld rule reason) = what.Withheld rule reason ∷ []
 
-abbrev pub counts_by : List Aggregate → ℕ → DataRecord → Decision → List Counted
+abbrev pub counts_by : List Aggregate → ℕ → DataRecord → Decision → List Sample
 counts_by aggregates clock r (Aggregated rule place) = counted_in (slice_get aggregates place) r (timing_at aggregates place r clock)
 counts_by aggregates clock r (Passed kept removed) = []
 counts_by aggregates clock r (Withheld rule reason) = []
@@ -75,12 +75,12 @@ abbrev pub kept_by : ℕ → InForce → List ℕ → DataRecord → List What
 kept_by domain f name r = kept_back f.policy.aggregates f.clock r (outcome_by domain f name r)
 
 -- what is kept back of the record with this index from one subscription
-abbrev pub noted : ℕ → InForce → ℕ × DataRecord → Served → List Note
-noted domain f r who = map (note_of r.0 who.sub) (kept_by domain f who.name.now r.1)
+abbrev pub notes_on : ℕ → InForce → ℕ × DataRecord → Served → List Note
+notes_on domain f r who = map (note_of r.0 who.sub) (kept_by domain f who.name.now r.1)
 
 -- and from each
 abbrev pub noted_of_each : ℕ → InForce → List Served → ℕ × DataRecord → List Note
-noted_of_each domain f served r = flat_map (noted domain f r) served
+noted_of_each domain f served r = flat_map (notes_on domain f r) served
 
 -- what is kept back of the records, by index and then by subscription
 abbrev pub notes_of : ℕ → InForce → List DataRecord → List Served → List Note

@@ -6,7 +6,7 @@ use Rattle.ipfix_session.specs.Keeping.{at_key}
 use Rattle.ipfix_session.specs.Meaning.{Meaning, meaning_of}
 use Rattle.ipfix_session.specs.ReadAhead.{Ahead, IsReadingOf}
 use Rattle.flow_aggregate.specs.Counts.{Count, count_of}
-use Rattle.subscriber_stream.specs.Standing.{HasRoom}
+use Rattle.subscriber_stream.specs.Standing.{HasStreamRoom}
 use Rattle.stream_meaning.specs.Served.{IsStreamable}
 use Rattle.disclosure_audit.specs.declared.entry.AuditEntry.{AuditEntry}
 use Rattle.disclosure_audit.specs.declared.entry.Note.{Note}
@@ -26,7 +26,7 @@ use Rattle.mediator_tables.specs.Adding.{tallied}
 use Rattle.mediator_shares.specs.Sharing.{share_of}
 use Rattle.mediator_shares.specs.Noting.{kept_of}
 use Rattle.mediator_tables.specs.declared.open_session.OpenSession.{OpenSession}
-use Rattle.mediator_tables.specs.SubscriptionTable.{Table, at, lacks_room_at}
+use Rattle.mediator_tables.specs.SubscriptionTable.{SubscriptionRows, at, lacks_room_at}
 use Rattle.prepared_message.specs.Preparation.{Preparation, AgreesWith}
 use Rattle.mediator_state.specs.declared.engine.Engine.{Engine}
 use Rattle.mediator_state.specs.declared.fault.Fault.{Fault}
@@ -36,10 +36,10 @@ use Rattle.mediator_state.specs.declared.plan.MessagePlan.{MessagePlan}
 use Rattle.mediator_state.specs.Seen.{waiting_of}
 
 -- whether there is no room for the share of one that is served
-abbrev pub lacks : Table → ℕ → InForce → List DataRecord → Served → Bool
+abbrev pub lacks : SubscriptionRows → ℕ → InForce → List DataRecord → Served → Bool
 lacks t domain f records who = lacks_room_at t (share_of domain f records who)
 
-abbrev pub has : Table → ℕ → InForce → List DataRecord → Served → Bool
+abbrev pub has : SubscriptionRows → ℕ → InForce → List DataRecord → Served → Bool
 has t domain f records who = not (lacks t domain f records who)
 
 -- what an entry gives to a subscription
@@ -55,8 +55,8 @@ abbrev pub AreTallied : List Entry → Entry → List (ℕ × List Count) → Ty
 AreTallied h entry tallies = tallies ≡ map (tally_at h entry) (served h)
 
 -- the subscription's stream has room for its share, if the share has a record
-abbrev pub HasRoomIn : Table → ℕ × List DataRecord → Type 0
-HasRoomIn t share = 0 < length share.1 → IsSomeAnd (at t share.0) (λ s. HasRoom s.stream share.1)
+abbrev pub HasRoomIn : SubscriptionRows → ℕ × List DataRecord → Type 0
+HasRoomIn t share = 0 < length share.1 → IsSomeAnd (at t share.0) (λ s. HasStreamRoom s.stream share.1)
 
 -- each record of a share may be streamed
 abbrev pub AreStreamed : ℕ × List DataRecord → Type 0

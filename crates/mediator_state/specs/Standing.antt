@@ -5,9 +5,9 @@ use Rattle.ipfix_session.specs.Keeping.{at_key}
 use Rattle.ipfix_session.specs.Standing.{StandsFor}
 use Rattle.subscriber_stream.specs.declared.limits.StreamLimits.{StreamLimits}
 use Rattle.subscriber_stream.specs.declared.limits.TheConstants.{MOST_QUEUE, MOST_SHAPES}
-use Rattle.subscriber_stream.specs.Standing.{Standing, StandsAt}
+use Rattle.subscriber_stream.specs.Standing.{StreamStanding, StandsAt}
 use Rattle.stream_meaning.specs.Served.{AreStreamable}
-use Rattle.flow_aggregate.specs.Running.{StandsFor as StandsForRecords}
+use Rattle.flow_aggregate.specs.Running.{SumsStand as StandsForRecords}
 use Rattle.disclosure_audit.specs.declared.audit.TheConstants.{MOST_ENTRIES as MOST_AUDITED}
 use Rattle.disclosure_audit.specs.Queue.{StandsIn}
 use Rattle.event_journal.specs.declared.entry.Entry.{Entry}
@@ -25,7 +25,7 @@ use Rattle.mediator_state.specs.declared.engine.Engine.{Engine}
 use Rattle.mediator_state.specs.Ascending.{Ascend}
 
 -- the place up to which a stream's parts were handed out
-abbrev pub place : Standing → ℕ
+abbrev pub place : StreamStanding → ℕ
 place s = s.handed + s.announced
 
 -- the session is open, and stands for its messages; or it isn't
@@ -73,7 +73,7 @@ pub record IsSmall (h : List Entry) : Type 0 where
   pub streamable : (sub : ℕ) → AreStreamable (disclosed sub h)
 
 -- the limits are ones that a mediator may have
-pub record AreInRange (limits : StreamLimits) : Type 0 where
+pub record AreEngineLimits (limits : StreamLimits) : Type 0 where
   pub queue : limits.queue ≤ MOST_QUEUE
   pub shapes : limits.shapes ≤ MOST_SHAPES
 
@@ -88,7 +88,7 @@ pub record Stands (e : Engine) (h : List Entry) : Type 0 where
   pub served_are : e.subscriptions.served ≡ served h
   pub groups : (sub : ℕ) → StandsForRecords (groups_at e.groups sub) (running sub h)
   pub audit : StandsIn e.audit.standing (audit_list h)
-  pub limits : AreInRange e.limits
+  pub limits : AreEngineLimits e.limits
   pub numbered : AreNumbered h
   pub small : IsSmall h
 

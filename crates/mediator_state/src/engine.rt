@@ -78,7 +78,7 @@ impl Drop for Engine {
 
 impl Engine {
     ghost use Rattle.mediator_tables.specs.SubscriptionTable.{at};
-    ghost use Rattle.mediator_state.specs.Standing.{Stands, GoesOnWith, StandsSomewhere, HasHistory, AreInRange};
+    ghost use Rattle.mediator_state.specs.Standing.{Stands, GoesOnWith, StandsSomewhere, HasHistory, AreEngineLimits};
     ghost use Rattle.mediator_state.specs.Seen.{IsSameEngine, IsUntouched, place_of};
     ghost use Rattle.mediator_state.specs.Calls.{IsSnapshot, RefusesSnapshot};
     ghost use Rattle.std.specs.Prelude.{IfErr};
@@ -90,7 +90,7 @@ impl Engine {
     /// # Errors
     /// Want of memory.
     pub(crate) fn new(alloc: Global, limits: StreamLimits, audit: u32) -> Result<Engine, AllocError>
-        requires range { AreInRange limits }
+        requires range { AreEngineLimits limits }
         requires least { 1 ≤ audit }
         requires most { audit ≤ MOST_AUDITED }
         // It stands for the history without an entry, within these limits.
@@ -352,9 +352,9 @@ impl Engine {
     ghost use Rattle.mediator_tables.specs.SubscriptionTable.{HasSpare};
     ghost use Rattle.mediator_tables.specs.SubscriptionTable.{shown};
     ghost use Rattle.flow_aggregate.specs.Counts.{Count};
-    ghost use Rattle.mediator_tables.specs.Adding.{reserved_for, AllReady, AreApart};
+    ghost use Rattle.mediator_tables.specs.Adding.{reserved_for, AllReady, NoneTwice};
     ghost use Rattle.mediator_state.specs.Planning.{IsPlan};
-    ghost use Rattle.mediator_state.specs.Accepting.{HasRoomForPlan, HasAuditFor, IsPlannedFor, LacksAudit, IsReadyToTake, IsMessage, receipt_of};
+    ghost use Rattle.mediator_state.specs.Accepting.{HasRoomForPlan, HasAuditFor, IsPlannedFor, LacksAudit, IsReadyToTake, IsBroughtBy, receipt_of};
     ghost use Rattle.std.specs.Prelude.{map, IfErr};
 
     /// Finds out whether `need` more entries have room in the audit, and makes room in memory for `places` of them.
@@ -455,7 +455,7 @@ impl Engine {
         ensures stands { (h : List Entry) (number : ℕ) (octets : List ℕ)
             (tallies : List (ℕ × List Count)) → Stands self.old h
             → AllReady self.old.groups (map reserved_for reserved.items) tallies
-            → AreApart tallies → IsMessage self.old h session.0 number octets (record {
+            → NoneTwice tallies → IsBroughtBy self.old h session.0 number octets (record {
               reading = reading;
               shares = map shown shares.items;
               tallies = tallies;

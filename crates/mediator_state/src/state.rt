@@ -31,8 +31,8 @@ pub const DEFAULT_QUEUE: u32 = 65_536;
 /// How many entries may wait in the audit where nobody sets a limit: 131,072.
 pub const DEFAULT_AUDIT: u32 = 131_072;
 
-/// A mediator's state: what keeps its history, and what it keeps beside that. Contracts say by `StandsFor` for which
-/// histories it stands. A call that is refused changes none of it.
+/// A mediator's state: what keeps its history, and what it keeps beside that. Contracts say by `StateStandsFor`
+/// for which histories it stands. A call that is refused changes none of it.
 #[derive(Drop)]
 pub struct State<C> {
     pub(crate) chronicle: C,
@@ -40,7 +40,7 @@ pub struct State<C> {
 }
 
 impl<C: Chronicle + Drop> State<C> {
-    ghost use Rattle.mediator_state.specs.Calls.{StandsFor, StandsForSome, ForEachHistory, Proceeds, StaysSame, AreLimits, LacksRoom, Opens, RefusesOpen, Closes, RefusesClose};
+    ghost use Rattle.mediator_state.specs.Calls.{StateStandsFor, StandsForSome, ForEachHistory, Proceeds, StaysSame, AreStateLimits, LacksRoom, OpensAfter, RefusesOpenAfter, ClosesAfter, RefusesClose};
 
     /// A state before any entry: no session is open, nobody is subscribed, and the policy has no rules. The stream of
     /// each subscription may hold what `streams` say, at most 1,000,000 records and 65,280 templates, and at most
@@ -55,9 +55,9 @@ impl<C: Chronicle + Drop> State<C> {
         audit: u32,
         chronicle: C,
     ) -> Result<State<C>, AllocError>
-        requires range { AreLimits streams audit }
+        requires range { AreStateLimits streams audit }
         // It stands for the history without an entry, which the chronicle keeps.
-        ensures stands { IfOk result (λ s. C.tells chronicle [] → StandsFor C.tells s []) }
+        ensures stands { IfOk result (λ s. C.tells chronicle [] → StateStandsFor C.tells s []) }
         ensures kept { IfOk result (λ s. s.chronicle ≡ chronicle) }
         // It holds what the limits say, and nothing was drained.
         ensures limits { IfOk result (λ s. s.engine.limits ≡ streams) }
@@ -114,7 +114,7 @@ impl<C: Chronicle + Drop> State<C> {
         if !self.chronicle.room(from_ref(entry)) {
             return Err(Fault::JournalFull);
         }
-        let _length = self.chronicle.len();
+        let _for_proof = self.chronicle.len();
         self.chronicle.reserve(1)?;
         Ok(())
     }
@@ -127,11 +127,11 @@ impl<C: Chronicle + Drop> State<C> {
         requires stands { StandsForSome C.tells self.old }
         // The entry of the call stands as the next one, and nothing is handed out.
         ensures ok { IfOk result (λ session. Proceeds C.tells C.limits self.old self.new
-            (Opens session.0)) }
+            (OpensAfter session.0)) }
         // A refused call changes nothing, and names the first cause.
         ensures unchanged { OnErr result (StaysSame C.tells C.limits self.old self.new) }
         ensures err { IfErr result (λ e. ForEachHistory C.tells self.old
-            (RefusesOpen e (C.limits self.old.chronicle))) }
+            (RefusesOpenAfter e (C.limits self.old.chronicle))) }
     {
         let session = self.engine.next_session(self.chronicle.len());
         let entry = Entry::Open { session: session.0 };
@@ -149,7 +149,8 @@ impl<C: Chronicle + Drop> State<C> {
     pub fn close(&mut self, session: SessionId) -> Result<(), Fault>
         requires stands { StandsForSome C.tells self.old }
         // The entry of the call stands as the next one, and nothing is handed out.
-        ensures ok { OnOk result (Proceeds C.tells C.limits self.old self.new (Closes session.0)) }
+        ensures ok { OnOk result (Proceeds C.tells C.limits self.old self.new
+            (ClosesAfter session.0)) }
         // A refused call changes nothing, and names the first cause.
         ensures unchanged { OnErr result (StaysSame C.tells C.limits self.old self.new) }
         ensures err { IfErr result (λ e. ForEachHistory C.tells self.old
@@ -167,7 +168,7 @@ impl<C: Chronicle + Drop> State<C> {
 }
 
 impl<C: Chronicle + Drop> State<C> {
-    ghost use Rattle.mediator_state.specs.Calls.{StandsForSome, ForEachHistory, GoesOnBy, Proceeds, StaysSame, Receives, RefusesReceive, RefusesReceivePrepared, IsSnapshot, RefusesSnapshot, Edits, RefusesEdit, Subscribes, RefusesSubscribe, Unsubscribes, RefusesUnsubscribe, Advances, RefusesAdvance};
+    ghost use Rattle.mediator_state.specs.Calls.{StandsForSome, ForEachHistory, GoesOnBy, Proceeds, StaysSame, ReceivesAfter, RefusesReceiveAfter, RefusesReceivePreparedAfter, IsSnapshot, RefusesSnapshot, EditsAfter, RefusesEdit, SubscribesAfter, RefusesSubscribe, UnsubscribesAfter, RefusesUnsubscribe, AdvancesAfter, RefusesAdvanceAfter};
     ghost use Rattle.mediator_state.specs.Seen.{place_of};
     ghost use Rattle.mediator_state.specs.Planning.{IsNextReading};
 
@@ -188,11 +189,11 @@ impl<C: Chronicle + Drop> State<C> {
         requires stands { StandsForSome C.tells self.old }
         // The message stands as the next entry, behind the cuts that it makes, and nothing is handed out.
         ensures ok { IfOk result (λ r. Proceeds C.tells C.limits self.old self.new
-            (Receives self.old.engine session.0 number message r)) }
+            (ReceivesAfter self.old.engine session.0 number message r)) }
         // A refused call changes nothing, and names the first cause.
         ensures unchanged { OnErr result (StaysSame C.tells C.limits self.old self.new) }
         ensures err { IfErr result (λ e. ForEachHistory C.tells self.old
-            (λ h. RefusesReceive e (C.limits self.old.chronicle) self.old.engine h
+            (λ h. RefusesReceiveAfter e (C.limits self.old.chronicle) self.old.engine h
             session.0 number message)) }
     {
         self.receive_judged(session, number, message, None)
@@ -214,11 +215,11 @@ impl<C: Chronicle + Drop> State<C> {
         requires stands { StandsForSome C.tells self.old }
         // The message stands as the next entry, behind the cuts that it makes, and nothing is handed out.
         ensures ok { IfOk result (λ r. Proceeds C.tells C.limits self.old self.new
-            (Receives self.old.engine session.0 number message r)) }
+            (ReceivesAfter self.old.engine session.0 number message r)) }
         // A refused call changes nothing, and names the first cause.
         ensures unchanged { OnErr result (StaysSame C.tells C.limits self.old self.new) }
         ensures err { IfErr result (λ e. ForEachHistory C.tells self.old
-            (λ h. RefusesReceive e (C.limits self.old.chronicle) self.old.engine h
+            (λ h. RefusesReceiveAfter e (C.limits self.old.chronicle) self.old.engine h
             session.0 number message)) }
     {
         let reading = self.engine.read(session, number, &message)?;
@@ -261,11 +262,11 @@ impl<C: Chronicle + Drop> State<C> {
         requires stands { StandsForSome C.tells self.old }
         // The message stands as the next entry, behind the cuts that it makes, and nothing is handed out.
         ensures ok { IfOk result (λ r. Proceeds C.tells C.limits self.old self.new
-            (Receives self.old.engine session.0 number prepared.message r)) }
+            (ReceivesAfter self.old.engine session.0 number prepared.message r)) }
         // A refused call changes nothing, and names the first cause.
         ensures unchanged { OnErr result (StaysSame C.tells C.limits self.old self.new) }
         ensures err { IfErr result (λ e. ForEachHistory C.tells self.old
-            (λ h. RefusesReceivePrepared e.0 (C.limits self.old.chronicle) self.old.engine h
+            (λ h. RefusesReceivePreparedAfter e.0 (C.limits self.old.chronicle) self.old.engine h
             session.0 number prepared)) }
         // The message is handed back, to be prepared anew or offered again.
         ensures handed_back { IfErr result (λ e. e.1 ≡ prepared) }
@@ -291,11 +292,11 @@ impl<C: Chronicle + Drop> State<C> {
         requires stands { StandsForSome C.tells self.old }
         // The message stands as the next entry, behind the cuts that it makes, and nothing is handed out.
         ensures ok { IfOk result (λ r. Proceeds C.tells C.limits self.old self.new
-            (Receives self.old.engine session.0 number prepared.old.message r)) }
+            (ReceivesAfter self.old.engine session.0 number prepared.old.message r)) }
         // A refused call changes nothing, and names the first cause.
         ensures unchanged { OnErr result (StaysSame C.tells C.limits self.old self.new) }
         ensures err { IfErr result (λ e. ForEachHistory C.tells self.old
-            (λ h. RefusesReceivePrepared e (C.limits self.old.chronicle) self.old.engine h
+            (λ h. RefusesReceivePreparedAfter e (C.limits self.old.chronicle) self.old.engine h
             session.0 number prepared.old)) }
         // What was read of the message stays.
         ensures lent { prepared.new ≡ prepared.old }
@@ -327,11 +328,11 @@ impl<C: Chronicle + Drop> State<C> {
             (λ h. IsNextReading h session.0 number message reading) }
         // The message stands as the next entry, behind the cuts that it makes, and nothing is handed out.
         ensures ok { IfOk result (λ r. Proceeds C.tells C.limits self.old self.new
-            (Receives self.old.engine session.0 number message r)) }
+            (ReceivesAfter self.old.engine session.0 number message r)) }
         // A refused call changes nothing, and names the first cause.
         ensures unchanged { OnErr result (StaysSame C.tells C.limits self.old self.new) }
         ensures err { IfErr result (λ e. ForEachHistory C.tells self.old
-            (λ h. RefusesReceive e (C.limits self.old.chronicle) self.old.engine h
+            (λ h. RefusesReceiveAfter e (C.limits self.old.chronicle) self.old.engine h
             session.0 number message)) }
     {
         see_octets(&message);
@@ -361,7 +362,8 @@ impl<C: Chronicle + Drop> State<C> {
     pub fn edit(&mut self, text: &str) -> Result<u64, Fault>
         requires stands { StandsForSome C.tells self.old }
         // The entry of the call stands as the next one, and nothing is handed out.
-        ensures ok { IfOk result (λ n. Proceeds C.tells C.limits self.old self.new (Edits text.now n)) }
+        ensures ok { IfOk result (λ n. Proceeds C.tells C.limits self.old self.new
+            (EditsAfter text.now n)) }
         // A refused call changes nothing, and names the first cause.
         ensures unchanged { OnErr result (StaysSame C.tells C.limits self.old self.new) }
         ensures err { IfErr result (λ e. ForEachHistory C.tells self.old
@@ -387,7 +389,7 @@ impl<C: Chronicle + Drop> State<C> {
         requires stands { StandsForSome C.tells self.old }
         // The entry of the call stands as the next one, and nothing is handed out.
         ensures ok { IfOk result (λ sub. Proceeds C.tells C.limits self.old self.new
-            (Subscribes name.now sub.0)) }
+            (SubscribesAfter name.now sub.0)) }
         // A refused call changes nothing, and names the first cause.
         ensures unchanged { OnErr result (StaysSame C.tells C.limits self.old self.new) }
         ensures err { IfErr result (λ e. ForEachHistory C.tells self.old
@@ -423,7 +425,8 @@ impl<C: Chronicle + Drop> State<C> {
         ensures limits { self.new.engine.limits ≡ self.old.engine.limits }
         ensures audit_limit { self.new.engine.audit.limit ≡ self.old.engine.audit.limit }
         // The end stands as the next entry. Other subscriptions keep their places, and nothing is drained.
-        ensures ok { OnOk result (GoesOnBy C.tells C.limits self.old self.new (Unsubscribes sub.0)) }
+        ensures ok { OnOk result (GoesOnBy C.tells C.limits self.old self.new
+            (UnsubscribesAfter sub.0)) }
         ensures others { (q : ℕ) → q ≢ sub.0
             → place_of self.new.engine q ≡ place_of self.old.engine q }
         ensures drained { self.new.engine.audit.standing.drained
@@ -455,11 +458,11 @@ impl<C: Chronicle + Drop> State<C> {
         requires stands { StandsForSome C.tells self.old }
         // The advance stands as the next entry, behind the cuts that it makes, and nothing is handed out.
         ensures ok { OnOk result (Proceeds C.tells C.limits self.old self.new
-            (Advances self.old.engine t)) }
+            (AdvancesAfter self.old.engine t)) }
         // A refused call changes nothing, and names the first cause.
         ensures unchanged { OnErr result (StaysSame C.tells C.limits self.old self.new) }
         ensures err { IfErr result (λ e. ForEachHistory C.tells self.old
-            (λ h. RefusesAdvance e (C.limits self.old.chronicle) self.old.engine h t)) }
+            (λ h. RefusesAdvanceAfter e (C.limits self.old.chronicle) self.old.engine h t)) }
     {
         let last = self.engine.in_force.clock();
         if t < last {
@@ -496,9 +499,9 @@ impl<C: Chronicle + Drop> State<C> {
 }
 
 impl<C: Chronicle + Drop> State<C> {
-    ghost use Rattle.mediator_state.specs.Calls.{StandsFor, ForEachHistory, KeepsHistories, StaysSame, Pulls, RefusesPull, IsStatus};
+    ghost use Rattle.mediator_state.specs.Calls.{StateStandsFor, ForEachHistory, KeepsHistories, StaysSame, PullsAfter, RefusesPull, IsStatus};
     ghost use Rattle.mediator_state.specs.Seen.{place_of};
-    ghost use Rattle.disclosure_audit.specs.Queue.{Drains};
+    ghost use Rattle.disclosure_audit.specs.Queue.{DrainsOldest};
 
     /// Builds the next message of the live subscription with the number `sub`, out of what waits for it; or answers
     /// `None` where nothing waits. `now` is its Export Time, in seconds since 1970 (RFC 7011, section 3.1), and
@@ -512,7 +515,7 @@ impl<C: Chronicle + Drop> State<C> {
         ensures audit_limit { self.new.engine.audit.limit ≡ self.old.engine.audit.limit }
         // The message is that at the place of the subscription, which moves past it. No other place moves.
         ensures ok { IfOk result (λ m. ForEachHistory C.tells self.old
-            (Pulls self.old.engine self.new.engine sub.0 now target m)) }
+            (PullsAfter self.old.engine self.new.engine sub.0 now target m)) }
         ensures others { (q : ℕ) → q ≢ sub.0
             → place_of self.new.engine q ≡ place_of self.old.engine q }
         ensures drained { self.new.engine.audit.standing.drained
@@ -596,7 +599,7 @@ impl<C: Chronicle + Drop> State<C> {
         // The oldest entries are handed out, and count as drained. No place moves.
         ensures ok { IfOk result (λ out. ForEachHistory C.tells self.old (λ h.
             (out.items ≡ take most (drop self.old.engine.audit.standing.drained (audit_list h)))
-            × StandsFor C.tells self.new h)) }
+            × StateStandsFor C.tells self.new h)) }
         ensures places { (q : ℕ) → place_of self.new.engine q ≡ place_of self.old.engine q }
         ensures drained { IfOk result (λ out. self.new.engine.audit.standing.drained
             ≡ self.old.engine.audit.standing.drained + length out.items) }

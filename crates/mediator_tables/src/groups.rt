@@ -2,13 +2,13 @@
 ghost use Rattle.std.specs.Prelude.{◌≡◌, ◌≢◌, ◌≤◌, ◌+◌, ◌++◌, ℕ, List, [], length, map, eqb, IfOk, OnErr};
 ghost use Rattle.std.specs.List.{AllByRecursion, IsDistinct};
 ghost use Rattle.std.specs.Map.{keys_of};
-ghost use Rattle.flow_aggregate.specs.Groups.{Counted};
-ghost use Rattle.flow_aggregate.specs.Running.{places, nothing_held, StandsFor, staying, Held};
+ghost use Rattle.flow_aggregate.specs.Groups.{Sample};
+ghost use Rattle.flow_aggregate.specs.Running.{places, nothing_held, SumsStand, staying, HeldGroups};
 ghost use Rattle.flow_aggregate.specs.Counts.{Count, count_of};
-ghost use Rattle.flow_aggregate.specs.Additions.{AreReady};
+ghost use Rattle.flow_aggregate.specs.Additions.{AreReadyToAdd};
 ghost use Rattle.flow_aggregate.specs.Closing.{record_of, closed_by};
-ghost use Rattle.mediator_tables.specs.GroupTable.{held_at, groups_at, StandsAt, is_kept};
-ghost use Rattle.mediator_tables.specs.Adding.{tallied, reserved_for, IsReadyFor, AllReady, AreApart, AreCountable, added_to};
+ghost use Rattle.mediator_tables.specs.GroupTable.{held_at, groups_at, IsHeldAt, is_kept};
+ghost use Rattle.mediator_tables.specs.Adding.{tallied, reserved_for, IsReadyFor, AllReady, NoneTwice, AreCountable, added_to};
 
 use crate::ids::SubId;
 use crate::tally::{Reserved, Tally};
@@ -47,9 +47,9 @@ impl Model for RunningGroups {
     ghost use Rattle.std.specs.Prelude.{List, ℕ, eqb};
     ghost use Rattle.std.specs.List.{IsDistinct};
     ghost use Rattle.std.specs.Map.{keys_of};
-    ghost use Rattle.flow_aggregate.specs.Running.{Held};
+    ghost use Rattle.flow_aggregate.specs.Running.{HeldGroups};
 
-    ghost Value = { List (ℕ × Held) };
+    ghost Value = { List (ℕ × HeldGroups) };
 
     ghost view = { λ r. r.by_number.entries };
 
@@ -80,7 +80,7 @@ impl RunningGroups {
     /// yet to be added. There are no more than records that count or are to be added.
     pub fn len(&self, sub: SubId) -> usize
         ensures value { result ≡ length (places (held_at self.now sub.0)) }
-        ensures few { (counted : List Counted) → StandsFor (groups_at self.now sub.0) counted
+        ensures few { (counted : List Sample) → SumsStand (groups_at self.now sub.0) counted
             → result ≤ length counted + length (held_at self.now sub.0).ready }
     {
         match self.by_number.get(&sub.0) {
@@ -113,7 +113,7 @@ impl RunningGroups {
     /// Want of memory; then nothing is reserved. No sum changes, whatever the answer.
     pub fn reserve(&mut self, tallies: &[Tally]) -> Result<Vec<Reserved>, AllocError>
         ensures unchanged { (q : ℕ) → groups_at self.new q ≡ groups_at self.old q }
-        ensures ok { IfOk result (λ reserved. AreApart (map tallied tallies.now)
+        ensures ok { IfOk result (λ reserved. NoneTwice (map tallied tallies.now)
             → AllReady self.new (map reserved_for reserved.items) (map tallied tallies.now)) }
         ensures few { (q : ℕ)
             → length (held_at self.new q).ready ≤ length (added_to q (map tallied tallies.now)) }
@@ -148,16 +148,16 @@ impl RunningGroups {
     pub fn add_reserved(&mut self, reserved: Vec<Reserved>)
         requires { AreCountable self.old (map reserved_for reserved.items) }
         ensures adds { (tallies : List (ℕ × List Count))
-            → AllReady self.old (map reserved_for reserved.items) tallies → AreApart tallies
-            → (q : ℕ) (before more : List Counted) → StandsFor (groups_at self.old q) before
+            → AllReady self.old (map reserved_for reserved.items) tallies → NoneTwice tallies
+            → (q : ℕ) (before more : List Sample) → SumsStand (groups_at self.old q) before
             → added_to q tallies ≡ map count_of more
-            → StandsFor (groups_at self.new q) (before ++ more) }
+            → SumsStand (groups_at self.new q) (before ++ more) }
         // Nothing is ready then for those that were added to, and others are held as before.
         ensures ready { (tallies : List (ℕ × List Count))
-            → AllReady self.old (map reserved_for reserved.items) tallies → AreApart tallies
+            → AllReady self.old (map reserved_for reserved.items) tallies → NoneTwice tallies
             → AllByRecursion (λ t. (held_at self.new t.0).ready ≡ []) tallies }
         ensures others { (tallies : List (ℕ × List Count))
-            → AllReady self.old (map reserved_for reserved.items) tallies → AreApart tallies
+            → AllReady self.old (map reserved_for reserved.items) tallies → NoneTwice tallies
             → (q : ℕ) → AllByRecursion (λ t. t.0 ≢ q) tallies
             → held_at self.new q ≡ held_at self.old q }
     {
@@ -172,8 +172,8 @@ impl RunningGroups {
     /// # Errors
     /// Want of memory.
     pub fn closing(&self, sub: SubId, t: u64) -> Result<Records, AllocError>
-        ensures { IfOk result (λ records. (counted : List Counted)
-            → StandsFor (groups_at self.now sub.0) counted → records ≡ closed_by t counted) }
+        ensures { IfOk result (λ records. (counted : List Sample)
+            → SumsStand (groups_at self.now sub.0) counted → records ≡ closed_by t counted) }
     {
         match self.by_number.get(&sub.0) {
             Some(groups) => records_of(self.alloc, &groups.closing(t)?),
@@ -184,15 +184,15 @@ impl RunningGroups {
     /// Drops the groups that an advance of the clock to `t`, in milliseconds since 1970, closes. It
     /// takes no memory. What was reserved before is so no more.
     pub fn close(&mut self, t: u64)
-        ensures stays { (q : ℕ) (counted : List Counted) → StandsFor (groups_at self.old q) counted
-            → StandsFor (groups_at self.new q) (staying t counted) }
+        ensures stays { (q : ℕ) (counted : List Sample) → SumsStand (groups_at self.old q) counted
+            → SumsStand (groups_at self.new q) (staying t counted) }
         ensures ready { (q : ℕ) → (held_at self.new q).ready ≡ [] }
     {
         self.by_number.retain(
             |_sub: &u64, groups: &mut Running| -> bool
                 ensures { (result ≡ is_kept groups.new)
-                    × ((counted : List Counted) → StandsFor groups.old.groups counted
-                    → StandsFor groups.new.groups (staying t counted)) × (groups.new.ready ≡ []) }
+                    × ((counted : List Sample) → SumsStand groups.old.groups counted
+                    → SumsStand groups.new.groups (staying t counted)) × (groups.new.ready ≡ []) }
             {
                 groups.close(t);
                 groups.len() > 0
@@ -218,7 +218,7 @@ impl RunningGroups {
     fn reserve_each(&mut self, tallies: &[Tally]) -> Result<Vec<Reserved>, AllocError>
         requires { (q : ℕ) → (held_at self.old q).ready ≡ [] }
         ensures unchanged { (q : ℕ) → groups_at self.new q ≡ groups_at self.old q }
-        ensures ok { IfOk result (λ reserved. AreApart (map tallied tallies.now)
+        ensures ok { IfOk result (λ reserved. NoneTwice (map tallied tallies.now)
             → AllReady self.new (map reserved_for reserved.items) (map tallied tallies.now)) }
         ensures few { (q : ℕ)
             → length (held_at self.new q).ready ≤ length (added_to q (map tallied tallies.now)) }
@@ -240,7 +240,7 @@ impl RunningGroups {
             ≤ length tally.now.counts.items }
         // What was made ready for other subscriptions stays so.
         ensures others { (q : ℕ) → q ≢ tally.now.sub → held_at self.new q ≡ held_at self.old q }
-        ensures places { (place q : ℕ) → StandsAt self.old place q → StandsAt self.new place q }
+        ensures places { (place q : ℕ) → IsHeldAt self.old place q → IsHeldAt self.new place q }
     {
         let place = self.place_of(tally.sub)?;
         match self.by_number.get_index_mut(place) {
@@ -255,9 +255,9 @@ impl RunningGroups {
     /// The place of a subscription's groups, which is made where it has none yet.
     fn place_of(&mut self, sub: u64) -> Result<usize, AllocError>
         ensures unchanged { (q : ℕ) → held_at self.new q ≡ held_at self.old q }
-        ensures ok { IfOk result (λ place. StandsAt self.new place sub) }
+        ensures ok { IfOk result (λ place. IsHeldAt self.new place sub) }
         ensures err { OnErr result (held_at self.new sub ≡ nothing_held) }
-        ensures places { (place q : ℕ) → StandsAt self.old place q → StandsAt self.new place q }
+        ensures places { (place q : ℕ) → IsHeldAt self.old place q → IsHeldAt self.new place q }
     {
         match self.by_number.get_index_of(&sub) {
             Some(place) => Ok(place),
@@ -274,14 +274,14 @@ impl RunningGroups {
     fn add_one(&mut self, reserved: Reserved)
         requires { (sub : ℕ)
             × (counts : List Count) × IsReadyFor self.old (reserved_for reserved) (sub, counts) }
-        ensures adds { (sub : ℕ) (before more : List Counted)
+        ensures adds { (sub : ℕ) (before more : List Sample)
             → IsReadyFor self.old (reserved_for reserved) (sub, map count_of more)
-            → StandsFor (groups_at self.old sub) before
-            → StandsFor (groups_at self.new sub) (before ++ more) }
+            → SumsStand (groups_at self.old sub) before
+            → SumsStand (groups_at self.new sub) (before ++ more) }
         // Nothing is ready then for this subscription, and others are held as before.
-        ensures ready { (sub : ℕ) → StandsAt self.old reserved.place sub
+        ensures ready { (sub : ℕ) → IsHeldAt self.old reserved.place sub
             → (held_at self.new sub).ready ≡ [] }
-        ensures others { (sub q : ℕ) → StandsAt self.old reserved.place sub
+        ensures others { (sub q : ℕ) → IsHeldAt self.old reserved.place sub
             → q ≢ sub → held_at self.new q ≡ held_at self.old q }
         ensures places { keys_of self.new ≡ keys_of self.old }
     {

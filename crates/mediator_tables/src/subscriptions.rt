@@ -43,9 +43,9 @@ impl Drop for Subscriptions {
 }
 
 impl Model for Subscriptions {
-    ghost use Rattle.mediator_tables.specs.SubscriptionTable.{Table};
+    ghost use Rattle.mediator_tables.specs.SubscriptionTable.{SubscriptionRows};
 
-    ghost Value = { Table };
+    ghost Value = { SubscriptionRows };
 
     ghost use Rattle.mediator_tables.specs.Naming.{AreNamed, number_of, name_at};
 

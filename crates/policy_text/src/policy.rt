@@ -1,7 +1,7 @@
 //! Policies: read from their texts, line by line, and written as texts.
 ghost use Rattle.std.specs.Prelude.{◌≡◌, false, true, Ok, IfOk, IfErr, string_bytes};
 ghost use Rattle.policy_text.specs.Grammar.{IsPolicy};
-ghost use Rattle.policy_text.specs.Policies.{Meaning, without_lines};
+ghost use Rattle.policy_text.specs.Policies.{PolicyMeaning, without_lines};
 ghost use Rattle.policy_text.specs.Spelling.{Spells};
 ghost use Rattle.policy_text.specs.Printing.{policy_text};
 ghost use Rattle.policy_text.specs.FirstFault.{IsFirstFault};
@@ -49,10 +49,10 @@ impl Drop for Policy {
 }
 
 impl Model for Policy {
-    ghost use Rattle.policy_text.specs.Policies.{Meaning};
+    ghost use Rattle.policy_text.specs.Policies.{PolicyMeaning};
     ghost use Rattle.policy_text.specs.Grammar.{IsPolicy};
 
-    ghost Value = { Meaning };
+    ghost Value = { PolicyMeaning };
 
     ghost view = { λ p. record { version = p.version; aggregates = p.aggregates.items; rules = p.rules.items } };
 
@@ -97,7 +97,7 @@ impl Policy {
         // What is read is spelled so.
         ensures found { IfOk result (λ policy. Spells text.now policy) }
         // What is spelled so is read, unless memory runs out.
-        ensures only { (policy : Meaning) → Spells text.now policy
+        ensures only { (policy : PolicyMeaning) → Spells text.now policy
             → Parses (λ p. p) result (Ok policy) }
         // What is refused has this first fault, unless memory ran out.
         ensures first { IfErr result (λ fault. is_memory fault.kind ≡ false
@@ -178,7 +178,7 @@ impl Policy {
         ensures spelled { IfOk result (λ text. Spells (string_bytes text) self.now) }
         ensures reads_back { IfOk result (λ text. policy_of (string_bytes text) ≡ Ok self.now) }
     {
-        let _rules = &self.rules;
+        let _for_proof = &self.rules;
         policy_to_text(alloc, self)
     }
 

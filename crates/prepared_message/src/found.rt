@@ -1,7 +1,7 @@
 //! What a message holds by the templates of a snapshot.
 ghost use Rattle.std.specs.Prelude.{◌≤◌, ℕ, List, length, IfOk};
 ghost use Rattle.ipfix_octets.specs.MessageFormat.{header_octets};
-ghost use Rattle.ipfix_session.specs.Answers.{held};
+ghost use Rattle.ipfix_session.specs.Answers.{as_contents};
 ghost use Rattle.ipfix_session.specs.Standing.{Knows};
 ghost use Rattle.prepared_message.specs.Faults.{Gives, items_wanted, prepared_from};
 ghost use Rattle.prepared_message.specs.Finding.{IsFound};
@@ -28,7 +28,7 @@ pub(crate) struct Found {
 /// Those of [`prepare`](crate::Prepared::prepare).
 pub(crate) fn read_by(templates: &Templates, message: &Bytes) -> Result<Found, PrepareFault>
     ensures gives { (older : List (List ℕ)) → Knows templates.now older
-        → Gives (λ f. held f.contents) result (prepared_from older message.now) }
+        → Gives (λ f. as_contents f.contents) result (prepared_from older message.now) }
     ensures found { IfOk result (IsFound templates.now message.now) }
 {
     let octets: &[u8] = message;

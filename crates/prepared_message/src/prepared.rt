@@ -1,11 +1,11 @@
 //! A message that was read against a snapshot of its session's templates, to be taken in later.
 ghost use Rattle.std.specs.Prelude.{◌≡◌, ◌≤◌, ◌^◌, ◌↔◌, ℕ, List, ◌∷◌, Ok, IsTrue, IfOk, IfSome, IfNone, OnSome, OnErr, length};
-ghost use Rattle.ipfix_session.specs.Answers.{held, shown};
+ghost use Rattle.ipfix_session.specs.Answers.{as_contents, as_meaning};
 ghost use Rattle.ipfix_session.specs.Meaning.{domain_of, meaning_of};
 ghost use Rattle.ipfix_session.specs.ReadAhead.{IsReadingOf};
 ghost use Rattle.ipfix_session.specs.Standing.{StandsFor, Knows};
 ghost use Rattle.prepared_message.specs.Faults.{Gives, prepared_from};
-ghost use Rattle.prepared_message.specs.Preparation.{AgreesWith, IsPrepared, IsJudged};
+ghost use Rattle.prepared_message.specs.Preparation.{AgreesWith, IsPrepared, AreRecordsJudged};
 ghost use Rattle.mediator_shares.specs.Judgements.{IsJudgementOf};
 ghost use Rattle.prepared_message.specs.Uses.{TablesAgree};
 
@@ -57,18 +57,18 @@ impl Model for Prepared {
 
     ghost use Rattle.std.specs.Prelude.{◌≡◌, map, length};
     ghost use Rattle.ipfix_message.specs.Reading.{header_of};
-    ghost use Rattle.ipfix_session.specs.Answers.{held};
-    ghost use Rattle.prepared_message.specs.Seen.{seen};
-    ghost use Rattle.prepared_message.specs.Preparation.{IsKept, IsJudged};
+    ghost use Rattle.ipfix_session.specs.Answers.{as_contents};
+    ghost use Rattle.prepared_message.specs.Seen.{used_pair};
+    ghost use Rattle.prepared_message.specs.Preparation.{IsPreparedWith, AreRecordsJudged};
 
-    ghost view = { λ p. record { message = p.message; contents = held p.contents; used = map seen p.uses.items } };
+    ghost view = { λ p. record { message = p.message; contents = as_contents p.contents; used = map used_pair p.uses.items } };
 
-    ghost invariant = { λ p. IsKept (record {
+    ghost invariant = { λ p. IsPreparedWith (record {
       message = p.message;
-      contents = held p.contents;
-      used = map seen p.uses.items;
+      contents = as_contents p.contents;
+      used = map used_pair p.uses.items;
     }) p.header p.count
-        × IsJudged p.header (held p.contents) p.judgement };
+        × AreRecordsJudged p.header (as_contents p.contents) p.judgement };
 }
 
 impl Prepared {
@@ -180,7 +180,7 @@ impl Prepared {
     pub fn apply_to(&self, session: &mut Session) -> Result<Option<Read>, AllocError>
         ensures means { (older : List (List ℕ)) → StandsFor session.old older
             → IfOk result (λ answer. IfSome answer
-            (λ r. meaning_of older self.now.message ≡ Ok (shown r))) }
+            (λ r. meaning_of older self.now.message ≡ Ok (as_meaning r))) }
         ensures stands { (older : List (List ℕ)) → StandsFor session.old older
             → IfOk result (λ answer. OnSome answer
             (StandsFor session.new (self.now.message ∷ older))) }
@@ -277,7 +277,7 @@ fn judged(
     contents: &Contents,
 ) -> Result<Option<Judgement>, AllocError>
     requires few { length contents.now.records ≤ 2 ^ 32 }
-    ensures { IfOk result (IsJudged header.now (held contents.now)) }
+    ensures { IfOk result (AreRecordsJudged header.now (as_contents contents.now)) }
 {
     match &snapshot.terms {
         Some(terms) => {

@@ -13,20 +13,20 @@ use Rattle.mediator_calls.specs.Mediation.{Mediation}
 use Rattle.mediator_calls.specs.Calls.{RefusesReceive, RefusesReceivePrepared}
 use Rattle.shared_mediator.specs.declared.kept.KeptEntry.{KeptEntry}
 use Rattle.shared_mediator.specs.declared.handed.Handed.{Handed}
-use Rattle.shared_mediator.specs.Counted.{Counted, has_receipt}
+use Rattle.shared_mediator.specs.Counted.{CountedMediation, has_receipt}
 use Rattle.shared_mediator.specs.Handing.{RefusesHanding}
 use Rattle.shared_mediator.specs.Locked.{Exporting}
-use Rattle.shared_mediator.specs.Handles.{HasReceipt, IsMessage, AreMessages, IsExporting, MayRefuseOffer, MayRefusePull, KeepsSome}
+use Rattle.shared_mediator.specs.Handles.{HasReceipt, IsSessionMessage, AreSessionMessages, IsExporting, MayRefuseOffer, MayRefusePull, KeepsSome}
 use Rattle.shared_mediator.specs.Closing.{KeepsMessages}
 
 -- messages have receipts
-pub have_receipts : (session number : ℕ) (kept : List KeptEntry) → AreMessages session number kept → AllByRecursion HasReceipt kept
+pub have_receipts : (session number : ℕ) (kept : List KeptEntry) → AreSessionMessages session number kept → AllByRecursion HasReceipt kept
 have_receipts session number [] messages = tt
 have_receipts session number (k ∷ kept) messages = (ap has_receipt messages.0.entry_is, have_receipts session (number + 1) kept messages.1)
 
 -- one message more
-pub more_messages : (session number next : ℕ) (kept : List KeptEntry) (k : KeptEntry) → AreMessages session number kept → next ≡ number + length kept → IsMessage session next k → AreMessages session number (kept ++ k ∷ [])
-more_messages session number next [] k messages counted is = (subst (λ n. IsMessage session n k) (omega (arith, counted)) is, tt)
+pub more_messages : (session number next : ℕ) (kept : List KeptEntry) (k : KeptEntry) → AreSessionMessages session number kept → next ≡ number + length kept → IsSessionMessage session next k → AreSessionMessages session number (kept ++ k ∷ [])
+more_messages session number next [] k messages counted is = (subst (λ n. IsSessionMessage session n k) (omega (arith, counted)) is, tt)
 more_messages session number next (x ∷ kept) k messages counted is = (messages.0, more_messages session (number + 1) next kept k messages.1 (omega (arith, counted)) is)
 
 -- a message was offered, and its receipt is kept
@@ -35,14 +35,14 @@ pub offered : (session number position parts parts_new share share_new : ℕ) (o
 offered session number position parts parts_new share share_new octets kept new old counted same_parts more_share is = record {
   part = same_parts ∙ old.part;
   amount = more_share ∙ omega (arith, old.amount, ap length is, length-append kept (record { position = position; entry = Message session number octets } ∷ []));
-  messages = subst (AreMessages session 0) (sym is) (more_messages session 0 number kept (record { position = position; entry = Message session number octets }) old.messages (omega (arith, counted)) (record { octets = octets; entry_is = refl }));
+  messages = subst (AreSessionMessages session 0) (sym is) (more_messages session 0 number kept (record { position = position; entry = Message session number octets }) old.messages (omega (arith, counted)) (record { octets = octets; entry_is = refl }));
 }
 
 all_more : {A : Type 0} (P : A → Type 0) (xs : List A) (i : ℕ) (x : A) → i < length xs → x ≡ get_or xs i x → AllByRecursion P (take i xs) → P x → AllByRecursion P (take (i + 1) xs)
 all_more {A} P xs i x low is before next = subst (AllByRecursion P) (sym (take_more xs i x low ∙ ap (λ (y : A). take i xs ++ y ∷ []) (sym is))) (AllByRecursion-append P (take i xs) (x ∷ []) before (next, tt))
 
 -- loops over handles
-pub messages_more : (xs : List Exporting) (i : ℕ) (x : Exporting) → i < length xs → x ≡ get_or xs i x → AllByRecursion KeepsMessages (take i xs) → AreMessages x.session 0 x.kept → AllByRecursion KeepsMessages (take (i + 1) xs)
+pub messages_more : (xs : List Exporting) (i : ℕ) (x : Exporting) → i < length xs → x ≡ get_or xs i x → AllByRecursion KeepsMessages (take i xs) → AreSessionMessages x.session 0 x.kept → AllByRecursion KeepsMessages (take (i + 1) xs)
 messages_more xs i x low is before next = all_more KeepsMessages xs i x low is before next
 
 pub entries_more : (xs : List (List KeptEntry)) (i : ℕ) (x : List KeptEntry) → i < length xs → x ≡ get_or xs i x → AllByRecursion (AllByRecursion HasReceipt) (take i xs) → AllByRecursion HasReceipt x → AllByRecursion (AllByRecursion HasReceipt) (take (i + 1) xs)
@@ -86,7 +86,7 @@ snapshot_refused fault.UnknownSession h session r = tt
 snapshot_refused fault.OutOfMemory h session r = tt
 snapshot_refused _ h session r = absurd r
 
-pub handing_refused : (why : Fault) (c : Counted) (sub : ℕ) → RefusesHanding why c sub → MayRefusePull why
+pub handing_refused : (why : Fault) (c : CountedMediation) (sub : ℕ) → RefusesHanding why c sub → MayRefusePull why
 handing_refused fault.UnknownSub c sub r = tt
 handing_refused fault.HandedFull c sub r = tt
 handing_refused fault.OutOfMemory c sub r = tt

@@ -36,8 +36,8 @@ is_full JournalFull = true
 is_full _ = false
 
 -- nothing has changed but that such a refusal is noted, if it is one
-abbrev pub noted : Bool → Locked → Locked
-noted full d = locked_as d.counted d.handles d.exporters d.deliveries d.admins d.stopped (d.full || full)
+abbrev pub with_refusal : Bool → Locked → Locked
+with_refusal full d = locked_as d.counted d.handles d.exporters d.deliveries d.admins d.stopped (d.full || full)
 
 -- as many of the kind were made as there may be; or the mediator opens no session
 abbrev pub RefusesExporter : Fault → Locked → Type 0

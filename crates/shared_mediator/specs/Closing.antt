@@ -7,7 +7,7 @@ use Rattle.shared_mediator.specs.Counted.{has_receipt}
 use Rattle.shared_mediator.specs.declared.fault.CloseFault.{CloseFault}
 use Rattle.shared_mediator.specs.declared.fault.CloseFault.TheVariants.{MissingHandle, Mismatch, OutOfMemory}
 use Rattle.shared_mediator.specs.Locked.{Locked, Exporting, Delivering}
-use Rattle.shared_mediator.specs.Handles.{AreMessages, records_kept}
+use Rattle.shared_mediator.specs.Handles.{AreSessionMessages, records_kept}
 
 -- what the handles keep, the exporters' first
 abbrev pub receipts_of : List Exporting → List (List KeptEntry) → List (List KeptEntry)
@@ -15,7 +15,7 @@ receipts_of exporters admins = map (λ h. h.kept) exporters ++ admins
 
 -- an exporter's receipts are those of its session's messages, from the first on
 abbrev pub KeepsMessages : Exporting → Type 0
-KeepsMessages h = AreMessages h.session 0 h.kept
+KeepsMessages h = AreSessionMessages h.session 0 h.kept
 
 -- how many messages the exporters have receipts of
 abbrev pub messages_accepted : List Exporting → ℕ

@@ -3,7 +3,7 @@ use Rattle.std.specs.Prelude.{◌≡◌, ℕ, ◌+◌, true, List, [], ◌∷◌
 use Rattle.std.specs.List.{AllByRecursion}
 use Rattle.ipfix_template.specs.DataRecord.{DataRecord}
 use Rattle.subscriber_stream.specs.Parts.{parts, records_in}
-use Rattle.subscriber_stream.specs.Message.{built, taken}
+use Rattle.subscriber_stream.specs.Message.{built, parts_taken}
 use Rattle.stream_meaning.specs.Served.{AreStreamable}
 use Rattle.event_journal.specs.declared.entry.Entry.{Entry}
 use Rattle.event_journal.specs.declared.entry.Entry.TheVariants.{Message}
@@ -19,20 +19,20 @@ abbrev pub HasReceipt : KeptEntry → Type 0
 HasReceipt k = has_receipt k.entry ≡ true
 
 -- the session's message of this number
-pub record IsMessage (session number : ℕ) (k : KeptEntry) : Type 0 where
+pub record IsSessionMessage (session number : ℕ) (k : KeptEntry) : Type 0 where
   pub octets : List ℕ
   pub entry_is : k.entry ≡ Message session number octets
 
 -- the session's messages, from this number on
-abbrev pub AreMessages : ℕ → ℕ → List KeptEntry → Type 0
-AreMessages session number [] = Unit {0}
-AreMessages session number (k ∷ kept) = IsMessage session number k × AreMessages session (number + 1) kept
+abbrev pub AreSessionMessages : ℕ → ℕ → List KeptEntry → Type 0
+AreSessionMessages session number [] = Unit {0}
+AreSessionMessages session number (k ∷ kept) = IsSessionMessage session number k × AreSessionMessages session (number + 1) kept
 
 -- one part, as much as it keeps receipts, which are those of the session's messages from the first on
 pub record IsExporting (session : ℕ) (kept : List KeptEntry) (parts share : ℕ) : Type 0 where
   pub part : parts ≡ 1
   pub amount : share ≡ length kept
-  pub messages : AreMessages session 0 kept
+  pub messages : AreSessionMessages session 0 kept
 
 -- one part, as much as it keeps entries
 pub record IsAdministering (kept : List KeptEntry) (parts share : ℕ) : Type 0 where
@@ -83,7 +83,7 @@ pub record IsBuilt (now target : ℕ) (h : Handed) : Type 0 where
   pub streamable : AreStreamable listed
   pub place : ℕ
   pub message : Some h.message ≡ built listed place now target
-  pub records : h.records ≡ length (records_in (take (taken listed place target) (drop place (parts listed))))
+  pub records : h.records ≡ length (records_in (take (parts_taken listed place target) (drop place (parts listed))))
 
 -- the message is such a one, and is kept behind the others; or there is none
 abbrev pub KeepsHanded : List Handed → ℕ → ℕ → Option Handed → List Handed → Type 0

@@ -46,9 +46,9 @@ impl Drop for CountedMediator {
 }
 
 impl Model for CountedMediator {
-    ghost use Rattle.shared_mediator.specs.Counted.{Counted, counted_as, IsCounted};
+    ghost use Rattle.shared_mediator.specs.Counted.{CountedMediation, counted_as, IsCounted};
 
-    ghost Value = { Counted };
+    ghost Value = { CountedMediation };
 
     ghost view = { λ m. counted_as m.mediator m.from m.gone };
 
@@ -123,7 +123,7 @@ impl CountedMediator {
         ensures unchanged { OnErr result (self.new ≡ self.old) }
         ensures err { IfErr result (λ e. RefusesOpen e self.old.core) }
     {
-        let _journal = self.mediator.journal();
+        let _for_proof = self.mediator.journal();
         self.mediator.open()
     }
 
@@ -138,7 +138,7 @@ impl CountedMediator {
         ensures err { IfErr result (λ e.
             RefusesClose e (journal_limits self.old.core.limits) self.old.core.history session.0) }
     {
-        let _journal = self.mediator.journal();
+        let _for_proof = self.mediator.journal();
         self.mediator.close(session)
     }
 
@@ -181,7 +181,7 @@ impl CountedMediator {
         ensures unchanged { OnErr result (self.new ≡ self.old) }
         ensures err { IfErr result (λ e. RefusesReceive e self.old.core session.0 number message) }
     {
-        let _journal = self.mediator.journal();
+        let _for_proof = self.mediator.journal();
         self.mediator
             .receive_judged(session, number, message, ahead)
     }
@@ -219,7 +219,7 @@ impl CountedMediator {
             RefusesReceivePrepared e.0 self.old.core session.0 number prepared) }
         ensures handed_back { IfErr result (λ e. e.1 ≡ prepared) }
     {
-        let _journal = self.mediator.journal();
+        let _for_proof = self.mediator.journal();
         self.mediator.receive_prepared(session, number, prepared)
     }
 
@@ -235,7 +235,7 @@ impl CountedMediator {
         ensures err { IfErr result (λ e.
             RefusesEdit e (journal_limits self.old.core.limits) self.old.core.history text.now) }
     {
-        let _journal = self.mediator.journal();
+        let _for_proof = self.mediator.journal();
         self.mediator.edit(text)
     }
 
@@ -251,7 +251,7 @@ impl CountedMediator {
         ensures err { IfErr result (λ e. RefusesSubscribe e (journal_limits self.old.core.limits)
             self.old.core.history name.now) }
     {
-        let _journal = self.mediator.journal();
+        let _for_proof = self.mediator.journal();
         self.mediator.subscribe(name)
     }
 
@@ -268,7 +268,7 @@ impl CountedMediator {
         ensures err { IfErr result (λ e. RefusesUnsubscribe e (journal_limits self.old.core.limits)
             self.old.core.history sub.0) }
     {
-        let _journal = self.mediator.journal();
+        let _for_proof = self.mediator.journal();
         let handed = match self.mediator.status(sub) {
             Ok(status) => status.handed,
             Err(_) => return Err(Fault::UnknownSub),
@@ -288,7 +288,7 @@ impl CountedMediator {
         ensures unchanged { OnErr result (self.new ≡ self.old) }
         ensures err { IfErr result (λ e. RefusesAdvance e self.old.core t) }
     {
-        let _journal = self.mediator.journal();
+        let _for_proof = self.mediator.journal();
         self.mediator.advance(t)
     }
 
@@ -303,7 +303,7 @@ impl CountedMediator {
         ensures unchanged { OnErr result (self.new ≡ self.old) }
         ensures err { IfErr result (λ e. RefusesHanding e self.old sub.0) }
     {
-        let _journal = self.mediator.journal();
+        let _for_proof = self.mediator.journal();
         let before = match self.mediator.status(sub) {
             Ok(before) => before,
             Err(_) => return Err(Fault::UnknownSub),

@@ -2,7 +2,7 @@
 ghost use Rattle.std.specs.Prelude.{◌≡◌, ◌++◌, ◌∷◌, [], length, IfOk, IfErr, OnErr};
 ghost use Rattle.event_journal.specs.declared.entry.Entry.TheVariants.{Message};
 ghost use Rattle.shared_mediator.specs.Locked.{exporting_as};
-ghost use Rattle.shared_mediator.specs.Handles.{AreMessages, MayRefuseOffer};
+ghost use Rattle.shared_mediator.specs.Handles.{AreSessionMessages, MayRefuseOffer};
 
 use crate::kept::KeptEntry;
 use crate::ledgers::{EntryLedger, RecordLedger};
@@ -78,7 +78,7 @@ impl<E: EntryLedger> ExporterHandle<E> {
     /// The receipts of its messages, in their order: those of the session from the first on.
     pub fn kept(&self) -> &[KeptEntry]
         ensures value { result.now ≡ self.now.kept }
-        ensures messages { AreMessages self.now.session 0 self.now.kept }
+        ensures messages { AreSessionMessages self.now.session 0 self.now.kept }
     {
         self.kept.as_slice()
     }

@@ -4,12 +4,12 @@ ghost use Rattle.mediator_history.specs.Subscriptions.{is_live};
 ghost use Rattle.mediator_state.specs.declared.fault.Fault.TheVariants.{UnknownSub};
 ghost use Rattle.mediator_state.specs.Calls.{IsSnapshot, RefusesSnapshot, RefusesClose, RefusesEdit, RefusesSubscribe, RefusesUnsubscribe};
 ghost use Rattle.mediator_calls.specs.Mediation.{noted_at, journal_limits};
-ghost use Rattle.mediator_calls.specs.Sound.{IsSound};
+ghost use Rattle.mediator_calls.specs.Sound.{IsSoundMediation};
 ghost use Rattle.mediator_calls.specs.Calls.{Opens, Closes, Receives, RefusesReceive, RefusesReceivePrepared, Edits, Subscribes, Unsubscribes, Advances, RefusesAdvance, IsStatusOf, Drains};
 ghost use Rattle.shared_mediator.specs.Counted.{counted_as, handed_at, handed_live};
 ghost use Rattle.shared_mediator.specs.Handing.{HandsOut, RefusesHanding, records_of};
 ghost use Rattle.shared_mediator.specs.Locked.{locked_as};
-ghost use Rattle.shared_mediator.specs.Calls.{Makes, Adds, RefusesExporter, RefusesDelivery, RefusesAdmin, IsWaited, is_full, noted};
+ghost use Rattle.shared_mediator.specs.Calls.{Makes, Adds, RefusesExporter, RefusesDelivery, RefusesAdmin, IsWaited, is_full, with_refusal};
 
 use crate::counted::CountedMediator;
 use crate::delivery::Waited;
@@ -48,13 +48,13 @@ pub(crate) struct LockedMediator<E: EntryLedger, H: RecordLedger> {
 
 impl<E: EntryLedger, H: RecordLedger> Model for LockedMediator<E, H> {
     ghost use Rattle.shared_mediator.specs.Locked.{Locked, locked_as, ledgered_as};
-    ghost use Rattle.shared_mediator.specs.Keeping.{IsKept};
+    ghost use Rattle.shared_mediator.specs.Keeping.{AreBooksKept};
 
     ghost Value = { Locked };
 
     ghost view = { λ d. locked_as d.counted d.handles d.exporters d.deliveries d.admins d.stopped d.full };
 
-    ghost invariant = { λ d. IsKept E.all E.before H.all
+    ghost invariant = { λ d. AreBooksKept E.all E.before H.all
         (locked_as d.counted d.handles d.exporters d.deliveries d.admins d.stopped d.full)
         (ledgered_as d.entries.total d.entries_left.parts d.entries_left.amount)
         (ledgered_as d.handed.total d.handed_left.parts d.handed_left.amount) };
@@ -130,7 +130,7 @@ impl<E: EntryLedger, H: RecordLedger> LockedMediator<E, H> {
         ensures position { IfOk result (λ opened.
             opened.position ≡ length self.old.counted.core.history) }
         // A refusal changes nothing, but may note that the journal is full.
-        ensures noted { IfErr result (λ e. self.new ≡ noted (is_full e) self.old) }
+        ensures noted { IfErr result (λ e. self.new ≡ with_refusal (is_full e) self.old) }
         ensures err { IfErr result (λ e. RefusesExporter e self.old) }
     {
         if self.exporters == self.handles {
@@ -211,7 +211,7 @@ impl<E: EntryLedger, H: RecordLedger> LockedMediator<E, H> {
         ensures share { OnOk result (share.new.amount ≡ share.old.amount + 1) }
         ensures part { share.new.parts ≡ share.old.parts }
         // A refusal changes nothing, but may note that the journal is full.
-        ensures noted { IfErr result (λ e. (self.new ≡ noted (is_full e) self.old)
+        ensures noted { IfErr result (λ e. (self.new ≡ with_refusal (is_full e) self.old)
             × (share.new ≡ share.old)) }
         ensures err { IfErr result (λ e.
             RefusesReceive e self.old.counted.core session.0 number message) }
@@ -258,7 +258,7 @@ impl<E: EntryLedger, H: RecordLedger> LockedMediator<E, H> {
         ensures share { OnOk result (share.new.amount ≡ share.old.amount + 1) }
         ensures part { share.new.parts ≡ share.old.parts }
         // A refusal changes nothing, but may note that the journal is full. The message is handed back.
-        ensures noted { IfErr result (λ e. (self.new ≡ noted (is_full e.0) self.old)
+        ensures noted { IfErr result (λ e. (self.new ≡ with_refusal (is_full e.0) self.old)
             × (share.new ≡ share.old)) }
         ensures err { IfErr result (λ e.
             RefusesReceivePrepared e.0 self.old.counted.core session.0 number prepared) }
@@ -280,7 +280,7 @@ impl<E: EntryLedger, H: RecordLedger> LockedMediator<E, H> {
     pub(crate) fn close(&mut self, session: SessionId) -> Result<(), Fault>
         ensures ok { OnOk result (Closes self.old.counted.core session.0 self.new.counted.core) }
         ensures counts { OnOk result (Adds 0 0 0 self.old self.new) }
-        ensures noted { IfErr result (λ e. self.new ≡ noted (is_full e) self.old) }
+        ensures noted { IfErr result (λ e. self.new ≡ with_refusal (is_full e) self.old) }
         ensures err { IfErr result (λ e. RefusesClose e
             (journal_limits self.old.counted.core.limits) self.old.counted.core.history session.0) }
     {
@@ -304,7 +304,7 @@ impl<E: EntryLedger, H: RecordLedger> LockedMediator<E, H> {
     ) -> Result<Option<Handed>, Fault>
         requires part { 0 < share.old.parts }
         // What the counted mediator's call does, with the records of the message on the books and in the share.
-        ensures sound { IsSound self.old.counted.core }
+        ensures sound { IsSoundMediation self.old.counted.core }
         ensures ok { IfOk result (λ answer.
             HandsOut self.old.counted sub.0 now target answer self.new.counted) }
         ensures counts { IfOk result (λ answer. Adds 0 (records_of answer) 0 self.old self.new) }
@@ -315,7 +315,7 @@ impl<E: EntryLedger, H: RecordLedger> LockedMediator<E, H> {
         ensures unchanged { OnErr result ((self.new ≡ self.old) × (share.new ≡ share.old)) }
         ensures err { IfErr result (λ e. RefusesHanding e self.old.counted sub.0) }
     {
-        let _journal = self.counted.mediator().journal();
+        let _for_proof = self.counted.mediator().journal();
         match self.counted.pull(sub, now, target) {
             Ok(Some(handed)) => {
                 self.handed.add(share, handed.records);
@@ -355,7 +355,7 @@ impl<E: EntryLedger, H: RecordLedger> LockedMediator<E, H> {
         ensures share { OnOk result (share.new.amount ≡ share.old.amount + 1) }
         ensures part { share.new.parts ≡ share.old.parts }
         // A refusal changes nothing, but may note that the journal is full.
-        ensures noted { IfErr result (λ e. (self.new ≡ noted (is_full e) self.old)
+        ensures noted { IfErr result (λ e. (self.new ≡ with_refusal (is_full e) self.old)
             × (share.new ≡ share.old)) }
         ensures err { IfErr result (λ e. RefusesEdit e (journal_limits self.old.counted.core.limits)
             self.old.counted.core.history text.now) }
@@ -386,7 +386,7 @@ impl<E: EntryLedger, H: RecordLedger> LockedMediator<E, H> {
         ensures share { OnOk result (share.new.amount ≡ share.old.amount + 1) }
         ensures part { share.new.parts ≡ share.old.parts }
         // A refusal changes nothing, but may note that the journal is full.
-        ensures noted { IfErr result (λ e. (self.new ≡ noted (is_full e) self.old)
+        ensures noted { IfErr result (λ e. (self.new ≡ with_refusal (is_full e) self.old)
             × (share.new ≡ share.old)) }
         ensures err { IfErr result (λ e. RefusesSubscribe e
             (journal_limits self.old.counted.core.limits) self.old.counted.core.history name.now) }
@@ -417,7 +417,7 @@ impl<E: EntryLedger, H: RecordLedger> LockedMediator<E, H> {
         ensures share { OnOk result (share.new.amount ≡ share.old.amount + 1) }
         ensures part { share.new.parts ≡ share.old.parts }
         // A refusal changes nothing, but may note that the journal is full.
-        ensures noted { IfErr result (λ e. (self.new ≡ noted (is_full e) self.old)
+        ensures noted { IfErr result (λ e. (self.new ≡ with_refusal (is_full e) self.old)
             × (share.new ≡ share.old)) }
         ensures err { IfErr result (λ e. RefusesUnsubscribe e
             (journal_limits self.old.counted.core.limits) self.old.counted.core.history sub.0) }
@@ -447,7 +447,7 @@ impl<E: EntryLedger, H: RecordLedger> LockedMediator<E, H> {
         ensures share { OnOk result (share.new.amount ≡ share.old.amount + 1) }
         ensures part { share.new.parts ≡ share.old.parts }
         // A refusal changes nothing, but may note that the journal is full.
-        ensures noted { IfErr result (λ e. (self.new ≡ noted (is_full e) self.old)
+        ensures noted { IfErr result (λ e. (self.new ≡ with_refusal (is_full e) self.old)
             × (share.new ≡ share.old)) }
         ensures err { IfErr result (λ e. RefusesAdvance e self.old.counted.core t) }
     {
@@ -527,7 +527,7 @@ impl<E: EntryLedger, H: RecordLedger> LockedMediator<E, H> {
     /// Notes `fault`, a refusal of the mediator, where it is that the journal is full; and hands it on.
     fn note(&mut self, fault: Fault) -> Fault
         ensures same { result ≡ fault }
-        ensures noted { self.new ≡ noted (is_full fault) self.old }
+        ensures noted { self.new ≡ with_refusal (is_full fault) self.old }
     {
         self.full = self.full || is_full(fault);
         fault

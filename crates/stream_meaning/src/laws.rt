@@ -12,8 +12,8 @@ ghost use Rattle.subscriber_stream.specs.Parts.{parts, records_in};
 ghost use Rattle.subscriber_stream.specs.Message.{built, place_after};
 ghost use Rattle.subscriber_stream.specs.declared.limits.StreamLimits.{StreamLimits};
 ghost use Rattle.subscriber_stream.specs.declared.limits.TheConstants.{MOST_SHAPES};
-ghost use Rattle.subscriber_stream.specs.Standing.{Standing, StandsAt, FitsLimits};
-ghost use Rattle.subscriber_stream.specs.Calls.{Call, Serves, pulls_of};
+ghost use Rattle.subscriber_stream.specs.Standing.{StreamStanding, StandsAt, FitsLimits};
+ghost use Rattle.subscriber_stream.specs.Calls.{Call, ServesCalls, pulls_of};
 ghost use Rattle.stream_meaning.specs.Served.{IsStreamable, AreStreamable, AreInRange, records_given, messages_in, messages_got, pull_at, place_reached, pulls};
 ghost use Rattle.stream_meaning.specs.Means.{Means};
 ghost use Rattle.stream_meaning.specs.HandedOut.{AreHandedOut};
@@ -48,7 +48,7 @@ pub fn pulls_see_what_was_given()
 /// Where a stream stands at a place of the parts of a list, the records before that place are the first of
 /// the list, as many as `Stream::handed` counts.
 pub fn the_first_are_handed_out()
-    ensures { (s : Standing) (records : List DataRecord) (p : ℕ) → StandsAt s records p
+    ensures { (s : StreamStanding) (records : List DataRecord) (p : ℕ) → StandsAt s records p
         → records_in (take p (parts records)) ≡ take s.handed records }
 {}
 
@@ -56,8 +56,8 @@ pub fn the_first_are_handed_out()
 /// contracts of `Stream::push_reserved` and `Stream::pull`: its messages bring exactly the records
 /// that were handed out.
 pub fn answers_mean_the_list()
-    ensures { (s : Standing) (calls : List Call) (answers : List (Option (List ℕ)))
-        → StandsAt s [] 0 → Serves s calls answers
+    ensures { (s : StreamStanding) (calls : List Call) (answers : List (Option (List ℕ)))
+        → StandsAt s [] 0 → ServesCalls s calls answers
         → AreStreamable (records_given calls) → AreInRange calls
         → Means (messages_in answers)
         (records_in (take (place_reached calls) (parts (records_given calls)))) }

@@ -58,12 +58,12 @@ impl Drop for Stream {
 
 impl Model for Stream {
     ghost use Rattle.std.specs.VecDeque.{deque_capacity};
-    ghost use Rattle.subscriber_stream.specs.Standing.{Kept};
+    ghost use Rattle.subscriber_stream.specs.Standing.{KeptStream};
     ghost use Rattle.subscriber_stream.specs.Items.{parts_of};
     ghost use Rattle.subscriber_stream.specs.Waiting.{items_in};
     ghost use Rattle.subscriber_stream.specs.Steps.{IsConsistent};
 
-    ghost Value = { Kept };
+    ghost Value = { KeptStream };
 
     ghost view = { λ s. record { standing = record { shapes = s.shapes.shapes; handed = s.handed; announced = s.announced; waiting = parts_of s.shapes.shapes (items_in s.queue.items) }; limits = s.limits; spare = s.spare } };
 
@@ -72,9 +72,9 @@ impl Model for Stream {
 }
 
 impl Stream {
-    ghost use Rattle.subscriber_stream.specs.Standing.{at_start, StandsAt, HasRoom, FitsLimits, queued};
-    ghost use Rattle.subscriber_stream.specs.Calls.{TakesRecords, Gives};
-    ghost use Rattle.subscriber_stream.specs.Steps.{given, handed_parts};
+    ghost use Rattle.subscriber_stream.specs.Standing.{at_start, StandsAt, HasStreamRoom, FitsLimits, queue_size};
+    ghost use Rattle.subscriber_stream.specs.Calls.{TakesRecords, GivesNext};
+    ghost use Rattle.subscriber_stream.specs.Steps.{after_given, handed_parts};
     ghost use Rattle.ipfix_records.specs.Runs.{records_of};
 
     /// A stream that was given no record, and that holds at most what `limits` allow. What it comes
@@ -112,7 +112,7 @@ impl Stream {
 
     /// How many records wait to be handed out.
     pub fn queued(&self) -> u32
-        ensures { result ≡ queued self.now.standing }
+        ensures { result ≡ queue_size self.now.standing }
     {
         self.waiting
     }
@@ -134,7 +134,7 @@ impl Stream {
     /// Whether the limits leave room for `records`: for all of them in the queue, and for their
     /// templates among those that the stream knows. It takes no memory.
     pub fn room(&self, records: &Records) -> bool
-        ensures room { IsTrue result ↔ HasRoom self.now records.now }
+        ensures room { IsTrue result ↔ HasStreamRoom self.now records.now }
         // That is room behind the list of records that the stream was given.
         ensures exact { (given_before : List DataRecord) (p : ℕ)
             → StandsAt self.now.standing given_before p
@@ -144,7 +144,7 @@ impl Stream {
     }
 
     fn has_room(&self, records: &Records) -> bool
-        ensures { IsTrue result ↔ HasRoom self.now records.now }
+        ensures { IsTrue result ↔ HasStreamRoom self.now records.now }
     {
         records.len() <= (self.limits.queue - self.waiting) as usize
             && has_shape_room(&self.shapes, records.runs(), self.limits.shapes)
@@ -154,7 +154,7 @@ impl Stream {
     /// room then. It takes no memory.
     pub fn is_held_up(&self, records: &Records) -> bool
         ensures { IsTrue result
-            ↔ (self.now.limits.queue < queued self.now.standing + length records.now)
+            ↔ (self.now.limits.queue < queue_size self.now.standing + length records.now)
             × (length records.now ≤ self.now.limits.queue) }
     {
         let (count, most) = (records.len(), self.limits.queue as usize);
@@ -188,9 +188,9 @@ impl Stream {
     /// no record before had gets the next ID, and an announcement that waits before its first
     /// record. It takes no memory.
     pub fn push_reserved(&mut self, records: Records)
-        requires room { HasRoom self.old records }
+        requires room { HasStreamRoom self.old records }
         requires reserved { length records ≤ self.old.spare }
-        requires count { self.old.standing.handed + queued self.old.standing + length records
+        requires count { self.old.standing.handed + queue_size self.old.standing + length records
             < 2 ^ 64 }
         // The list that was given goes on with the records, and the place stays.
         ensures ok { TakesRecords self.old.standing records self.new.standing }
@@ -201,11 +201,11 @@ impl Stream {
     }
 
     fn push_all(&mut self, records: Records)
-        requires room { HasRoom self.old records }
+        requires room { HasStreamRoom self.old records }
         requires reserved { length records ≤ self.old.spare }
-        requires count { self.old.standing.handed + queued self.old.standing + length records
+        requires count { self.old.standing.handed + queue_size self.old.standing + length records
             < 2 ^ 64 }
-        ensures { self.new ≡ given self.old records }
+        ensures { self.new ≡ after_given self.old records }
     {
         for next in records.into_runs() {
             self.push_run(next);
@@ -214,11 +214,11 @@ impl Stream {
 
     /// Takes the records of a run into the reserved room.
     fn push_run(&mut self, next: Run)
-        requires room { HasRoom self.old (records_of next) }
+        requires room { HasStreamRoom self.old (records_of next) }
         requires reserved { length next.texts ≤ self.old.spare }
-        requires count { self.old.standing.handed + queued self.old.standing + length next.texts
+        requires count { self.old.standing.handed + queue_size self.old.standing + length next.texts
             < 2 ^ 64 }
-        ensures { self.new ≡ given self.old (records_of next) }
+        ensures { self.new ≡ after_given self.old (records_of next) }
     {
         let count = next.len();
         if count == 0 {
@@ -307,10 +307,10 @@ impl Stream {
     pub fn pull(&mut self, now: u32, target: u16) -> Result<Option<Bytes>, AllocError>
         // The message is the one that is built at the place where the stream stands, and the stream then
         // stands after its parts.
-        ensures ok { IfOk result (λ m. Gives self.old.standing now target m self.new.standing) }
-        ensures end { IfOk result (λ m. IsNone m ↔ (queued self.old.standing ≡ 0)) }
+        ensures ok { IfOk result (λ m. GivesNext self.old.standing now target m self.new.standing) }
+        ensures end { IfOk result (λ m. IsNone m ↔ (queue_size self.old.standing ≡ 0)) }
         // At the end no memory is taken.
-        ensures no_memory { queued self.old.standing ≡ 0 → IsOk result }
+        ensures no_memory { queue_size self.old.standing ≡ 0 → IsOk result }
         ensures limits { self.new.limits ≡ self.old.limits }
         ensures spare { self.new.spare ≡ self.old.spare }
         ensures err { OnErr result (self.new ≡ self.old) }

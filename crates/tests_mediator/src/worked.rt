@@ -1,4 +1,4 @@
-//! The worked cases, carried out over a journal and over a tally: each call answers the same over both.
+//! The worked cases, carried out over a journal and over its sizes alone: each call answers the same over both.
 ghost use Rattle.std.specs.Prelude.{[], IfOk};
 ghost use Rattle.mediator_state.specs.Calls.{StandsForSome};
 
@@ -7,7 +7,7 @@ use crate::calls;
 use crate::cases::{CASES, Case, Step};
 use bytes::Bytes;
 use disclosure_audit::{AuditEntry, line};
-use event_journal::{Chronicle, Journal, MOST_ENTRIES, MOST_OCTETS, Tally};
+use event_journal::{Chronicle, Journal, JournalSizes, MOST_ENTRIES, MOST_OCTETS};
 use ipfix_session::Skips;
 use mediator_calls::{SessionId, SubId};
 use mediator_core::Limits;
@@ -190,7 +190,7 @@ fn expect_case<C: Chronicle + Drop>(
     expect_steps(rt, alloc, case.name, &mut state, case.steps)
 }
 
-/// That a case's calls answer what is wanted over a journal, and over a tally.
+/// That a case's calls answer what is wanted over a journal, and over its sizes alone.
 fn expect_both(rt: &impl Abort, alloc: Global, case: &Case) -> Result<(), AllocError> {
     let (entries, octets) = (case.limits.entries, case.limits.octets);
     assert!(rt; 1 <= entries);
@@ -208,8 +208,8 @@ fn expect_both(rt: &impl Abort, alloc: Global, case: &Case) -> Result<(), AllocE
         rt,
         alloc,
         case,
-        Tally::new(entries, octets),
-        Tally::new(entries, octets),
+        JournalSizes::new(entries, octets),
+        JournalSizes::new(entries, octets),
     )
 }
 

@@ -5,7 +5,7 @@ use Rattle.mediator_history.specs.Disclosed.{given_at}
 use Rattle.event_journal.specs.declared.entry.Entry.TheVariants.{Message}
 use Rattle.history_verify.specs.declared.fault.VerifyFault.{VerifyFault}
 use Rattle.history_verify.specs.declared.replay.Replay.{Replay}
-use Rattle.history_verify.specs.Standing.{RefusesNext, NamesUnborne, StandsOver, Stands, StandsShort}
+use Rattle.history_verify.specs.Standing.{RefusesNext, NamesUnborne, StandsOver, Repeats, StandsShort}
 use Rattle.history_verify.proofs.FeedLaws.{err_gives, refused, names_unborne, fed_more, borne, short_front}
 use Rattle.history_verify.proofs.StepLaws.{read_accepted}
 use Rattle.history_verify.proofs.verifier.Verifier.message.Goals as goal
@@ -52,7 +52,7 @@ message-requires c =
         c.args.octets.now,
         subst (λ (r : Replay). StandsOver r fed.over.stands.settled fed.front) (sym now) fed.over.stands.over,
         is,
-        c.in_ok-judged.ensures.judged fed.front c.args.session c.args.number c.args.octets.now (subst (λ (r : Replay). Stands r fed.front) (sym same) fed.over.stands) is,
+        c.in_ok-judged.ensures.judged fed.front c.args.session c.args.number c.args.octets.now (subst (λ (r : Replay). Repeats r fed.front) (sym same) fed.over.stands) is,
       );
     }
 
@@ -66,4 +66,4 @@ returns-clause-ok c = λ h fed.
     (subst (λ (r : Replay). AllByRecursion (λ s. given_at s fed.over.stands.settled (Message c.args.session c.args.number c.args.octets.now) ≢ []) r.waiting.items) (sym now)
     (borne (λ s. given_at s fed.over.stands.settled (Message c.args.session c.args.number c.args.octets.now)) c.args.self.now.replay.waiting.items c.in_ok-unborne.unborne c.in_ok-borne_out.ensures.none
     (c.in_ok-unborne.ensures.first fed.over.stands.settled fed.front c.args.session c.args.number c.args.octets.now fed.over.stands.over is)))
-    (c.in_ok-judged.ensures.judged fed.front c.args.session c.args.number c.args.octets.now (subst (λ (r : Replay). Stands r fed.front) (sym same) fed.over.stands) is))
+    (c.in_ok-judged.ensures.judged fed.front c.args.session c.args.number c.args.octets.now (subst (λ (r : Replay). Repeats r fed.front) (sym same) fed.over.stands) is))

@@ -8,7 +8,7 @@ use Rattle.mediator_history.specs.Cuts.{after_cuts}
 use Rattle.mediator_tables.specs.Adding.{tallied}
 use Rattle.mediator_state.specs.Standing.{Stands}
 use Rattle.mediator_state.specs.Steps.{CutsInARow}
-use Rattle.mediator_state.specs.Accepting.{IsReadyToTake, IsMessage}
+use Rattle.mediator_state.specs.Accepting.{IsReadyToTake, IsBroughtBy}
 use Rattle.mediator_tables.specs.Adding.{reserved_for}
 use Rattle.mediator_state.proofs.Accepts.{is_message, ready, groups_ready}
 use Rattle.mediator_state.proofs.engine.Engine.accept.Goals as goal
@@ -26,5 +26,5 @@ returns-clause-stands c = λ h number octets so counted plan.
     let row : CutsInARow c.args.plan.cuts.items c.args.self.now c.cut_all.new.self = subst (λ ns. CutsInARow ns c.args.self.now c.cut_all.new.self) c.deref.ensures.value c.cut_all.ensures.row in
     let made = groups_ready c.args.self.now c.cut_all.new.self h (Message c.args.plan.session.0 number octets) c.args.plan.cuts.items (map reserved_for c.args.reserved.items) (map tallied c.args.plan.tallies.items) behind row plan.tallied_are c.requires.room.groups in
     c.take.ensures.stands (after_cuts h c.args.plan.cuts.items) number octets (map tallied c.args.plan.tallies.items) behind made.0 made.1
-    (subst (λ (notes : List Note). IsMessage c.cut_all.new.self (after_cuts h c.args.plan.cuts.items) c.args.plan.session.0 number octets (record { reading = c.args.plan.reading; shares = map shown c.args.plan.shares.items; tallies = map tallied c.args.plan.tallies.items; entries = map (stamp c.args.plan.position) notes })) (sym c.into_kept.ensures.kept)
+    (subst (λ (notes : List Note). IsBroughtBy c.cut_all.new.self (after_cuts h c.args.plan.cuts.items) c.args.plan.session.0 number octets (record { reading = c.args.plan.reading; shares = map shown c.args.plan.shares.items; tallies = map tallied c.args.plan.tallies.items; entries = map (stamp c.args.plan.position) notes })) (sym c.into_kept.ensures.kept)
     (is_message c.args.self.now c.cut_all.new.self h number octets c.args.plan (map reserved_for c.args.reserved.items) plan c.requires.room row))

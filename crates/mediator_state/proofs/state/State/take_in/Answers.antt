@@ -6,7 +6,7 @@ use Rattle.mediator_state.specs.declared.engine.Engine.{Engine}
 use Rattle.mediator_state.specs.declared.fault.Fault.{Fault}
 use Rattle.mediator_state.specs.Seen.{IsSameEngine}
 use Rattle.mediator_state.specs.Accepting.{IsPlannedFor, LacksAudit}
-use Rattle.mediator_state.specs.Calls.{RefusesReceive}
+use Rattle.mediator_state.specs.Calls.{RefusesReceiveAfter}
 use Rattle.mediator_state.proofs.Judging.{means_few}
 use Rattle.mediator_state.proofs.SameLaws.{untouched_same, untouched_after}
 use Rattle.mediator_state.proofs.CallLaws.{found, next_of, next_memory, message_held, refused_full, refused_audit, full_where, room_where, planned_for, received, same_kept, same_roomed, err_gives, on_err}
@@ -43,7 +43,7 @@ returns-in_err-reserved-clause-err g c =
     err_gives c.from_residual-in_err-reserved.result c.from_residual-in_err-reserved.ensures
     (λ e is h s.
     let counts = g.met.C.Chronicle.counted c.args.self.now.chronicle h s.told in
-    subst (λ (why : Fault). RefusesReceive why (g.C.Chronicle.limits c.args.self.now.chronicle) c.args.self.now.engine h c.args.session.0 c.args.number c.args.message) (sym is)
+    subst (λ (why : Fault). RefusesReceiveAfter why (g.C.Chronicle.limits c.args.self.now.chronicle) c.args.self.now.engine h c.args.session.0 c.args.number c.args.message) (sym is)
     (refused_audit c.in_err-reserved.field-0.0 (g.C.Chronicle.limits c.args.self.now.chronicle) (g.C.Chronicle.count c.args.self.now.chronicle) (g.C.Chronicle.octets c.args.self.now.chronicle) c.args.self.now.engine h c.args.session.0 c.args.number c.args.message c.in_ok-plan.plan c.in_ok-entries.entries.items counts
     (found c.args.self.now.engine h c.args.session.0 c.args.number c.args.message c.in_ok-plan.plan c.in_ok-entries.entries.items c.deref-2.result.now (c.in_ok-plan.ensures.ok h c.args.number c.args.message s.stands (sym (c.len-position.ensures.value ∙ counts.entries)) (c.requires.read h s)) c.in_ok-plan.ensures.session c.in_ok-entries.ensures c.deref-2.ensures.value)
     (room_where c.room.result (g.C.Chronicle.limits c.args.self.now.chronicle) (g.C.Chronicle.count c.args.self.now.chronicle) (g.C.Chronicle.octets c.args.self.now.chronicle) c.deref-3.result.now c.in_ok-entries.entries.items c.room.ensures c.deref-3.ensures.value c.if-not-room.false)

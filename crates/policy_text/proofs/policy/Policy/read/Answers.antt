@@ -1,5 +1,5 @@
 use Rattle.std.proofs.Common.{◌+◌, Option, Some, None, Ok, sym, ap, ◌∙◌, subst, arith, length}
-use Rattle.policy_text.specs.Policies.{Meaning}
+use Rattle.policy_text.specs.Policies.{PolicyMeaning}
 use Rattle.policy_text.specs.declared.fault.PolicyFault.{PolicyFault}
 use Rattle.flow_prefix.proofs.PartsLaws.{cut_at-shorter}
 use Rattle.policy_text.specs.Results.{fault_at}
@@ -44,12 +44,12 @@ lines-preserved c =
 
 pub returns-in-Ok-Some-clause-exact : goal.returns-in-Ok-Some-clause-exact
 returns-in-Ok-Some-clause-exact c =
-    let last = read_lines-last c.lines.policy (Some c.in-Ok-Some.policy) c.lines.number c.lines.rest.now (sym c.in_default.ensures) (c.in-Ok-Some.ensures.value ∙ ap (λ (x : Option Meaning). Ok x) c.in-Ok-Some.field-0-is) in
+    let last = read_lines-last c.lines.policy (Some c.in-Ok-Some.policy) c.lines.number c.lines.rest.now (sym c.in_default.ensures) (c.in-Ok-Some.ensures.value ∙ ap (λ (x : Option PolicyMeaning). Ok x) c.in-Ok-Some.field-0-is) in
     sym c.lines.invariant.reading ∙ last ∙ read_lines-done c.in-Ok-Some.policy (c.lines.number + 1)
 
 pub returns-in-Ok-None-clause-exact : goal.returns-in-Ok-None-clause-exact
 returns-in-Ok-None-clause-exact c =
-    let last = read_lines-last c.lines.policy None c.lines.number c.lines.rest.now (sym c.in_default.ensures) (c.in-Ok-None.ensures.value ∙ ap (λ (x : Option Meaning). Ok x) c.in-Ok-None.field-0-is) in
+    let last = read_lines-last c.lines.policy None c.lines.number c.lines.rest.now (sym c.in_default.ensures) (c.in-Ok-None.ensures.value ∙ ap (λ (x : Option PolicyMeaning). Ok x) c.in-Ok-None.field-0-is) in
     let P : PolicyFault → Type 0 = λ fault. Reports fault (policy_of c.args.text.now) in
     subst P (sym c.fault_at-in-Ok-None.ensures) (sym c.lines.invariant.reading ∙ last ∙ read_lines-empty (c.lines.number + 1))
 

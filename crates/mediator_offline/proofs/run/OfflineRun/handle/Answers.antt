@@ -1,14 +1,14 @@
 use Rattle.std.proofs.Common.{refl, sym, subst}
 use Rattle.mediator_offline.specs.Ports.{holding}
 use Rattle.mediator_offline.specs.Offline.{due}
-use Rattle.mediator_offline.specs.Steps.{Receives}
+use Rattle.mediator_offline.specs.Steps.{TakesMessage}
 use Rattle.mediator_offline.specs.Recording.{StopsLines}
 use Rattle.mediator_offline.specs.Pulling.{FailsDelivery}
 use Rattle.mediator_offline.specs.Filtering.{StopsAtMessage}
 use Rattle.mediator_offline.proofs.Blaming.{lines_only, delivery_only}
 use Rattle.mediator_offline.proofs.Receiving.{err_gives}
 use Rattle.mediator_offline.proofs.InHand.{stops_refused, stops_recording, stops_delivering, delivered, handled, was_cut_at, stops_cut, stops_cut_recording, delivered_history}
-use Rattle.mediator_offline.proofs.run.Run.handle.Goals as goal
+use Rattle.mediator_offline.proofs.run.OfflineRun.handle.Goals as goal
 
 pub returns-in_err-receive-clause-err : goal.returns-in_err-receive-clause-err
 returns-in_err-receive-clause-err g c =
@@ -28,7 +28,7 @@ returns-in_err-record-clause-err g c =
     record {
       stops = λ job messages first r.
           stops_cut_recording e c.args.self.now c.receive.new.self job messages c.args.message first before (g.A.Sink.contents c.record.new.writer) (g.W.Sink.has_failed c.args.writer.now) (g.A.Sink.has_failed c.record.new.writer) r
-          (was_cut_at c.args.self.now c.receive.new.self job messages c.args.message r (subst (λ b. Receives c.args.self.now c.args.message b c.receive.new.self) c.if-branch.true c.in_ok-receive.ensures.ok) c.in_ok-receive.ensures.job)
+          (was_cut_at c.args.self.now c.receive.new.self job messages c.args.message r (subst (λ b. TakesMessage c.args.self.now c.args.message b c.receive.new.self) c.if-branch.true c.in_ok-receive.ensures.ok) c.in_ok-receive.ensures.job)
           (subst (λ x. StopsLines x (g.A.Sink.has_failed c.record.new.writer)) (sym is) c.in_err-record.ensures.cause) c.in_err-record.ensures.err;
     })
 
@@ -38,7 +38,7 @@ returns-then-branch-clause-err g c =
     record {
       stops = λ job messages first r.
           stops_cut c.args.self.now c.receive.new.self job messages c.args.message first before (g.A.Sink.contents c.record.new.writer) (g.W.Sink.has_failed c.args.writer.now) (g.A.Sink.has_failed c.record.new.writer) r
-          (was_cut_at c.args.self.now c.receive.new.self job messages c.args.message r (subst (λ b. Receives c.args.self.now c.args.message b c.receive.new.self) c.if-branch.true c.in_ok-receive.ensures.ok) c.in_ok-receive.ensures.job)
+          (was_cut_at c.args.self.now c.receive.new.self job messages c.args.message r (subst (λ b. TakesMessage c.args.self.now c.args.message b c.receive.new.self) c.if-branch.true c.in_ok-receive.ensures.ok) c.in_ok-receive.ensures.job)
           c.in_ok-record.ensures.written;
     }
 
@@ -50,7 +50,7 @@ returns-in_err-deliver-clause-err g c =
     record {
       stops = λ job messages first r.
           stops_delivering e c.args.self.now c.receive.new.self job messages c.args.message first before (g.W.Sink.contents c.deliver.new.writer) (g.W.Sink.has_failed c.deliver.new.writer) (g.A.Sink.has_failed c.args.audit_writer.now) r
-          (subst (λ b. Receives c.args.self.now c.args.message b c.receive.new.self) c.if-branch.false c.in_ok-receive.ensures.ok)
+          (subst (λ b. TakesMessage c.args.self.now c.args.message b c.receive.new.self) c.if-branch.false c.in_ok-receive.ensures.ok)
           c.in_ok-receive.ensures.job c.in_ok-receive.ensures.sent c.in_err-deliver.ensures.below
           (subst (λ x. FailsDelivery x c.receive.new.self (g.W.Sink.contents c.args.writer.now) (g.W.Sink.contents c.deliver.new.writer) (g.W.Sink.has_failed c.deliver.new.writer)) (sym is) c.in_err-deliver.ensures.err);
     })
@@ -64,7 +64,7 @@ returns-in_err-record-2-clause-err g c =
     record {
       stops = λ job messages first r.
           stops_recording e c.args.self.now c.deliver.new.self job messages c.args.message first before after r
-          (delivered c.args.self.now c.receive.new.self c.deliver.new.self job messages c.args.message (g.W.Sink.contents c.deliver.new.writer) r (record { receives = (subst (λ b. Receives c.args.self.now c.args.message b c.receive.new.self) c.if-branch.false c.in_ok-receive.ensures.ok); job = c.in_ok-receive.ensures.job; sent = c.in_ok-receive.ensures.sent; below = c.in_ok-deliver.ensures.below; now_below = c.in_ok-deliver.ensures.now_below; delivers = c.in_ok-deliver.ensures.ok }))
+          (delivered c.args.self.now c.receive.new.self c.deliver.new.self job messages c.args.message (g.W.Sink.contents c.deliver.new.writer) r (record { receives = (subst (λ b. TakesMessage c.args.self.now c.args.message b c.receive.new.self) c.if-branch.false c.in_ok-receive.ensures.ok); job = c.in_ok-receive.ensures.job; sent = c.in_ok-receive.ensures.sent; below = c.in_ok-deliver.ensures.below; now_below = c.in_ok-deliver.ensures.now_below; delivers = c.in_ok-deliver.ensures.ok }))
           (subst (λ x. StopsLines x (g.A.Sink.has_failed c.record-2.new.writer)) (sym is) c.in_err-record-2.ensures.cause) c.in_err-record-2.ensures.err;
     })
 
@@ -72,7 +72,7 @@ pub returns-clause-ok : goal.returns-clause-ok
 returns-clause-ok g c = record {
   running = λ job messages first r.
       handled c.args.self.now c.deliver.new.self c.record-2.new.self job messages c.args.message r
-      (delivered c.args.self.now c.receive.new.self c.deliver.new.self job messages c.args.message (g.W.Sink.contents c.deliver.new.writer) r (record { receives = (subst (λ b. Receives c.args.self.now c.args.message b c.receive.new.self) c.if-branch.false c.in_ok-receive.ensures.ok); job = c.in_ok-receive.ensures.job; sent = c.in_ok-receive.ensures.sent; below = c.in_ok-deliver.ensures.below; now_below = c.in_ok-deliver.ensures.now_below; delivers = c.in_ok-deliver.ensures.ok }))
+      (delivered c.args.self.now c.receive.new.self c.deliver.new.self job messages c.args.message (g.W.Sink.contents c.deliver.new.writer) r (record { receives = (subst (λ b. TakesMessage c.args.self.now c.args.message b c.receive.new.self) c.if-branch.false c.in_ok-receive.ensures.ok); job = c.in_ok-receive.ensures.job; sent = c.in_ok-receive.ensures.sent; below = c.in_ok-deliver.ensures.below; now_below = c.in_ok-deliver.ensures.now_below; delivers = c.in_ok-deliver.ensures.ok }))
       c.in_ok-record-2.ensures.drained c.in_ok-record-2.ensures.written;
 }
 
@@ -99,4 +99,4 @@ returns-in_err-record-2-clause-fails g c =
     (λ e is. lines_only e c.in_err-record-2.field-0.0 (g.W.Sink.has_failed c.args.writer.now) (g.W.Sink.has_failed c.deliver.new.writer) (g.A.Sink.has_failed c.args.audit_writer.now) (g.A.Sink.has_failed c.record-2.new.writer) is c.in_err-record-2.ensures.cause c.in_err-record-2.ensures.fails c.in_ok-deliver.ensures.stays)
 
 pub record-requires-2-clause-known : goal.record-requires-2-clause-known
-record-requires-2-clause-known g c = delivered_history c.args.self.now c.receive.new.self c.deliver.new.self c.args.message (g.W.Sink.contents c.args.writer.now) (g.W.Sink.contents c.deliver.new.writer) c.requires.running (subst (λ b. Receives c.args.self.now c.args.message b c.receive.new.self) c.if-branch.false c.in_ok-receive.ensures.ok) c.in_ok-deliver.ensures.ok
+record-requires-2-clause-known g c = delivered_history c.args.self.now c.receive.new.self c.deliver.new.self c.args.message (g.W.Sink.contents c.args.writer.now) (g.W.Sink.contents c.deliver.new.writer) c.requires.running (subst (λ b. TakesMessage c.args.self.now c.args.message b c.receive.new.self) c.if-branch.false c.in_ok-receive.ensures.ok) c.in_ok-deliver.ensures.ok

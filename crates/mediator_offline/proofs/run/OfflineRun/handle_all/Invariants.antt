@@ -2,7 +2,7 @@ use Rattle.std.proofs.Common.{◌≡◌}
 use Rattle.std.specs.Vec.Iter.{into_iter_items}
 use Rattle.mediator_offline.specs.Ports.{holding}
 use Rattle.mediator_offline.proofs.Streams.{IsHandling}
-use Rattle.mediator_offline.proofs.run.Run.handle_all.Given as goal
+use Rattle.mediator_offline.proofs.run.OfflineRun.handle_all.Given as goal
 
 abbrev pub invariant-messages : goal.invariant-messages
 invariant-messages g l =

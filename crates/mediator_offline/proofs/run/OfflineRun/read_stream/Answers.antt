@@ -1,6 +1,6 @@
 use Rattle.std.proofs.Common.{false, refl, sym, ap, ◌∙◌, subst, arith}
 use Rattle.std.specs.Prelude.{MatchOption}
-use Rattle.ipfix_reader.specs.Intake.{Ends, Takes, reader_after as intake_reader}
+use Rattle.ipfix_reader.specs.Intake.{Ends, Yields, reader_after as intake_reader}
 use Rattle.mediator_offline.specs.Failing.{FailsOnly}
 use Rattle.mediator_offline.specs.Ports.{holding, with_left}
 use Rattle.mediator_offline.specs.Filtering.{StopsSomewhere}
@@ -8,7 +8,7 @@ use Rattle.mediator_offline.specs.Reaching.{StopsAmong}
 use Rattle.mediator_offline.proofs.Blaming.{only_then}
 use Rattle.mediator_offline.proofs.Receiving.{err_gives}
 use Rattle.mediator_offline.proofs.Ends.{reading_starts, runs_after, reads_on, message_stops, intake_stops, intake_only, stream_ends}
-use Rattle.mediator_offline.proofs.run.Run.read_stream.Goals as goal
+use Rattle.mediator_offline.proofs.run.OfflineRun.read_stream.Goals as goal
 
 pub reads-init : goal.reads-init
 reads-init g c = (reading_starts c.args.self.now c.args.intake.now c.args.self.now.job _ c.requires.opened c.requires.intake, c.requires.reader, refl, refl)
@@ -35,7 +35,7 @@ returns-in_err-messages-clause-fails g c =
 pub returns-in_default-clause-ok : goal.returns-in_default-clause-ok
 returns-in_default-clause-ok g c =
     stream_ends c.reads.self c.reads.intake c.next.new.self c.args.self.now.job _ _ (g.R.Source.remaining c.next.new.reader) (g.R.Source.has_failed c.next.new.reader) c.reads.invariant.0
-    (subst (λ o. MatchOption o (Ends c.reads.intake (g.R.Source.remaining c.reads.reader) (g.R.Source.remaining c.next.new.reader) c.next.new.self) (λ out. Takes c.reads.intake (g.R.Source.remaining c.reads.reader) (g.R.Source.remaining c.next.new.reader) out.items c.next.new.self)) c.in_default.is c.in_ok-messages.ensures.ok)
+    (subst (λ o. MatchOption o (Ends c.reads.intake (g.R.Source.remaining c.reads.reader) (g.R.Source.remaining c.next.new.reader) c.next.new.self) (λ out. Yields c.reads.intake (g.R.Source.remaining c.reads.reader) (g.R.Source.remaining c.next.new.reader) out.items c.next.new.self)) c.in_default.is c.in_ok-messages.ensures.ok)
 
 pub returns-in_default-clause-reads : goal.returns-in_default-clause-reads
 returns-in_default-clause-reads g c = c.in_ok-messages.ensures.sound ∙ c.reads.invariant.1
@@ -53,7 +53,7 @@ pub returns-in_err-handle_all-clause-err : goal.returns-in_err-handle_all-clause
 returns-in_err-handle_all-clause-err g c =
     err_gives c.from_residual-in_err-handle_all.result c.from_residual-in_err-handle_all.ensures
     (λ e is. message_stops e c.reads.self c.reads.intake c.next.new.self c.args.self.now.job _ _ _ c.in-Some.messages.items c.reads.invariant.0
-    (subst (λ o. MatchOption o (Ends c.reads.intake (g.R.Source.remaining c.reads.reader) (g.R.Source.remaining c.next.new.reader) c.next.new.self) (λ out. Takes c.reads.intake (g.R.Source.remaining c.reads.reader) (g.R.Source.remaining c.next.new.reader) out.items c.next.new.self)) c.in-Some.is c.in_ok-messages.ensures.ok)
+    (subst (λ o. MatchOption o (Ends c.reads.intake (g.R.Source.remaining c.reads.reader) (g.R.Source.remaining c.next.new.reader) c.next.new.self) (λ out. Yields c.reads.intake (g.R.Source.remaining c.reads.reader) (g.R.Source.remaining c.next.new.reader) out.items c.next.new.self)) c.in-Some.is c.in_ok-messages.ensures.ok)
     (subst (λ x. StopsAmong x c.reads.self c.in-Some.messages.items
     (holding (g.W.Sink.contents c.reads.writer) (g.A.Sink.contents c.reads.audit_writer) (g.W.Sink.has_failed c.reads.writer) (g.A.Sink.has_failed c.reads.audit_writer))
     (holding (g.W.Sink.contents c.handle_all.new.writer) (g.A.Sink.contents c.handle_all.new.audit_writer) (g.W.Sink.has_failed c.handle_all.new.writer) (g.A.Sink.has_failed c.handle_all.new.audit_writer)))
@@ -66,12 +66,12 @@ returns-in_err-handle_all-clause-fails g c =
     (only_then e c.in_err-handle_all.field-0.0 (g.W.Sink.has_failed c.args.writer.now) (g.W.Sink.has_failed c.reads.writer) (g.A.Sink.has_failed c.args.audit_writer.now) (g.A.Sink.has_failed c.reads.audit_writer) false (g.W.Sink.has_failed c.handle_all.new.writer) (g.A.Sink.has_failed c.handle_all.new.audit_writer) is c.reads.invariant.2 c.reads.invariant.3 c.in_err-handle_all.ensures.fails))
 
 pub reads-smaller : goal.reads-smaller
-reads-smaller g c = let t = (subst (λ o. MatchOption o (Ends c.reads.intake (g.R.Source.remaining c.reads.reader) (g.R.Source.remaining c.next.new.reader) c.next.new.self) (λ out. Takes c.reads.intake (g.R.Source.remaining c.reads.reader) (g.R.Source.remaining c.next.new.reader) out.items c.next.new.self)) c.in-Some.is c.in_ok-messages.ensures.ok) in omega (arith, t.turn)
+reads-smaller g c = let t = (subst (λ o. MatchOption o (Ends c.reads.intake (g.R.Source.remaining c.reads.reader) (g.R.Source.remaining c.next.new.reader) c.next.new.self) (λ out. Yields c.reads.intake (g.R.Source.remaining c.reads.reader) (g.R.Source.remaining c.next.new.reader) out.items c.next.new.self)) c.in-Some.is c.in_ok-messages.ensures.ok) in omega (arith, t.turn)
 
 pub reads-preserved : goal.reads-preserved
 reads-preserved g c = (
   reads_on c.reads.self c.handle_all.new.self c.reads.intake c.next.new.self c.args.self.now.job _ _ _ c.in-Some.messages.items c.reads.invariant.0
-      (subst (λ o. MatchOption o (Ends c.reads.intake (g.R.Source.remaining c.reads.reader) (g.R.Source.remaining c.next.new.reader) c.next.new.self) (λ out. Takes c.reads.intake (g.R.Source.remaining c.reads.reader) (g.R.Source.remaining c.next.new.reader) out.items c.next.new.self)) c.in-Some.is c.in_ok-messages.ensures.ok)
+      (subst (λ o. MatchOption o (Ends c.reads.intake (g.R.Source.remaining c.reads.reader) (g.R.Source.remaining c.next.new.reader) c.next.new.self) (λ out. Yields c.reads.intake (g.R.Source.remaining c.reads.reader) (g.R.Source.remaining c.next.new.reader) out.items c.next.new.self)) c.in-Some.is c.in_ok-messages.ensures.ok)
       c.in_ok-handle_all.ensures.ok,
   c.in_ok-messages.ensures.sound ∙ c.reads.invariant.1,
   c.in_ok-handle_all.ensures.stays ∙ c.reads.invariant.2,

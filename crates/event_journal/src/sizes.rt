@@ -1,4 +1,4 @@
-//! A tally: the sizes of a journal alone, for a run that is not to grow with what it accepts.
+//! The sizes of a journal alone, for a run that is not to grow with what it accepts.
 ghost use Rattle.std.specs.Prelude.{◌≡◌, ◌≤◌, ◌<◌, ◌+◌, ◌-◌, ◌↔◌, [], ◌∷◌, IsTrue, max};
 ghost use Rattle.event_journal.specs.declared.limits.TheConstants.{MOST_ENTRIES, MOST_OCTETS};
 
@@ -10,7 +10,7 @@ use std::marker::Model;
 /// those of a [`Journal`](crate::Journal) that was given the same entries, and it keeps none of them. It takes no
 /// memory.
 #[derive(Debug, Drop)]
-pub struct Tally {
+pub struct JournalSizes {
     entries: u64,
     octets: u64,
     most_entries: u64,
@@ -18,10 +18,10 @@ pub struct Tally {
     spare: u64,
 }
 
-impl Model for Tally {
-    ghost use Rattle.event_journal.specs.Counted.{Counted, IsWithin};
+impl Model for JournalSizes {
+    ghost use Rattle.event_journal.specs.Counted.{CountedEntries, IsWithin};
 
-    ghost Value = { Counted };
+    ghost Value = { CountedEntries };
 
     ghost view = { λ t. record { count = t.entries; octets = t.octets; limits = record { entries = t.most_entries; octets = t.most_octets }; spare = t.spare } };
 
@@ -33,13 +33,13 @@ impl Model for Tally {
     }) };
 }
 
-impl Tally {
+impl JournalSizes {
     ghost use Rattle.event_journal.specs.Room.{HasRoom};
     ghost use Rattle.event_journal.specs.Counted.{AreLimits, with_one};
 
-    /// A tally of no entry, which may come to count `entries` entries, 1 to [`MOST_ENTRIES`](crate::MOST_ENTRIES), that
+    /// The sizes of no entry, which may come to count `entries` entries, 1 to [`MOST_ENTRIES`](crate::MOST_ENTRIES), that
     /// take `octets` octets in a journal's file, 1 to [`MOST_OCTETS`](crate::MOST_OCTETS).
-    pub fn new(entries: u64, octets: u64) -> Tally
+    pub fn new(entries: u64, octets: u64) -> JournalSizes
         requires some_entries { 1 ≤ entries }
         requires most_entries { entries ≤ MOST_ENTRIES }
         requires some_octets { 1 ≤ octets }
@@ -52,7 +52,7 @@ impl Tally {
           spare = 0;
         } }
     {
-        Tally {
+        JournalSizes {
             entries: 0,
             octets: 0,
             most_entries: entries,
@@ -80,7 +80,7 @@ impl Tally {
     }
 
     /// Counts `entry` in the reserved room, of which there is then less by one, and drops it. The caller has seen to it
-    /// that the limits allow the entry ([`room`](Tally::room)) and that room is reserved ([`reserve`](Tally::reserve)).
+    /// that the limits allow the entry ([`room`](JournalSizes::room)) and that room is reserved ([`reserve`](JournalSizes::reserve)).
     pub fn push_reserved(&mut self, entry: Entry)
         requires room { HasRoom self.old.limits self.old.count self.old.octets (entry ∷ []) }
         requires reserved { 0 < self.old.spare }

@@ -2,7 +2,7 @@ use Rattle.std.proofs.Common.{Some, [], refl, ◌∙◌, sym, ap, subst, length,
 use Rattle.mediator_offline.specs.Pulling.{Delivers}
 use Rattle.mediator_offline.proofs.Receiving.{err_gives}
 use Rattle.mediator_offline.proofs.Delivering.{all_delivered, all_fits, write_fails, memory_fails}
-use Rattle.mediator_offline.proofs.run.Run.deliver.Goals as goal
+use Rattle.mediator_offline.proofs.run.OfflineRun.deliver.Goals as goal
 
 pub returns-in-Ok-clause-ok : goal.returns-in-Ok-clause-ok
 returns-in-Ok-clause-ok g c = all_delivered c.args.self.now c.pull_all.new.self (g.W.Sink.contents c.args.writer.now) (g.W.Sink.contents c.write_all.new.sink) _ (subst (λ t. Delivers c.args.self.now c.pull_all.new.self (Some []) t) (ap Some (sym c.deref.ensures.value)) c.in_ok-text.ensures.ok) c.in-Ok.ensures.ok

@@ -1,7 +1,7 @@
 use Rattle.std.proofs.Common.{◌≡◌, false}
 use Rattle.mediator_offline.specs.Ports.{holding, with_left}
 use Rattle.mediator_offline.specs.Reaching.{IsAfter}
-use Rattle.mediator_offline.proofs.run.Run.read_stream.Given as goal
+use Rattle.mediator_offline.proofs.run.OfflineRun.read_stream.Given as goal
 
 abbrev pub invariant-reads : goal.invariant-reads
 invariant-reads g l =

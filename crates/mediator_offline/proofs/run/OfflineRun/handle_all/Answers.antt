@@ -5,7 +5,7 @@ use Rattle.mediator_offline.specs.Running.{StopsOn}
 use Rattle.mediator_offline.proofs.Blaming.{only_then}
 use Rattle.mediator_offline.proofs.Receiving.{err_gives}
 use Rattle.mediator_offline.proofs.Streams.{runs_on, none_handled, one_handled, one_stops}
-use Rattle.mediator_offline.proofs.run.Run.handle_all.Goals as goal
+use Rattle.mediator_offline.proofs.run.OfflineRun.handle_all.Goals as goal
 
 pub handle-requires : goal.handle-requires
 handle-requires g c = record { running = runs_on c.args.self.now c.messages.self c.messages.invariant.0.done _ _ c.requires.running c.messages.invariant.0.handled }

@@ -2,7 +2,7 @@ use Rattle.std.proofs.Common.{ap, ◌∙◌}
 use Rattle.mediator_history.proofs.EntryLaws.{served_is_live}
 use Rattle.mediator_offline.specs.declared.job.OfflineFault.TheVariants.{Mediator}
 use Rattle.mediator_offline.proofs.Receiving.{err_gives, pull_memory}
-use Rattle.mediator_offline.proofs.run.Run.pull.Goals as goal
+use Rattle.mediator_offline.proofs.run.OfflineRun.pull.Goals as goal
 
 pub returns-in_err-pull-clause-err : goal.returns-in_err-pull-clause-err
 returns-in_err-pull-clause-err c =
