@@ -42,5 +42,4 @@ pub use engine::offline;
 pub use ipfix_reader::FramingFault;
 pub use job::{OfflineFault, OfflineJob, OfflineReport};
 pub use laws::{accepted_messages_are_the_history, due_is_built, nothing_closes};
-pub use mediator_state::Fault;
 pub use octet_io::{Device, Failed, Sink, Source};
