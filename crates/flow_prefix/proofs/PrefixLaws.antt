@@ -5,8 +5,8 @@ use Rattle.std.proofs.lemmas.Bool.{lt-ltb, le-ltb, eq-eqb, ne_eqb, cases_lt, cas
 use Rattle.sequences.proofs.ResultLaws.{Err-Ok}
 use Rattle.flow_prefix.specs.declared.family.Family.{Family}
 use Rattle.flow_prefix.specs.declared.family.Family.TheVariants.{Ipv4, Ipv6}
-use Rattle.flow_prefix.specs.declared.fault.PrefixFault.{PrefixFault}
-use Rattle.flow_prefix.specs.declared.fault.PrefixFault.TheVariants.{BadText, BadLength, HostBits}
+use Rattle.flow_prefix.specs.declared.fault.Fault.{Fault}
+use Rattle.flow_prefix.specs.declared.fault.Fault.TheVariants.{BadText, BadLength, HostBits}
 use Rattle.flow_prefix.specs.declared.prefix.Prefix.{Prefix}
 use Rattle.flow_prefix.specs.declared.prefix.Prefix.TheVariants.{V4, V6}
 use Rattle.flow_prefix.specs.Family.{width}
@@ -19,14 +19,14 @@ use Rattle.flow_prefix.proofs.AddressReadLaws.{address_of-found, address_of-only
 use Rattle.flow_prefix.proofs.CutLaws.{cut_at-middle, cut_at-text}
 
 -- of the form, and judged
-pub record IsJudged (text : List ℕ) (r : Result Prefix PrefixFault) : Type 0 where
+pub record IsJudged (text : List ℕ) (r : Result Prefix Fault) : Type 0 where
   pub family : Family
   pub address : ℕ
   pub bits : ℕ
   pub form : IsPrefixForm text family address bits
   pub judgement : r ≡ checked_prefix family address bits
 
-abbrev Outcome : List ℕ → Result Prefix PrefixFault → Type 0
+abbrev Outcome : List ℕ → Result Prefix Fault → Type 0
 Outcome text r = (r ≡ Err BadText) ⊎ IsJudged text r
 
 outcome_by_family : (text front : List ℕ) (bits : ℕ) → bits < 1000 → text ≡ front ++ 47 ∷ decimal bits → (v4 v6 : Option ℕ) → address_of Ipv4 front ≡ v4 → address_of Ipv6 front ≡ v6 → Outcome text (by_family v4 v6 bits)
@@ -105,7 +105,7 @@ ok_judged text p h (Good within same) =
     let P : Prefix → Type 0 = λ q. IsPrefixText text q in
     subst P (sym is) (text_in text h.family h.address h.bits h.form within same)
 
-found_by : (text : List ℕ) (r : Result Prefix PrefixFault) → (r ≡ Err BadText) ⊎ IsJudged text r → IfOk r (λ p. IsPrefixText text p)
+found_by : (text : List ℕ) (r : Result Prefix Fault) → (r ≡ Err BadText) ⊎ IsJudged text r → IfOk r (λ p. IsPrefixText text p)
 found_by text (Err e) h = tt
 found_by text (Ok p) h =
     ⊎_elim (λ (bad : Ok p ≡ Err BadText). absurd (Err-Ok BadText p (sym bad)))

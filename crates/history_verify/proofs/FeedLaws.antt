@@ -16,8 +16,8 @@ use Rattle.mediator_history.proofs.CutLaws.{is_served-cuts, length-cuts, after_c
 use Rattle.mediator_history.proofs.CountingLaws.{given_at-cuts}
 use Rattle.history_verify.specs.declared.replay.Replay.{Replay}
 use Rattle.history_verify.specs.declared.verifier.Verifier.{Verifier}
-use Rattle.history_verify.specs.declared.fault.VerifyFault.{VerifyFault}
-use Rattle.history_verify.specs.declared.fault.VerifyFault.TheVariants.{BadHistory, OutOfMemory}
+use Rattle.history_verify.specs.declared.fault.Fault.{Fault}
+use Rattle.history_verify.specs.declared.fault.Fault.TheVariants.{BadHistory, OutOfMemory}
 use Rattle.history_verify.specs.Legal.{IsAccepted, IsLegalCut, AreLegal, IsFirstBad, is_cut}
 use Rattle.history_verify.specs.Answers.{NamesFirst, NamesFirstOfAny}
 use Rattle.history_verify.specs.Standing.{MayCut, MayCutAll, IsFirstEmpty, IsFirstOr, IsSettled, StandsOver, Repeats, StandsShort, HasTaken, TakesNext, RefusesNext, IsSpoilt, IsFed, IsFedShort, NamesWaiting, NamesUnborne}
@@ -144,7 +144,7 @@ waiting_bad v g h (w ∷ ws) cs x more position so at some no_cut bad =
     bad_cut h g [] w (ws ++ cs) x more position so.settled so.whole (omega (arith, at)) tt
     (unborne (after_cuts g []) w (ws ++ cs) x more no_cut (λ is gives. bad w (ws ++ cs) is gives so.whole))
 
-pub names_waiting : (v : Verifier) (h : List Entry) (x : Entry) (e : VerifyFault) → IsFed v h → NamesWaiting e v → is_cut x ≡ false → ((s : ℕ) (g : List Entry) → given_at s g x ≡ []) → NamesFirstOfAny e (h ++ x ∷ [])
+pub names_waiting : (v : Verifier) (h : List Entry) (x : Entry) (e : Fault) → IsFed v h → NamesWaiting e v → is_cut x ≡ false → ((s : ℕ) (g : List Entry) → given_at s g x ≡ []) → NamesFirstOfAny e (h ++ x ∷ [])
 names_waiting v h x OutOfMemory fed names no_cut none = tt
 names_waiting v h x (BadHistory position) fed names no_cut none = λ more.
     let so = laid v h fed in
@@ -155,7 +155,7 @@ end_bad v g h [] [] position so at some = absurd (omega (arith, some))
 end_bad v g h [] (c ∷ cs) position so at some = bad_cut_at_end h g c cs position so.settled so.whole (omega (arith, at)) (may_not (after_cuts g []) c (map Cut cs) so.spoilt)
 end_bad v g h (w ∷ ws) cs position so at some = bad_cut_at_end h g w (ws ++ cs) position so.settled so.whole (omega (arith, at)) (unborne_at_end (after_cuts g []) w (ws ++ cs))
 
-pub names_end : (v : Verifier) (h : List Entry) (e : VerifyFault) → IsFed v h → NamesWaiting e v → NamesFirst e h
+pub names_end : (v : Verifier) (h : List Entry) (e : Fault) → IsFed v h → NamesWaiting e v → NamesFirst e h
 names_end v h OutOfMemory fed names = tt
 names_end v h (BadHistory position) fed names =
     let so = laid v h fed in
@@ -178,7 +178,7 @@ refused_bad v g h (w ∷ ws) cs x more position so at no_cut bad = waiting_bad v
   by : (s : ℕ) (back : List ℕ) → IsAccepted (after_cuts g [] ++ Cut s ∷ map Cut back) x → IsAccepted (after_cuts g (w ∷ ws)) x
   by s back is = accepted_behind g (w ∷ ws) x (accepted_before g [] x (accepted_before (after_cuts g []) (s ∷ back) x is))
 
-pub names_refused : (v : Verifier) (h : List Entry) (x : Entry) (e : VerifyFault) → IsFed v h → RefusesNext e v.replay x → is_cut x ≡ false → NamesFirstOfAny e (h ++ x ∷ [])
+pub names_refused : (v : Verifier) (h : List Entry) (x : Entry) (e : Fault) → IsFed v h → RefusesNext e v.replay x → is_cut x ≡ false → NamesFirstOfAny e (h ++ x ∷ [])
 unfolding laid
 names_refused v h x OutOfMemory fed names no_cut = tt
 names_refused v h x (BadHistory position) fed names no_cut = λ more.
@@ -233,7 +233,7 @@ spoilt_bad v g h ws (c ∷ cs) x more position so at some is all =
     (cuts_legal x more g ws (c ∷ cs) so.may all (subst (λ (t : List Entry). IsAccepted t x) (cuts_joined g ws (c ∷ cs)) (accepted_behind (after_cuts g ws) (c ∷ cs) x is)))
     (may_not (after_cuts g ws) c (map Cut cs ++ x ∷ more) so.spoilt)
 
-pub names_unborne : (v : Verifier) (h : List Entry) (x : Entry) (e : VerifyFault) (place : Option ℕ) (fed : IsFed v h) → NamesUnborne e v place → is_cut x ≡ false → IsAccepted fed.front x
+pub names_unborne : (v : Verifier) (h : List Entry) (x : Entry) (e : Fault) (place : Option ℕ) (fed : IsFed v h) → NamesUnborne e v place → is_cut x ≡ false → IsAccepted fed.front x
     → IsFirstOr (λ s. given_at s fed.over.stands.settled x) v.replay.waiting.items place → NamesFirstOfAny e (h ++ x ∷ [])
 unfolding laid
 names_unborne v h x OutOfMemory place fed names no_cut is first = tt
@@ -299,12 +299,12 @@ pub took : (v w : Verifier) (x y : Entry) → y ≡ x → v.replay.waiting.items
 took v w x y is none behind same takes h fed =
     subst (λ (e : Entry). IsFed w (h ++ e ∷ [])) (sym is) (fed_more v w h x fed behind same (takes fed.front fed.over.stands none))
 
-pub refused : (v : Verifier) (x y : Entry) (e : VerifyFault) → y ≡ x → is_cut x ≡ false → RefusesNext e v.replay x → (h : List Entry) → IsFed v h → NamesFirstOfAny e (h ++ y ∷ [])
+pub refused : (v : Verifier) (x y : Entry) (e : Fault) → y ≡ x → is_cut x ≡ false → RefusesNext e v.replay x → (h : List Entry) → IsFed v h → NamesFirstOfAny e (h ++ y ∷ [])
 refused v x y e is no_cut names h fed = subst (λ (z : Entry). NamesFirstOfAny e (h ++ z ∷ [])) (sym is) (names_refused v h x e fed names no_cut)
 
-pub waited : (v : Verifier) (x y : Entry) (e f : VerifyFault) → y ≡ x → e ≡ f → is_cut x ≡ false → ((s : ℕ) (g : List Entry) → given_at s g x ≡ []) → NamesWaiting f v → (h : List Entry) → IsFed v h → NamesFirstOfAny e (h ++ y ∷ [])
+pub waited : (v : Verifier) (x y : Entry) (e f : Fault) → y ≡ x → e ≡ f → is_cut x ≡ false → ((s : ℕ) (g : List Entry) → given_at s g x ≡ []) → NamesWaiting f v → (h : List Entry) → IsFed v h → NamesFirstOfAny e (h ++ y ∷ [])
 waited v x y e f is same no_cut none names h fed =
-    subst (λ (z : Entry). NamesFirstOfAny e (h ++ z ∷ [])) (sym is) (names_waiting v h x e fed (subst (λ (w : VerifyFault). NamesWaiting w v) (sym same) names) no_cut none)
+    subst (λ (z : Entry). NamesFirstOfAny e (h ++ z ∷ [])) (sym is) (names_waiting v h x e fed (subst (λ (w : Fault). NamesWaiting w v) (sym same) names) no_cut none)
 
 -- ---- a whole history
 
@@ -314,7 +314,7 @@ fed_short v h n fed few = record { history = take n h; fed = fed; short = omega 
 pub fed_next : (v : Verifier) (h : List Entry) (n : ℕ) (x : Entry) → slice_get h n ≡ Some x → IsFed v (take n h ++ x ∷ []) → IsFed v (take (n + 1) h)
 fed_next v h n x is fed = subst (IsFed v) (sym (one_more h n x is)) fed
 
-pub first_of_all : (e : VerifyFault) (h : List Entry) (n : ℕ) (x : Entry) → slice_get h n ≡ Some x → NamesFirstOfAny e (take n h ++ x ∷ []) → NamesFirst e h
+pub first_of_all : (e : Fault) (h : List Entry) (n : ℕ) (x : Entry) → slice_get h n ≡ Some x → NamesFirstOfAny e (take n h ++ x ∷ []) → NamesFirst e h
 first_of_all OutOfMemory h n x is names = tt
 first_of_all (BadHistory position) h n x is names =
     subst (λ (t : List Entry). IsFirstBad t position) (ap (λ (t : List Entry). t ++ drop (n + 1) h) (sym (one_more h n x is)) ∙ take-append-drop (n + 1) h) (names (drop (n + 1) h))

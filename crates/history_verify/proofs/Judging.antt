@@ -14,7 +14,7 @@ use Rattle.ipfix_template.specs.DataRecord.{DataRecord}
 use Rattle.ipfix_session.specs.Contents.{Contents}
 use Rattle.ipfix_session.specs.Meaning.{Meaning, meaning_of, contents_of, domain_of, gap_of}
 use Rattle.ipfix_session.specs.ReadAhead.{Ahead}
-use Rattle.ipfix_session.specs.declared.read_error.ReadError.{ReadError}
+use Rattle.ipfix_session.specs.declared.fault.Fault.{Fault as ReadError}
 use Rattle.policy_text.specs.Policies.{Aggregate}
 use Rattle.flow_anonymize.specs.declared.disclosure.Disclosure.TheVariants.{Passed, Aggregated, Withheld}
 use Rattle.flow_anonymize.specs.Outcome.{Outcome, passed}

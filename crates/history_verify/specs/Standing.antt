@@ -14,8 +14,8 @@ use Rattle.mediator_history.specs.Auditing.{audit_list}
 use Rattle.mediator_history.specs.Cuts.{after_cuts}
 use Rattle.history_verify.specs.declared.replay.Replay.{Replay}
 use Rattle.history_verify.specs.declared.verifier.Verifier.{Verifier}
-use Rattle.history_verify.specs.declared.fault.VerifyFault.{VerifyFault}
-use Rattle.history_verify.specs.declared.fault.VerifyFault.TheVariants.{BadHistory, OutOfMemory}
+use Rattle.history_verify.specs.declared.fault.Fault.{Fault}
+use Rattle.history_verify.specs.declared.fault.Fault.TheVariants.{BadHistory, OutOfMemory}
 use Rattle.history_verify.specs.Legal.{IsAccepted, AreLegal, last_cut}
 use Rattle.history_verify.specs.Parts.{AreExporters, AreSubscribers, AreSums, IsTurn, AreNoted}
 
@@ -98,11 +98,11 @@ abbrev pub TakesNext : Replay → Entry → Replay → Type 0
 TakesNext old entry new = (h : List Entry) → Repeats old h → old.waiting.items ≡ [] → HasTaken new h entry
 
 -- the first entry behind those that are settled is named, and this one, which is no cut, is not accepted; or memory ran out
-abbrev pub RefusesEntry : VerifyFault → Replay → List Entry → Entry → Type 0
+abbrev pub RefusesEntry : Fault → Replay → List Entry → Entry → Type 0
 RefusesEntry (BadHistory position) r h entry = (position + length r.waiting.items ≡ length h) × (IsAccepted h entry → ⊥)
 RefusesEntry OutOfMemory r h entry = Unit {0}
 
-abbrev pub RefusesNext : VerifyFault → Replay → Entry → Type 0
+abbrev pub RefusesNext : Fault → Replay → Entry → Type 0
 RefusesNext e r entry = (h : List Entry) → Repeats r h → RefusesEntry e r h entry
 
 -- ---- messages
@@ -142,12 +142,12 @@ pub record IsFedShort (v : Verifier) : Type 0 where
   pub short : length history ≤ MOST_ENTRIES
 
 -- cuts wait or the first of those behind may not stand there, and the position of the first of all of these is named
-abbrev pub NamesWaiting : VerifyFault → Verifier → Type 0
+abbrev pub NamesWaiting : Fault → Verifier → Type 0
 NamesWaiting (BadHistory position) v = (position + length v.replay.waiting.items ≡ v.replay.position) × (0 < length v.replay.waiting.items + v.behind)
 NamesWaiting OutOfMemory v = ⊥
 
 -- the first cut that isn't borne out is named by its place among those that wait; or the first of those behind
-abbrev pub NamesUnborne : VerifyFault → Verifier → Option ℕ → Type 0
+abbrev pub NamesUnborne : Fault → Verifier → Option ℕ → Type 0
 NamesUnborne (BadHistory position) v (Some place) = position + length v.replay.waiting.items ≡ v.replay.position + place
 NamesUnborne (BadHistory position) v None = (position ≡ v.replay.position) × (0 < v.behind)
 NamesUnborne OutOfMemory v place = ⊥

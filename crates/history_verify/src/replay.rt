@@ -5,7 +5,7 @@ ghost use Rattle.event_journal.specs.declared.entry.Entry.TheVariants.{Open, Clo
 ghost use Rattle.history_verify.specs.Standing.{Repeats, StandsShort, IsSameReplay, HasTaken, TakesNext, RefusesEntry, RefusesNext, MayCut};
 
 use crate::exporters::Exporters;
-use crate::fault::VerifyFault;
+use crate::fault::Fault;
 use crate::judged::{Judged, first_empty, stamped};
 use crate::noted::Noted;
 use crate::subscribers::Subscribers;
@@ -13,7 +13,7 @@ use crate::sums::Sums;
 use crate::verified::Verified;
 use bytes::Bytes;
 use disclosure_audit::{AuditEntry, What};
-use ipfix_session::{ReadError, Reading};
+use ipfix_session::{Fault as ReadError, Reading};
 use mediator_shares::{InForce, Shares};
 use policy_text::{FaultKind, Name, Policy};
 use std::alloc::{AllocError, Global};
@@ -84,12 +84,12 @@ impl Replay {
 
     /// The fault where the next entry is no cut, and none that may stand there: the first cut that waits isn't borne
     /// out by it, and where none waits it is itself the first bad one.
-    pub(crate) fn bad(&self) -> VerifyFault
+    pub(crate) fn bad(&self) -> Fault
         requires short { StandsShort self.now }
         ensures { (entry : Entry) (h : List Entry) → Repeats self.now h → (IsAccepted h entry → ⊥)
             → RefusesEntry result self.now h entry }
     {
-        VerifyFault::BadHistory {
+        Fault::BadHistory {
             position: self.first_waiting(),
         }
     }
@@ -98,7 +98,7 @@ impl Replay {
     ///
     /// # Errors
     /// `BadHistory` where that isn't the number of the next session; or want of memory. Nothing has changed then.
-    pub(crate) fn open(&mut self, session: u64) -> Result<(), VerifyFault>
+    pub(crate) fn open(&mut self, session: u64) -> Result<(), Fault>
         requires short { StandsShort self.old }
         // The entry is taken, or it is told which entry may not stand where it does.
         ensures ok { OnOk result (TakesNext self.old (Open session) self.new) }
@@ -119,7 +119,7 @@ impl Replay {
     ///
     /// # Errors
     /// `BadHistory` where it isn't open. Nothing has changed then.
-    pub(crate) fn close(&mut self, session: u64) -> Result<(), VerifyFault>
+    pub(crate) fn close(&mut self, session: u64) -> Result<(), Fault>
         requires short { StandsShort self.old }
         // The entry is taken, or it is told which entry may not stand where it does.
         ensures ok { OnOk result (TakesNext self.old (Close session) self.new) }
@@ -140,7 +140,7 @@ impl Replay {
     ///
     /// # Errors
     /// `BadHistory` where the text spells no policy; or want of memory. Nothing has changed then.
-    pub(crate) fn edit(&mut self, text: &str) -> Result<(), VerifyFault>
+    pub(crate) fn edit(&mut self, text: &str) -> Result<(), Fault>
         requires short { StandsShort self.old }
         // The entry is taken, or it is told which entry may not stand where it does.
         ensures ok { OnOk result (TakesNext self.old (Edit text.now) self.new) }
@@ -159,7 +159,7 @@ impl Replay {
     ///
     /// # Errors
     /// `BadHistory` where it spells none; or want of memory.
-    fn read_policy(&self, text: &str) -> Result<Policy, VerifyFault>
+    fn read_policy(&self, text: &str) -> Result<Policy, Fault>
         requires short { StandsShort self.now }
         ensures ok { IfOk result (λ policy. policy_of text.now ≡ Ok policy) }
         ensures err { IfErr result (λ e. RefusesNext e self.now (Edit text.now)) }
@@ -168,7 +168,7 @@ impl Replay {
             Ok(policy) => Ok(policy),
             Err(fault) => {
                 if fault.kind == FaultKind::OutOfMemory {
-                    return Err(VerifyFault::OutOfMemory);
+                    return Err(Fault::OutOfMemory);
                 }
                 Err(self.bad())
             }
@@ -181,7 +181,7 @@ impl Replay {
     /// # Errors
     /// `BadHistory` where that isn't the number of the next subscription, or a live one has the name; or want of
     /// memory. Nothing has changed then.
-    pub(crate) fn subscribe(&mut self, sub: u64, name: &Name) -> Result<(), VerifyFault>
+    pub(crate) fn subscribe(&mut self, sub: u64, name: &Name) -> Result<(), Fault>
         requires short { StandsShort self.old }
         // The entry is taken, or it is told which entry may not stand where it does.
         ensures ok { OnOk result (TakesNext self.old (Subscribe sub name.now) self.new) }
@@ -202,7 +202,7 @@ impl Replay {
     ///
     /// # Errors
     /// `BadHistory` where it isn't live. Nothing has changed then.
-    pub(crate) fn unsubscribe(&mut self, sub: u64) -> Result<(), VerifyFault>
+    pub(crate) fn unsubscribe(&mut self, sub: u64) -> Result<(), Fault>
         requires short { StandsShort self.old }
         // The entry is taken, or it is told which entry may not stand where it does.
         ensures ok { OnOk result (TakesNext self.old (Unsubscribe sub) self.new) }
@@ -296,12 +296,7 @@ impl Replay {
     /// # Errors
     /// `BadHistory` where the session isn't open, or had another number of messages, or the octets are no message that
     /// it can have; or want of memory.
-    pub(crate) fn read(
-        &self,
-        session: u64,
-        number: u64,
-        octets: &Bytes,
-    ) -> Result<Reading, VerifyFault>
+    pub(crate) fn read(&self, session: u64, number: u64, octets: &Bytes) -> Result<Reading, Fault>
         requires short { StandsShort self.now }
         ensures ok { IfOk result (λ reading. (h : List Entry) → Repeats self.now h
             → IsReadOf h session number octets.now reading) }
@@ -315,7 +310,7 @@ impl Replay {
         see_octets(octets);
         match open.session.read(octets) {
             Ok(reading) => Ok(reading),
-            Err(ReadError::OutOfMemory) => Err(VerifyFault::OutOfMemory),
+            Err(ReadError::OutOfMemory) => Err(Fault::OutOfMemory),
             Err(ReadError::Malformed(_)) => Err(self.bad()),
             Err(ReadError::RecordOverrun) => Err(self.bad()),
         }

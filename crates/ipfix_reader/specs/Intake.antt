@@ -7,8 +7,8 @@ use Rattle.ipfix_message.specs.declared.fault.Fault.TheVariants as frame
 use Rattle.ipfix_message.specs.FramerState.{FramerState, nothing_fed, Continues}
 use Rattle.ipfix_reader.specs.declared.fault.FramingFault.{FramingFault}
 use Rattle.ipfix_reader.specs.declared.fault.FramingFault.TheVariants.{BadVersion, BadLength, CutOff}
-use Rattle.ipfix_reader.specs.declared.fault.IntakeFault.{IntakeFault}
-use Rattle.ipfix_reader.specs.declared.fault.IntakeFault.TheVariants.{Read, Framing, Turns, OutOfMemory}
+use Rattle.ipfix_reader.specs.declared.fault.Fault.{Fault}
+use Rattle.ipfix_reader.specs.declared.fault.Fault.TheVariants.{Read, Framing, Turns, OutOfMemory}
 
 -- how the octets that were read are framed so far, and how many reads are left
 pub record IntakeState : Type 0 where
@@ -88,7 +88,7 @@ pub record LosesPiece (old : IntakeState) (given left : Option (List ℕ)) (new 
   pub turn : UsesTurn old new
 
 -- why nothing more is handed out, by its cause
-abbrev pub StopsIntake : IntakeFault → IntakeState → Option (List ℕ) → Option (List ℕ) → IntakeState → Type 0
+abbrev pub StopsIntake : Fault → IntakeState → Option (List ℕ) → Option (List ℕ) → IntakeState → Type 0
 StopsIntake Read old given left new = FailsToRead old given left new
 StopsIntake (Framing BadVersion) old given left new = StreamHasFault frame.BadVersion old given left new
 StopsIntake (Framing BadLength) old given left new = StreamHasFault frame.BadLength old given left new
@@ -97,7 +97,7 @@ StopsIntake Turns old given left new = (old.framing.fault ≡ None) × (old.turn
 StopsIntake OutOfMemory old given left new = LosesPiece old given left new
 
 -- whether the reader has failed after a fault: where its failure is the fault, and else as before
-abbrev pub reader_after : IntakeFault → Bool → Bool
+abbrev pub reader_after : Fault → Bool → Bool
 reader_after Read was = true
 reader_after (Framing why) was = was
 reader_after Turns was = was
@@ -105,7 +105,7 @@ reader_after OutOfMemory was = was
 
 -- what a framer's refusal is called here; a framer refuses by BadVersion, BadLength and want of memory alone, and in the others a length is
 -- wrong too
-abbrev pub intake_fault : DecodeError → IntakeFault
+abbrev pub intake_fault : DecodeError → Fault
 intake_fault frame.BadVersion = Framing BadVersion
 intake_fault frame.BadLength = Framing BadLength
 intake_fault frame.ShortHeader = Framing BadLength

@@ -21,8 +21,8 @@ use Rattle.sequences.proofs.ResultLaws.{same_Ok, fails_along}
 use Rattle.ipfix_message.proofs.ReadingSteps.{read_head}
 use Rattle.ipfix_session.specs.declared.read.Skips.{Skips}
 use Rattle.ipfix_session.specs.declared.read.Gap.{Gap}
-use Rattle.ipfix_session.specs.declared.read_error.ReadError.{ReadError}
-use Rattle.ipfix_session.specs.declared.read_error.ReadError.TheVariants.{Malformed}
+use Rattle.ipfix_session.specs.declared.fault.Fault.{Fault}
+use Rattle.ipfix_session.specs.declared.fault.Fault.TheVariants.{Malformed}
 use Rattle.ipfix_session.specs.InForce.{template_in_force}
 use Rattle.ipfix_session.specs.Contents.{Contents, contents_after}
 use Rattle.ipfix_session.specs.Meaning.{domain_of, items_or_none, items_of_domain, read_items, contents_of, number_after, number_past, next_number, expected_number, gap_between, Meaning, gap_of, meaning_of}
@@ -110,17 +110,17 @@ pub contents_are : (older : List (List ℕ)) (message : List ℕ) (said : List I
 unfolding contents_of
 contents_are older message said is = ap (read_items (before older message) message) is
 
-means_overrun : (older : List (List ℕ)) (message : List ℕ) (said : List Item) (e : ReadError) → items_of message ≡ Ok said → contents_after (before older message) message said ≡ Err e → meaning_of older message ≡ Err e
+means_overrun : (older : List (List ℕ)) (message : List ℕ) (said : List Item) (e : Fault) → items_of message ≡ Ok said → contents_after (before older message) message said ≡ Err e → meaning_of older message ≡ Err e
 unfolding meaning_of
 means_overrun older message said e is fails = rw (contents_are older message said is, fails) refl
 
-pub found_fault : (held : SessionStanding) (older : List (List ℕ)) (message : List ℕ) (h : Header) (said : List Item) (e : ReadError) → Found held older message h said → ((done : List Item) → Keeps (kept_of h.domain held).templates done → Fails e (contents_after done message said)) → Fails e (meaning_of older message)
+pub found_fault : (held : SessionStanding) (older : List (List ℕ)) (message : List ℕ) (h : Header) (said : List Item) (e : Fault) → Found held older message h said → ((done : List Item) → Keeps (kept_of h.domain held).templates done → Fails e (contents_after done message said)) → Fails e (meaning_of older message)
 found_fault held older message h said e found fails = fails_along is_memory e (contents_after (before older message) message said) (meaning_of older message) (λ is. means_overrun older message said e found.items is) (fails (before older message) (keeps_before held older message h said found))
 
 abbrev pub meaning : Header → List DataRecord → Skips → Option Gap → Meaning
 meaning h records skips gap = record { header = h; records = records; skips = skips; gap = gap }
 
-abbrev pub means : Meaning → Result Meaning ReadError
+abbrev pub means : Meaning → Result Meaning Fault
 means m = Ok m
 
 -- the contents of the message
@@ -197,13 +197,13 @@ found_reading held older message h said r found reads keeps same gap_is next_is 
     }
 
 -- the answer is the meaning, or the first fault
-pub read_means : (held : SessionStanding) (older : List (List ℕ)) (message : List ℕ) (h : Header) (said : List Item) (r : Result Ahead ReadError) → Found held older message h said
+pub read_means : (held : SessionStanding) (older : List (List ℕ)) (message : List ℕ) (h : Header) (said : List Item) (r : Result Ahead Fault) → Found held older message h said
     → ((done : List Item) → Keeps (kept_of h.domain held).templates done → Gives contents_read r (contents_after done message said))
     → IfOk r (λ x. x.meaning.header ≡ h) → IfOk r (λ x. x.meaning.gap ≡ gap_between (kept_of h.domain held).expected h.sequence) → Gives (λ x. x.meaning) r (meaning_of older message)
 read_means held older message h said (Ok x) found reads same gap_is = found_meaning held older message h x.meaning.header said (contents_read x) x.meaning.gap found reads same gap_is
 read_means held older message h said (Err e) found reads same gap_is = found_fault held older message h said e found reads
 
-pub read_follows : (held : SessionStanding) (older : List (List ℕ)) (message : List ℕ) (h : Header) (said : List Item) (r : Result Ahead ReadError) → Found held older message h said
+pub read_follows : (held : SessionStanding) (older : List (List ℕ)) (message : List ℕ) (h : Header) (said : List Item) (r : Result Ahead Fault) → Found held older message h said
     → ((done : List Item) → Keeps (kept_of h.domain held).templates done → Gives contents_read r (contents_after done message said))
     → ((done : List Item) → Keeps (kept_of h.domain held).templates done → IfOk r (λ x. AreInForce (afterwards x (kept_of h.domain held).templates) (reverse said ++ done)))
     → IfOk r (λ x. x.meaning.header ≡ h) → IfOk r (λ x. x.meaning.gap ≡ gap_between (kept_of h.domain held).expected h.sequence) → IfOk r (λ x. x.next ≡ number_after h (contents_read x)) → IfOk r (IsReadingOf older message)
@@ -216,7 +216,7 @@ read_follows held older message h said (Err e) found reads keeps same gap_is nex
 pub header_meant : (older : List (List ℕ)) (message : List ℕ) (m : Meaning) → meaning_of older message ≡ Ok m → m.header ≡ header_of message
 unfolding meaning_of
 header_meant older message m is = by_contents (contents_of older message) is where
-  by_contents : (c : Result Contents ReadError) → (c >>= λ c. means (meaning (header_of message) c.records c.skips (gap_of older message))) ≡ Ok m → m.header ≡ header_of message
+  by_contents : (c : Result Contents Fault) → (c >>= λ c. means (meaning (header_of message) c.records c.skips (gap_of older message))) ≡ Ok m → m.header ≡ header_of message
   by_contents (Ok c) e = ap (λ (x : Meaning). x.header) (sym (same_Ok (meaning (header_of message) c.records c.skips (gap_of older message)) m e))
   by_contents (Err w) e = absurd cc
 

@@ -16,9 +16,9 @@ ghost use Rattle.ipfix_session.specs.Answers.{Gives, NamesFault, as_meaning};
 ghost use Rattle.ipfix_session.specs.Settling.{contents_read, afterwards};
 
 use crate::changes::Changes;
+use crate::fault::Fault;
 use crate::numbers::Numbers;
 use crate::read::{Gap, Read, Skips};
-use crate::read_error::ReadError;
 use crate::reading::Reading;
 use crate::table::Table;
 use crate::tables::Tables;
@@ -111,7 +111,7 @@ impl Session {
     /// };
     /// assert!(rt; next.gap == Some(gap));
     /// ```
-    pub fn apply(&mut self, message: &[u8]) -> Result<Read, ReadError>
+    pub fn apply(&mut self, message: &[u8]) -> Result<Read, Fault>
         // The answer is what the message means after those before it, or its first fault.
         ensures meaning { (older : List (List ℕ)) → StandsFor self.old older
             → Gives as_meaning result (meaning_of older message.now) }
@@ -137,7 +137,7 @@ impl Session {
     /// - `Malformed` with its cause, where the octets are no message.
     /// - `RecordOverrun` where a Data Record goes past its set.
     /// - `OutOfMemory` for want of memory.
-    pub fn read(&self, message: &Bytes) -> Result<Reading, ReadError>
+    pub fn read(&self, message: &Bytes) -> Result<Reading, Fault>
         // The answer is what the message means after those before it, or its first fault.
         ensures meaning { (older : List (List ℕ)) → StandsFor self.now older
             → Gives (λ r. r.meaning) result (meaning_of older message.now) }
@@ -308,7 +308,7 @@ impl Session {
         header: Header,
         message: &Bytes,
         said: Vec<Item>,
-    ) -> Result<Reading, ReadError>
+    ) -> Result<Reading, Fault>
         requires few { length message.now ≤ longest_message }
         requires stand { StandIn (length message.now) said.items }
         // What is answered is what these items hold after any others that leave the domain's

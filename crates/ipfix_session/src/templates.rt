@@ -14,7 +14,7 @@ ghost use Rattle.ipfix_session.specs.Answers.{Gives, as_contents};
 
 use crate::by_domain::ByDomain;
 use crate::contents::Contents;
-use crate::read_error::ReadError;
+use crate::fault::Fault;
 use crate::table::Table;
 use crate::walk::walk_items;
 use bytes::Bytes;
@@ -89,7 +89,7 @@ impl Templates {
     /// # Errors
     /// - `RecordOverrun` where a Data Record goes past its set.
     /// - `OutOfMemory` for want of memory.
-    pub fn read(&self, message: &Bytes, said: Vec<Item>) -> Result<Contents, ReadError>
+    pub fn read(&self, message: &Bytes, said: Vec<Item>) -> Result<Contents, Fault>
         requires said { items_of message.now ≡ Ok said.items }
         // The answer is what the message holds after those messages, or its first fault.
         ensures messages { (older : List (List ℕ)) → Knows self.now older
@@ -105,12 +105,7 @@ impl Templates {
     }
 
     /// Reads the items of a message by the templates of a domain.
-    fn read_items(
-        &self,
-        domain: u32,
-        message: &Bytes,
-        said: Vec<Item>,
-    ) -> Result<Contents, ReadError>
+    fn read_items(&self, domain: u32, message: &Bytes, said: Vec<Item>) -> Result<Contents, Fault>
         requires few { length message.now ≤ longest_message }
         requires stand { StandIn (length message.now) said.items }
         ensures { (older : List Item) → Keeps (templates_of domain self.now) older

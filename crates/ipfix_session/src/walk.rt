@@ -10,8 +10,8 @@ ghost use Rattle.ipfix_session.specs.Changing.{after};
 
 use crate::changes::Changes;
 use crate::data_set::read_set;
+use crate::fault::Fault;
 use crate::read::Skips;
-use crate::read_error::ReadError;
 use crate::table::Table;
 use bytes::Bytes;
 use ipfix_message::Item;
@@ -37,7 +37,7 @@ pub(crate) fn walk_items(
     base: &Table,
     message: &Bytes,
     said: Vec<Item>,
-) -> Result<Walk, ReadError>
+) -> Result<Walk, Fault>
     requires few { length message.now ≤ longest_message }
     requires stand { StandIn (length message.now) said.items }
     ensures reads { (older : List Item) → Keeps base.now.templates older
@@ -70,7 +70,7 @@ fn read_item(
     message: &Bytes,
     item: Item,
     state: &mut Walk,
-) -> Result<(), ReadError>
+) -> Result<(), Fault>
     requires few { length message.now ≤ longest_message }
     requires stands { MayStandIn (length message.now) item }
     requires room { SkipsAtMost state.old.skips (2 ^ 64 - 2) }
@@ -124,7 +124,7 @@ fn read_data_set(
     start: usize,
     len: usize,
     state: &mut Walk,
-) -> Result<(), ReadError>
+) -> Result<(), Fault>
     requires few { length message.now ≤ longest_message }
     requires stands { (header_octets + set_header_octets ≤ start)
         × (start + len ≤ length message.now) }

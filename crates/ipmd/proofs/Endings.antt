@@ -7,7 +7,7 @@ use Rattle.ipmd_command_line.specs.declared.task.OfflineOptions.{OfflineOptions}
 use Rattle.ipmd_command_line.specs.declared.task.VerifyOptions.{VerifyOptions}
 use Rattle.ipmd_command_line.specs.declared.task.ExplainOptions.{ExplainOptions}
 use Rattle.ipmd_command_line.specs.declared.task.Task.TheVariants.{Offline, Serve, Verify, Explain}
-use Rattle.ipmd_commands.specs.declared.fault.ProgramFault.{ProgramFault}
+use Rattle.ipmd_commands.specs.declared.fault.Fault.{Fault as ProgramFault}
 use Rattle.ipmd_commands.specs.Runs.{RefusesToFilter}
 use Rattle.ipmd_commands.specs.Status.{Blames}
 use Rattle.ipmd_verify.specs.Verifying.{RefusesToVerifyFile}

@@ -2,7 +2,7 @@
 use Rattle.std.proofs.Common.{◌≡◌, ℕ, List, Ok, inl, inr, refl, subst, sym}
 use Rattle.ipmd_settings.specs.Asked.{AskedService}
 use Rattle.ipmd_settings.specs.Reading.{settings_of}
-use Rattle.ipmd_commands.specs.declared.fault.ProgramFault.{ProgramFault}
+use Rattle.ipmd_commands.specs.declared.fault.Fault.{Fault as ProgramFault}
 use Rattle.ipmd_commands.specs.Failures.{IsFileFault}
 use Rattle.ipmd.specs.Serving.{RefusesToPrepare}
 

@@ -4,7 +4,7 @@ use Rattle.std.specs.Prelude.{IfSome}
 use Rattle.std.specs.Borrow.{Bor}
 use Rattle.std.proofs.KnownBytes.{Keeps-refl}
 use Rattle.ipmd_command_line.specs.declared.task.ReplayOptions.{ReplayOptions}
-use Rattle.ipmd_commands.specs.declared.fault.ProgramFault.{ProgramFault}
+use Rattle.ipmd_commands.specs.declared.fault.Fault.{Fault as ProgramFault}
 use Rattle.ipmd_commands.specs.declared.failure.Place.TheVariants.{File, Output}
 use Rattle.ipmd_commands.specs.Failures.{FailedAt, FailedAtFile, IsFileFault, failed_at}
 use Rattle.mediator_state.specs.declared.fault.Fault.{Fault}

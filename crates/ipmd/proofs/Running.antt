@@ -12,9 +12,9 @@ use Rattle.mediator_calls.specs.declared.limits.Limits.{Limits}
 use Rattle.mediator_calls.specs.Limited.{AreAllowed, RefusesLimits}
 use Rattle.mediator_state.specs.declared.fault.Fault.{Fault}
 use Rattle.mediator_state.specs.declared.fault.Fault.TheVariants as fault
-use Rattle.mediator_server.specs.declared.listening.ListenFault.TheVariants as listen
-use Rattle.ipmd_commands.specs.declared.fault.ProgramFault.{ProgramFault}
-use Rattle.ipmd_commands.specs.declared.fault.ProgramFault.TheVariants.{OutOfMemory}
+use Rattle.mediator_server.specs.declared.listening.Fault.TheVariants as listen
+use Rattle.ipmd_commands.specs.declared.fault.Fault.{Fault as ProgramFault}
+use Rattle.ipmd_commands.specs.declared.fault.Fault.TheVariants.{OutOfMemory}
 use Rattle.ipmd_commands.specs.declared.failure.Place.TheVariants.{Output, RandomNumbers}
 use Rattle.ipmd_commands.specs.Failures.{FailedAt}
 use Rattle.ipmd_commands.specs.HexText.{WritesSomeOf}

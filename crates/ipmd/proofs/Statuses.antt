@@ -1,7 +1,7 @@
 -- A fault's status is never that of a run that was done.
 use Rattle.std.proofs.Common.{arith, ◌≡◌}
-use Rattle.ipmd_commands.specs.declared.fault.ProgramFault.{ProgramFault}
-use Rattle.ipmd_commands.specs.declared.fault.ProgramFault.TheVariants.{CommandLine, Settings, Policy, Hex, Framing, Mediator, Cut, Calls, Journal, History, Absent, Close, OutOfMemory, Device}
+use Rattle.ipmd_commands.specs.declared.fault.Fault.{Fault as ProgramFault}
+use Rattle.ipmd_commands.specs.declared.fault.Fault.TheVariants.{CommandLine, Settings, Policy, Hex, Framing, Mediator, Cut, Calls, Journal, History, Absent, Close, OutOfMemory, Device}
 use Rattle.ipmd_commands.specs.Status.{status_of}
 
 pub no_fault_is_done : (e : ProgramFault) → status_of e ≡ 0 → ⊥

@@ -7,14 +7,14 @@ use Rattle.clap.specs.Words.{kind_of}
 use Rattle.clap.specs.declared.error.Error.{Error}
 use Rattle.mediator_offline.specs.declared.job.OfflineReport.{OfflineReport}
 use Rattle.ipmd_command_line.specs.CommandLine.{AsksForTask, RefusesWords}
-use Rattle.ipmd_command_line.specs.declared.fault.CommandLineFault.{CommandLineFault}
+use Rattle.ipmd_command_line.specs.declared.fault.Fault.{Fault as CommandLineFault}
 use Rattle.ipmd_command_line.specs.declared.task.ReplayOptions.{ReplayOptions}
 use Rattle.ipmd_command_line.specs.declared.task.OfflineOptions.{OfflineOptions}
 use Rattle.ipmd_command_line.specs.declared.task.VerifyOptions.{VerifyOptions}
 use Rattle.ipmd_command_line.specs.declared.task.ExplainOptions.{ExplainOptions}
 use Rattle.ipmd_command_line.specs.declared.task.Task.TheVariants.{Offline, CheckPolicy, Replay, Serve, Verify, Explain, Show}
 use Rattle.ipmd_command_line.specs.declared.task.PolicySource.{PolicySource}
-use Rattle.ipmd_commands.specs.declared.fault.ProgramFault.{ProgramFault}
+use Rattle.ipmd_commands.specs.declared.fault.Fault.{Fault as ProgramFault}
 use Rattle.ipmd_commands.specs.Runs.{CountsPolicy, FiltersInput, RefusesToCount, RefusesToFilter, RefusesToShow, ShowsText, line_of_report}
 use Rattle.ipmd_commands.specs.Status.{command_line_fault_of, Blames, TellsLine}
 use Rattle.ipmd_verify.specs.Verifying.{VerifiesFile, RefusesToVerifyFile}

@@ -12,10 +12,10 @@ use Rattle.ipmd_settings.specs.Reading.{settings_of}
 use Rattle.mediator_server.specs.Listening.{IsServed}
 use Rattle.mediator_server.specs.declared.plan.RunPlan.{RunPlan}
 use Rattle.mediator_server.specs.declared.listening.Ended.{Ended}
-use Rattle.mediator_server.specs.declared.listening.ListenFault.{ListenFault}
-use Rattle.mediator_server.specs.declared.listening.ListenFault.TheVariants as listen
-use Rattle.ipmd_commands.specs.declared.fault.ProgramFault.{ProgramFault}
-use Rattle.ipmd_commands.specs.declared.fault.ProgramFault.TheVariants.{CommandLine, Settings, Policy, Hex, Framing, Mediator, Cut, Calls, Journal, History, Absent, Close, OutOfMemory, Device}
+use Rattle.mediator_server.specs.declared.listening.Fault.{Fault as ListenFault}
+use Rattle.mediator_server.specs.declared.listening.Fault.TheVariants as listen
+use Rattle.ipmd_commands.specs.declared.fault.Fault.{Fault as ProgramFault}
+use Rattle.ipmd_commands.specs.declared.fault.Fault.TheVariants.{CommandLine, Settings, Policy, Hex, Framing, Mediator, Cut, Calls, Journal, History, Absent, Close, OutOfMemory, Device}
 use Rattle.ipmd_commands.specs.declared.failure.Place.TheVariants as placed
 use Rattle.ipmd_commands.specs.Failures.{FailedAt, FailedAtFile, IsFileFault}
 use Rattle.ipmd_commands.specs.HexText.{WritesSomeOf}

@@ -7,7 +7,7 @@ ghost use Rattle.ipmd.specs.Replays.{RefusesText, RefusesToReplay, Replays, Runs
 
 use event_journal::Journal;
 use ipmd_command_line::ReplayOptions;
-use ipmd_commands::{ProgramFault, of_file, read_text, write_text};
+use ipmd_commands::{Fault as ProgramFault, of_file, read_text, write_text};
 use ipmd_run_journals::put_journal;
 use mediator_core::{Transcript, run};
 use octet_io::Device;

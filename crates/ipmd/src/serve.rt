@@ -10,7 +10,7 @@ use crate::notes::Notes;
 use crate::noting::Noting;
 use crate::runs::serve_runs;
 use crate::system::System;
-use ipmd_commands::{ProgramFault, read_text};
+use ipmd_commands::{Fault as ProgramFault, read_text};
 use ipmd_settings::{Settings, read_settings};
 use log::Log;
 use mediator_calls::Limits;

@@ -13,8 +13,8 @@ use Rattle.ipmd_command_line.specs.declared.task.VerifyOptions.{VerifyOptions}
 use Rattle.ipmd_command_line.specs.declared.task.ExplainOptions.{ExplainOptions}
 use Rattle.ipmd_command_line.specs.declared.task.Task.{Task}
 use Rattle.ipmd_command_line.specs.declared.task.Task.TheVariants.{Offline, CheckPolicy, Replay, Serve, Verify, Explain, Show}
-use Rattle.ipmd_command_line.specs.declared.fault.CommandLineFault.{CommandLineFault}
-use Rattle.ipmd_command_line.specs.declared.fault.CommandLineFault.TheVariants.{Refused, OutOfMemory}
+use Rattle.ipmd_command_line.specs.declared.fault.Fault.{Fault}
+use Rattle.ipmd_command_line.specs.declared.fault.Fault.TheVariants.{Refused, OutOfMemory}
 use Rattle.ipmd_command_line.specs.declared.task.PolicySource.{PolicySource}
 use Rattle.ipmd_command_line.specs.declared.task.PolicySource.TheVariants.{File, Text as PolicyText}
 
@@ -166,7 +166,7 @@ AsksForTask words (Verify options) = IsCommandIn (Verify options) (subcommand_of
 AsksForTask words (Explain options) = IsCommandIn (Explain options) (subcommand_of ipmd_command words)
 
 -- the words ask for nothing: the parser says so, or no command is what they name with its options
-abbrev pub RefusesWords : List Text → CommandLineFault → Type 0
+abbrev pub RefusesWords : List Text → Fault → Type 0
 RefusesWords words (Refused error) =
     (IsAmong (kind_of error) (fault_of ipmd_command words) ⊎ ((task : Task) → IsCommandIn task (subcommand_of ipmd_command words) → ⊥)) × (is_shown (kind_of error) ≡ false)
 RefusesWords words OutOfMemory = Unit {0}

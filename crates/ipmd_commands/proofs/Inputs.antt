@@ -8,13 +8,13 @@ use Rattle.mediator_offline.proofs.Framed.{meant_are_cut}
 use Rattle.mediator_offline.specs.Offline.{disclosed_by}
 use Rattle.mediator_offline.specs.Ports.{Ports, sound_ports}
 use Rattle.mediator_offline.specs.Filtering.{FiltersAll, FailsToFilter}
-use Rattle.mediator_offline.specs.declared.job.OfflineFault.{OfflineFault}
+use Rattle.mediator_offline.specs.declared.job.Fault.{Fault as OfflineFault}
 use Rattle.std.specs.Prelude.{IfErr, IfOk, IfSome, is_some, Result, Ok, Err}
 use Rattle.mediator_offline.specs.declared.job.OfflineJob.{OfflineJob}
 use Rattle.mediator_offline.specs.declared.job.OfflineReport.{OfflineReport}
 use Rattle.std.specs.Borrow.{Bor}
 use Rattle.ipmd_command_line.specs.declared.task.OfflineOptions.{OfflineOptions}
-use Rattle.ipmd_commands.specs.declared.fault.ProgramFault.{ProgramFault}
+use Rattle.ipmd_commands.specs.declared.fault.Fault.{Fault}
 use Rattle.ipmd_commands.specs.HexText.{SpelledBy, lines_of, WritesLines, WritesSomeLines}
 use Rattle.ipmd_commands.proofs.Lines.{all_written, kept}
 use Rattle.ipmd_commands.specs.Runs.{AskedJob, FinishesInput, FinishesLines, FinishesOn, IsSourceText, EndsOn, EndsOver, FailsLines, FailsOn, RefusesInput, StopsHexLines, StopsOnFault}
@@ -39,7 +39,7 @@ finishes_lines job report octets stream before after held holds audit_held audit
     let over = subst₂ (λ b a. FinishesOn job report (Some octets) (writer_of b a) (writer_of audit_held audit_holds)) empty filled done in
     record { stream = stream; finishes = over; lines = due_lines job report octets stream held holds audit_held audit_holds over lines }
 
-pub stops_lines : (job : OfflineJob) (e : ProgramFault) (octets stream : List ℕ) (before after held holds audit_held audit_holds : Option (List ℕ))
+pub stops_lines : (job : OfflineJob) (e : Fault) (octets stream : List ℕ) (before after held holds audit_held audit_holds : Option (List ℕ))
     → before ≡ Some [] → after ≡ Some stream → StopsOnFault e job (Some octets) (writer_of before after) (writer_of audit_held audit_holds) → WritesLines stream held holds
     → StopsHexLines e job octets (writer_of held holds) (writer_of audit_held audit_holds)
 stops_lines job e octets stream before after held holds audit_held audit_holds empty filled stops lines =
@@ -50,7 +50,7 @@ pub finishes_spelled : (given held holds audit_held audit_holds : Option (List �
 finishes_spelled None held holds audit_held audit_holds octets job report spelled done = tt
 finishes_spelled (Some text) held holds audit_held audit_holds octets job report spelled done = (octets, spelled, done)
 
-pub fails_spelled : (given held holds audit_held audit_holds : Option (List ℕ)) (octets : List ℕ) (job : OfflineJob) (e : ProgramFault)
+pub fails_spelled : (given held holds audit_held audit_holds : Option (List ℕ)) (octets : List ℕ) (job : OfflineJob) (e : Fault)
     → IfSome given (λ text. SpelledBy text octets) → FailsLines e job octets (writer_of held holds) (writer_of audit_held audit_holds) → RefusesInput e true job given (writer_of held holds) (writer_of audit_held audit_holds)
 fails_spelled None held holds audit_held audit_holds octets job e spelled fails = inr tt
 fails_spelled (Some text) held holds audit_held audit_holds octets job e spelled fails = inr (octets, spelled, fails)
@@ -68,7 +68,7 @@ ran job (Err fault) given held holds audit_held audit_holds after filters fails 
     inr (fault, record { after = after; fails = fails; flushed = flushed; audit_flushed = audit_flushed })
 
 -- over memory that was empty
-pub ends_over : (job : OfflineJob) (octets stream : List ℕ) (r : Result OfflineReport ProgramFault) (before after audit_held audit_holds : Option (List ℕ)) → before ≡ Some [] → after ≡ Some stream
+pub ends_over : (job : OfflineJob) (octets stream : List ℕ) (r : Result OfflineReport Fault) (before after audit_held audit_holds : Option (List ℕ)) → before ≡ Some [] → after ≡ Some stream
     → IfOk r (λ report. FinishesOn job report (Some octets) (writer_of before after) (writer_of audit_held audit_holds)) → IfErr r (λ e. FailsOn e job (Some octets) (writer_of before after) (writer_of audit_held audit_holds))
     → EndsOver job octets stream (writer_of audit_held audit_holds)
 ends_over job octets stream (Ok report) before after audit_held audit_holds empty filled finishes fails =
@@ -79,7 +79,7 @@ ends_over job octets stream (Err e) before after audit_held audit_holds empty fi
 pub whole_lines : (stream : List ℕ) (held holds : Option (List ℕ)) → WritesLines stream held holds → WritesSomeLines stream held holds
 whole_lines stream held holds lines = inr (record { messages = lines.messages; cut = lines.cut; written = all_written held holds holds (lines_of lines.messages) lines.written (kept holds) })
 
-pub fails_lines : (job : OfflineJob) (e : ProgramFault) (octets stream : List ℕ) (before after held holds audit_held audit_holds : Option (List ℕ)) → before ≡ Some [] → after ≡ Some stream
+pub fails_lines : (job : OfflineJob) (e : Fault) (octets stream : List ℕ) (before after held holds audit_held audit_holds : Option (List ℕ)) → before ≡ Some [] → after ≡ Some stream
     → EndsOver job octets stream (writer_of audit_held audit_holds) → WritesLines stream held holds → FailsOn e job (Some octets) (writer_of before after) (writer_of audit_held audit_holds)
     → FailsLines e job octets (writer_of held holds) (writer_of audit_held audit_holds)
 fails_lines job e octets stream before after held holds audit_held audit_holds empty filled ends lines (inl stops) =

@@ -4,7 +4,7 @@ use Rattle.std.specs.Prelude.{Result, Ok, Err, OnOk, IfSome}
 use Rattle.std.specs.Io.KnownBytes.{Appends}
 use Rattle.std.proofs.KnownBytes.{Appends-trans}
 use Rattle.octet_io.specs.Failing.{FailsOnErr}
-use Rattle.ipmd_commands.specs.declared.fault.ProgramFault.{ProgramFault}
+use Rattle.ipmd_commands.specs.declared.fault.Fault.{Fault}
 use Rattle.ipmd_commands.specs.Failures.{line_of, plain}
 use Rattle.ipmd_commands.specs.Status.{Blames, NamesDevice, TellsLine, line_of_fault}
 
@@ -14,7 +14,7 @@ told (Ok x) had_failed has_failed held holds text line written failed same = λ 
 told (Err e) had_failed has_failed held holds text line written failed same = λ sound. absurd (let bad : true ≡ false = sym failed ∙ sound in cc)
 
 -- what failed was named, and then the fault was said
-pub blames : (e : ProgramFault) (failed has_failed : Bool) (held now holds : Option (List ℕ))
+pub blames : (e : Fault) (failed has_failed : Bool) (held now holds : Option (List ℕ))
     → NamesDevice e failed held now → (has_failed ≡ false → failed ≡ false) → TellsLine (line_of_fault e) has_failed now holds → Blames e has_failed held holds
 blames e failed has_failed held now holds names stays tells = λ sound.
     let note = names (stays sound) in

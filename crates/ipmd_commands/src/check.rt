@@ -4,7 +4,7 @@ ghost use Rattle.std.specs.Prelude.{◌≡◌, IfErr, IfOk, OnOk, string_bytes};
 ghost use Rattle.octet_io.specs.Device.{device_inner};
 ghost use Rattle.ipmd_commands.specs.Runs.{CountsPolicy, RefusesToCount, policy_summary};
 
-use crate::fault::ProgramFault;
+use crate::fault::Fault;
 use crate::output::write_text;
 use crate::policy_source::policy_text_of;
 use ipmd_command_line::PolicySource;
@@ -25,7 +25,7 @@ pub fn check_policy<R: Files + AllocGlobal, O: Write>(
     rt: &R,
     source: PolicySource<'_>,
     output: &mut Device<O>,
-) -> Result<(), ProgramFault>
+) -> Result<(), Fault>
     ensures ok { OnOk result (CountsPolicy source.entry
         (O.contents (device_inner output.old)) (O.contents (device_inner output.new))) }
     ensures err { IfErr result (λ e. RefusesToCount source.entry e

@@ -5,10 +5,10 @@ ghost use Rattle.std.specs.Io.KnownBytes.{Appends, Keeps};
 ghost use Rattle.octet_io.specs.Device.{device_inner};
 ghost use Rattle.ipmd_commands.specs.HexText.{AreMessagesOf, line_of, lines_of, WritesLines, WritesSomeOf, WritesSomeLines};
 ghost use Rattle.ipmd_commands.specs.declared.failure.Place.TheVariants.{Output};
-ghost use Rattle.ipmd_commands.specs.declared.fault.ProgramFault.TheVariants.{OutOfMemory};
+ghost use Rattle.ipmd_commands.specs.declared.fault.Fault.TheVariants.{OutOfMemory};
 ghost use Rattle.ipmd_commands.specs.Failures.{FailedAt};
 
-use crate::fault::ProgramFault;
+use crate::fault::Fault;
 use bytes::Bytes;
 use ipfix_message::{Fault as DecodeError, Framer};
 use octet_io::{Device, write_all};
@@ -20,7 +20,7 @@ use std::io::Write;
 /// # Errors
 /// `Device`, of the output, where that fails. A front of the text may have been written.
 #[tactic(auto, using(crate::proofs::Lines::all_written, crate::proofs::Lines::front_written))]
-pub fn write_text<O: Write>(output: &mut Device<O>, text: &str) -> Result<(), ProgramFault>
+pub fn write_text<O: Write>(output: &mut Device<O>, text: &str) -> Result<(), Fault>
     ensures ok { OnOk result (Appends
         (O.contents (device_inner output.old)) (O.contents (device_inner output.new)) text.now) }
     ensures err { IfErr result (λ e. FailedAt Output e × WritesSomeOf text.now
@@ -34,7 +34,7 @@ pub fn write_text<O: Write>(output: &mut Device<O>, text: &str) -> Result<(), Pr
 ///
 /// # Errors
 /// `Device`, of the output, where that fails. A front of the text was written.
-pub fn put_text<O: Write>(output: &mut Device<O>, text: &str) -> Result<(), ProgramFault>
+pub fn put_text<O: Write>(output: &mut Device<O>, text: &str) -> Result<(), Fault>
     ensures ok { OnOk result (Appends
         (O.contents (device_inner output.old)) (O.contents (device_inner output.new)) text.now) }
     ensures err { IfErr result (λ e. FailedAt Output e × WritesSomeOf text.now
@@ -42,7 +42,7 @@ pub fn put_text<O: Write>(output: &mut Device<O>, text: &str) -> Result<(), Prog
 {
     match write_all(output, text.as_bytes()) {
         Ok(()) => Ok(()),
-        Err(_) => Err(ProgramFault::at_output(output)),
+        Err(_) => Err(Fault::at_output(output)),
     }
 }
 
@@ -50,14 +50,14 @@ pub fn put_text<O: Write>(output: &mut Device<O>, text: &str) -> Result<(), Prog
 ///
 /// # Errors
 /// `Device`, of the output, where that fails.
-pub fn flush<O: Write>(output: &mut Device<O>) -> Result<(), ProgramFault>
+pub fn flush<O: Write>(output: &mut Device<O>) -> Result<(), Fault>
     ensures kept { Keeps
         (O.contents (device_inner output.old)) (O.contents (device_inner output.new)) }
     ensures err { IfErr result (FailedAt Output) }
 {
     match output.flush() {
         Ok(()) => Ok(()),
-        Err(_) => Err(ProgramFault::at_output(output)),
+        Err(_) => Err(Fault::at_output(output)),
     }
 }
 
@@ -70,7 +70,7 @@ pub fn write_lines<O: Write>(
     alloc: Global,
     stream: &[u8],
     output: &mut Device<O>,
-) -> Result<(), ProgramFault>
+) -> Result<(), Fault>
     ensures ok { OnOk result (WritesLines stream.now
         (O.contents (device_inner output.old)) (O.contents (device_inner output.new))) }
     ensures err { IfErr result (λ e. ((e ≡ OutOfMemory) ⊎ FailedAt Output e) × WritesSomeLines
@@ -101,7 +101,7 @@ fn write_each<O: Write>(
     alloc: Global,
     messages: &[Bytes],
     output: &mut Device<O>,
-) -> Result<(), ProgramFault>
+) -> Result<(), Fault>
     ensures ok { OnOk result (Appends
         (O.contents (device_inner output.old)) (O.contents (device_inner output.new))
         (lines_of messages.now)) }

@@ -20,8 +20,8 @@ use Rattle.history_verify.specs.Standing.{IsFed}
 use Rattle.history_verify.proofs.FeedLaws.{laid}
 use Rattle.history_verify.proofs.LegalLaws.{accepted_legal}
 use Rattle.ipmd_command_line.specs.declared.task.ExplainOptions.{ExplainOptions}
-use Rattle.ipmd_commands.specs.declared.fault.ProgramFault.{ProgramFault}
-use Rattle.ipmd_commands.specs.declared.fault.ProgramFault.TheVariants.{Absent, Device}
+use Rattle.ipmd_commands.specs.declared.fault.Fault.{Fault as ProgramFault}
+use Rattle.ipmd_commands.specs.declared.fault.Fault.TheVariants.{Absent, Device}
 use Rattle.ipmd_commands.specs.declared.failure.Place.TheVariants.{Output}
 use Rattle.ipmd_commands.specs.Failures.{FailedAt, IsFileFault, NamesFile}
 use Rattle.ipmd_commands.specs.HexText.{WritesSomeOf}

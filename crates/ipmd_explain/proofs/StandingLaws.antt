@@ -12,7 +12,7 @@ use Rattle.sequences.proofs.BeforeLaws.{last_of-push, each_with_before-push}
 use Rattle.ipfix_template.specs.DataRecord.{DataRecord}
 use Rattle.ipfix_message.specs.Reading.{header_of}
 use Rattle.ipfix_message.specs.declared.header.Header.{Header}
-use Rattle.ipfix_session.specs.declared.read_error.ReadError.{ReadError}
+use Rattle.ipfix_session.specs.declared.fault.Fault.{Fault as ReadError}
 use Rattle.ipfix_session.specs.Contents.{Contents}
 use Rattle.ipfix_session.specs.Meaning.{Meaning, meaning_of, contents_of, domain_of, gap_of}
 use Rattle.ipfix_session.specs.Keeping.{at_key}

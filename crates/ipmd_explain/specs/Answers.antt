@@ -5,8 +5,8 @@ use Rattle.event_journal.specs.declared.entry.Entry.{Entry}
 use Rattle.history_verify.specs.Legal.{IsLegal}
 use Rattle.ipmd_command_line.specs.declared.task.ExplainOptions.{ExplainOptions}
 use Rattle.ipmd_commands.specs.declared.fault.Absent.{Absent as NotThere}
-use Rattle.ipmd_commands.specs.declared.fault.ProgramFault.{ProgramFault}
-use Rattle.ipmd_commands.specs.declared.fault.ProgramFault.TheVariants.{Absent}
+use Rattle.ipmd_commands.specs.declared.fault.Fault.{Fault as ProgramFault}
+use Rattle.ipmd_commands.specs.declared.fault.Fault.TheVariants.{Absent}
 use Rattle.ipmd_commands.specs.declared.failure.Place.TheVariants.{Output}
 use Rattle.ipmd_commands.specs.Failures.{FailedAt, NamesFile}
 use Rattle.ipmd_commands.specs.HexText.{WritesSomeOf}

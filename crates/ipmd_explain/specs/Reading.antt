@@ -5,13 +5,13 @@ use Rattle.octet_io.specs.Moments.{Reader, Writer}
 use Rattle.event_journal.specs.declared.entry.Entry.{Entry}
 use Rattle.journal_files.specs.Streaming.{FilePlace}
 use Rattle.history_verify.specs.declared.verifier.Verifier.{Verifier}
-use Rattle.history_verify.specs.declared.fault.VerifyFault.{VerifyFault}
+use Rattle.history_verify.specs.declared.fault.Fault.{Fault as VerifyFault}
 use Rattle.history_verify.specs.Answers.{NamesFirst}
 use Rattle.history_verify.specs.Legal.{IsLegal}
 use Rattle.history_verify.specs.Standing.{IsFed}
 use Rattle.ipmd_commands.specs.declared.fault.Absent.{Absent as NotThere}
-use Rattle.ipmd_commands.specs.declared.fault.ProgramFault.{ProgramFault}
-use Rattle.ipmd_commands.specs.declared.fault.ProgramFault.TheVariants.{Absent}
+use Rattle.ipmd_commands.specs.declared.fault.Fault.{Fault as ProgramFault}
+use Rattle.ipmd_commands.specs.declared.fault.Fault.TheVariants.{Absent}
 use Rattle.ipmd_verify.specs.Faults.{verify_fault_of}
 use Rattle.ipmd_verify.specs.Reading.{IsReadTo}
 use Rattle.ipmd_explain.specs.declared.question.Question.{Question}

@@ -236,7 +236,7 @@ impl Explainer {
         };
         match open.session.read(octets) {
             Ok(reading) => Ok(Some(reading)),
-            Err(ipfix_session::ReadError::OutOfMemory) => Err(AllocError),
+            Err(ipfix_session::Fault::OutOfMemory) => Err(AllocError),
             Err(_) => Ok(None),
         }
     }

@@ -6,7 +6,7 @@ ghost use Rattle.ipmd_run_journals.specs.Numbering.{file_name};
 
 use crate::folder::parts_of;
 use event_journal::Journal;
-use ipmd_commands::{ProgramFault, of_file};
+use ipmd_commands::{Fault as ProgramFault, of_file};
 use journal_files::{Fault, write_journal};
 use octet_io::Device;
 use std::alloc::{AllocError, Global};

@@ -12,7 +12,7 @@ use Rattle.sequences.proofs.ResultLaws.{same_Ok}
 use Rattle.toml.specs.Data.{as_str}
 use Rattle.toml.specs.View.{view, members_view}
 use Rattle.toml.proofs.Views.{Entry}
-use Rattle.ipmd_settings.specs.declared.fault.SettingsFault.{SettingsFault}
+use Rattle.ipmd_settings.specs.declared.fault.Fault.{Fault}
 use Rattle.ipmd_settings.specs.declared.key.Key.TheVariants.{Deliver}
 use Rattle.ipmd_settings.specs.Asked.{Pair}
 use Rattle.ipmd_settings.specs.Results.{value_at_key}
@@ -33,7 +33,7 @@ with_others name found address = address >>= λ a. found >>= λ more. Some ((nam
 turn_by : (before : List Pair) (name : List ℕ) (found : Option (List Pair)) (p : Pair) (address : Option (List ℕ)) → value_at_key Deliver (option_map (λ a. (name, a)) address) ≡ Ok p
     → behind (before ++ p ∷ []) found ≡ behind before (with_others name found address)
 turn_by before name found p None is = absurd cc
-turn_by before name found p (Some a) is = ap (λ (q : Pair). behind (before ++ q ∷ []) found) (sym (same_Ok {E = SettingsFault} (name, a) p is)) ∙ sym (behind-push before (name, a) found)
+turn_by before name found p (Some a) is = ap (λ (q : Pair). behind (before ++ q ∷ []) found) (sym (same_Ok {E = Fault} (name, a) p is)) ∙ sym (behind-push before (name, a) found)
 
 -- a turn of the loop over the members
 pub behind-turn : (before : List Pair) (e : Entry) (rest : List Entry) (p : Pair) → value_at_key Deliver (option_map (λ a. (string_bytes e.0, a)) (as_str (view e.1))) ≡ Ok p

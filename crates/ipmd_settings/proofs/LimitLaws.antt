@@ -4,7 +4,7 @@ use Rattle.std.specs.Prelude.{Option, option_and_then}
 use Rattle.std.proofs.lemmas.Bool.Decides.{nat_tests}
 use Rattle.toml.specs.Data.{Data, Members, integer, as_integer, get_member}
 use Rattle.ipmd_settings.specs.declared.key.Key.{Key}
-use Rattle.ipmd_settings.specs.declared.fault.SettingsFault.{SettingsFault}
+use Rattle.ipmd_settings.specs.declared.fault.Fault.{Fault}
 use Rattle.ipmd_settings.specs.declared.key.Key.TheVariants.{Queue, Shapes, Audit, JournalEntries, JournalOctets}
 use Rattle.ipmd_settings.specs.Laws.{AllowedLimitsAreRead}
 use Rattle.ipmd_settings.specs.Names.{name_of}
@@ -18,7 +18,7 @@ use Rattle.event_journal.specs.declared.limits.TheConstants.{MOST_ENTRIES, MOST_
 within-stands : (least most n : ℕ) → least ≤ n → n ≤ most → within least most (pos n) ≡ Some n
 within-stands least most n low high = grind (arith, nat_tests)
 
-abbrev read : Key → ℕ → ℕ → Option Data → Result ℕ SettingsFault
+abbrev read : Key → ℕ → ℕ → Option Data → Result ℕ Fault
 read k least most value = value_at_key k (option_and_then (within least most) (option_and_then as_integer value))
 
 -- a number in its range is read

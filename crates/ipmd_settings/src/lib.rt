@@ -3,7 +3,7 @@
 //!
 //! - `settings`: [`Settings`], what was read. [`Collector`] is that of `mediator_connections`.
 //! - `reading`: [`read_settings`], with [`LONGEST_TEXT`].
-//! - `key`: [`Key`], a key of settings. `fault`: [`SettingsFault`], why a text gives no settings.
+//! - `key`: [`Key`], a key of settings. `fault`: [`Fault`], why a text gives no settings.
 //! - `values`: what stands at a key.
 //! - `laws`: [`allowed_limits_are_read`], proved over the definitions.
 //!
@@ -24,7 +24,7 @@ mod reading;
 mod settings;
 mod values;
 
-pub use fault::SettingsFault;
+pub use fault::Fault;
 pub use key::Key;
 pub use laws::allowed_limits_are_read;
 pub use mediator_connections::Collector;

@@ -8,7 +8,7 @@ ghost use Rattle.ipmd_settings.specs.Reading.{limits_in, settings_in, settings_o
 ghost use Rattle.ipmd_settings.specs.Results.{Gives};
 ghost use Rattle.ipmd_settings.specs.Values.{AscendByOctets};
 
-use crate::fault::SettingsFault;
+use crate::fault::Fault;
 use crate::key::Key;
 use crate::settings::Settings;
 use crate::values::{
@@ -66,7 +66,7 @@ const MOST_DRAIN: u64 = 86_400;
 /// `TooLong` where the text has more than [`LONGEST_TEXT`] octets, which takes no memory to say. Else `Toml` where the text is no
 /// TOML; `Key` with the first key, in the order of [`Key`], that must be there and isn't, or whose value is of another type or
 /// out of its range; or `OutOfMemory`.
-pub fn read_settings(alloc: Global, text: &str) -> Result<Settings, SettingsFault>
+pub fn read_settings(alloc: Global, text: &str) -> Result<Settings, Fault>
     // What the text gives, or its first fault.
     ensures exact { Gives asked_service result (settings_of text.now) }
     // Which key is at fault: the first that must be there and isn't, or has a value that it may not have. A text that is too long
@@ -80,7 +80,7 @@ pub fn read_settings(alloc: Global, text: &str) -> Result<Settings, SettingsFaul
     ensures some_run { IfOk result (λ settings. 1 ≤ settings.runs) }
 {
     if text.len() > LONGEST_TEXT {
-        return Err(SettingsFault::TooLong);
+        return Err(Fault::TooLong);
     }
     let table = toml::table_from_str(alloc, text)?;
     settings_in(alloc, &table)
@@ -91,7 +91,7 @@ pub fn read_settings(alloc: Global, text: &str) -> Result<Settings, SettingsFaul
 /// # Errors
 /// Those of [`read_settings`] but for `TooLong` and `Toml`.
 #[tactic(auto, unfolding(crate::specs::Reading::settings_in))]
-fn settings_in(alloc: Global, table: &Table) -> Result<Settings, SettingsFault>
+fn settings_in(alloc: Global, table: &Table) -> Result<Settings, Fault>
     ensures exact { Gives asked_service result (settings_in (table_view table.now)) }
     ensures allowed { IfOk result (λ settings. AreAllowed settings.limits) }
     ensures sorted { IfOk result (λ settings. AscendByOctets (pairs settings.collectors)) }
@@ -122,7 +122,7 @@ fn settings_in(alloc: Global, table: &Table) -> Result<Settings, SettingsFault>
 /// # Errors
 /// `Key` with the first that is missing, of another type or out of its range.
 #[tactic(auto, unfolding(crate::specs::Reading::limits_in))]
-fn limits_in(table: &Table) -> Result<Limits, SettingsFault>
+fn limits_in(table: &Table) -> Result<Limits, Fault>
     ensures exact { result ≡ limits_in (table_view table.now) }
     ensures allowed { IfOk result (λ limits. AreAllowed limits) }
 {

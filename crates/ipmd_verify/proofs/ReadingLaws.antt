@@ -18,8 +18,8 @@ use Rattle.journal_files.proofs.FileLaws.{head_read}
 use Rattle.journal_files.proofs.ReadingSteps.{all_read, entry_more}
 use Rattle.journal_files.proofs.Stays.{fault_stays, head_stays}
 use Rattle.journal_files.proofs.Stopping.{step_by_step}
-use Rattle.history_verify.specs.declared.fault.VerifyFault.{VerifyFault}
-use Rattle.history_verify.specs.declared.fault.VerifyFault.TheVariants.{BadHistory, OutOfMemory as NoMemory}
+use Rattle.history_verify.specs.declared.fault.Fault.{Fault as VerifyFault}
+use Rattle.history_verify.specs.declared.fault.Fault.TheVariants.{BadHistory, OutOfMemory as NoMemory}
 use Rattle.history_verify.specs.Answers.{NamesFirst}
 use Rattle.ipmd_commands.specs.Status.{read_fault_of}
 use Rattle.ipmd_verify.specs.Faults.{verify_fault_of}

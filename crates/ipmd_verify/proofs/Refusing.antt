@@ -4,8 +4,8 @@ use Rattle.std.specs.Prelude.{Result, Ok, Err}
 use Rattle.std.specs.Result.{IsErr, IsErrAnd, IfErr}
 use Rattle.std.specs.Io.KnownBytes.{Keeps}
 use Rattle.ipmd_command_line.specs.declared.task.VerifyOptions.{VerifyOptions}
-use Rattle.ipmd_commands.specs.declared.fault.ProgramFault.{ProgramFault}
-use Rattle.ipmd_commands.specs.declared.fault.ProgramFault.TheVariants.{Device, OutOfMemory}
+use Rattle.ipmd_commands.specs.declared.fault.Fault.{Fault as ProgramFault}
+use Rattle.ipmd_commands.specs.declared.fault.Fault.TheVariants.{Device, OutOfMemory}
 use Rattle.ipmd_commands.specs.Failures.{IsFileFault, NamesFile}
 use Rattle.ipmd_commands.specs.HexText.{WritesSomeOf}
 use Rattle.event_journal.specs.declared.entry.Entry.{Entry}

@@ -7,8 +7,8 @@ use Rattle.journal_files.specs.Reading.{file_of}
 use Rattle.history_verify.specs.declared.verified.Verified.{Verified}
 use Rattle.history_verify.specs.Legal.{IsFirstBad}
 use Rattle.history_verify.specs.Answers.{IsVerified}
-use Rattle.ipmd_commands.specs.declared.fault.ProgramFault.{ProgramFault}
-use Rattle.ipmd_commands.specs.declared.fault.ProgramFault.TheVariants.{CommandLine, Settings, Policy, Hex, Framing, Mediator, Cut, Calls, Journal, History, Absent, Close, OutOfMemory, Device}
+use Rattle.ipmd_commands.specs.declared.fault.Fault.{Fault as ProgramFault}
+use Rattle.ipmd_commands.specs.declared.fault.Fault.TheVariants.{CommandLine, Settings, Policy, Hex, Framing, Mediator, Cut, Calls, Journal, History, Absent, Close, OutOfMemory, Device}
 
 -- the file says this history; of a file that isn't known nothing is said
 abbrev pub Says : Option (List ℕ) → List Entry → Type 0

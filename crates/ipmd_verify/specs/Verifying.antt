@@ -11,7 +11,7 @@ use Rattle.history_verify.specs.declared.count.Count.{Count}
 use Rattle.history_verify.specs.Counts.{counts_of}
 use Rattle.history_verify.specs.Legal.{IsLegal}
 use Rattle.ipmd_command_line.specs.declared.task.VerifyOptions.{VerifyOptions}
-use Rattle.ipmd_commands.specs.declared.fault.ProgramFault.{ProgramFault}
+use Rattle.ipmd_commands.specs.declared.fault.Fault.{Fault as ProgramFault}
 use Rattle.ipmd_commands.specs.declared.failure.Place.TheVariants.{Output}
 use Rattle.ipmd_commands.specs.Failures.{FailedAt, NamesFile}
 use Rattle.ipmd_commands.specs.HexText.{WritesSomeOf}

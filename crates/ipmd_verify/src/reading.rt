@@ -9,8 +9,8 @@ ghost use Rattle.ipmd_verify.specs.Faults.{verify_fault_of};
 
 use crate::progress::Progress;
 use event_journal::Entry;
-use history_verify::{Verified, Verifier, VerifyFault};
-use ipmd_commands::ProgramFault;
+use history_verify::{Fault as VerifyFault, Verified, Verifier};
+use ipmd_commands::Fault as ProgramFault;
 use journal_files::{Fault, JournalReader};
 use octet_io::Source;
 use std::alloc::Global;

@@ -4,8 +4,8 @@ use Rattle.std.specs.Prelude.{MatchOption}
 use Rattle.std.specs.List.{AllByRecursion}
 use Rattle.std.proofs.KnownBytes.{Consumes-trans, Consumes-nil}
 use Rattle.std.proofs.lemmas.List.{length-take-le}
-use Rattle.mediator_connections.specs.declared.fault.ServeFault.{ServeFault}
-use Rattle.mediator_connections.specs.declared.fault.ServeFault.TheVariants.{Read, Framing, Turns, Mediator}
+use Rattle.mediator_connections.specs.declared.fault.Fault.{Fault}
+use Rattle.mediator_connections.specs.declared.fault.Fault.TheVariants.{Read, Framing, Turns, Mediator}
 use Rattle.ipfix_reader.specs.declared.fault.FramingFault.TheVariants as framing
 use Rattle.mediator_state.specs.declared.fault.Fault.TheVariants as fault
 use Rattle.mediator_connections.specs.Faults.{out_of_memory}
@@ -50,26 +50,26 @@ line_ends i k l given mid left line found octet some is one so next = (
 )
 
 -- where it stops that stopped behind what was handed out
-pub stops_then : (e : ServeFault) (i k l : InputState) (given mid left : Option (List ℕ)) (front octets : List ℕ) → HandsOutOctets i given mid front k → StopsReading e k mid left octets l → StopsReading e i given left (front ++ octets) l
+pub stops_then : (e : Fault) (i k l : InputState) (given mid left : Option (List ℕ)) (front octets : List ℕ) → HandsOutOctets i given mid front k → StopsReading e k mid left octets l → StopsReading e i given left (front ++ octets) l
 stops_then Read i k l given mid left front octets so stops = Consumes-trans (ahead i given) (ahead k mid) (ahead l left) front octets so.taken stops
 stops_then Turns i k l given mid left front octets so stops = (hands_out_then i k l given mid left front octets so stops.0, stops.1, stops.2)
 stops_then (Framing framing.CutOff) i k l given mid left front octets so stops = ends_then i k given mid left front octets so stops
 stops_then (Mediator fault.OutOfMemory) i k l given mid left front octets so stops = hands_out_then i k l given mid left front octets so stops
 stops_then _ i k l given mid left front octets so stops = absurd stops
 
-pub begun_then : (e : ServeFault) (front octets : List ℕ) → IsInside e octets → IsInside e (front ++ octets)
+pub begun_then : (e : Fault) (front octets : List ℕ) → IsInside e octets → IsInside e (front ++ octets)
 begun_then (Framing framing.CutOff) front octets begun = omega (arith, begun, length-append front octets)
 begun_then _ front octets begun = tt
 
-pub line_stops : (e w : ServeFault) (i k l : InputState) (given mid left : Option (List ℕ)) (line : List ℕ) → e ≡ w → HandsOutOctets i given mid line k → StopsReading w k mid left [] l × IsInside w []
+pub line_stops : (e w : Fault) (i k l : InputState) (given mid left : Option (List ℕ)) (line : List ℕ) → e ≡ w → HandsOutOctets i given mid line k → StopsReading w k mid left [] l × IsInside w []
     → (octets : List ℕ) × StopsReading e i given left octets l × IsInside e octets
 line_stops e w i k l given mid left line is so stops = rw is (line ++ [], stops_then w i k l given mid left line [] so stops.0, begun_then w line [] stops.1)
 
 -- no memory for an octet more
-pub text_lost : (e : ServeFault) (i k l : InputState) (given mid left : Option (List ℕ)) (text : List ℕ) (found : Option ℕ) (octet : ℕ) → e ≡ out_of_memory → found ≡ Some octet → HandsOutOctets i given mid text k
+pub text_lost : (e : Fault) (i k l : InputState) (given mid left : Option (List ℕ)) (text : List ℕ) (found : Option ℕ) (octet : ℕ) → e ≡ out_of_memory → found ≡ Some octet → HandsOutOctets i given mid text k
     → MatchOption found (EndsBehind k mid left []) (λ o. HandsOutOctets k mid left (o ∷ []) l) → (octets : List ℕ) × StopsReading e i given left octets l
 text_lost e i k l given mid left text found octet is some so next = rw is (text ++ octet ∷ [], hands_out_then i k l given mid left text (octet ∷ []) so (one_more found octet k l mid left some next))
 
-pub line_lost : (e : ServeFault) (i k l : InputState) (given mid left : Option (List ℕ)) (line : List ℕ) (found : Option ℕ) (octet : ℕ) → e ≡ out_of_memory → found ≡ Some octet → HandsOutOctets i given mid line k
+pub line_lost : (e : Fault) (i k l : InputState) (given mid left : Option (List ℕ)) (line : List ℕ) (found : Option ℕ) (octet : ℕ) → e ≡ out_of_memory → found ≡ Some octet → HandsOutOctets i given mid line k
     → MatchOption found (EndsBehind k mid left []) (λ o. HandsOutOctets k mid left (o ∷ []) l) → (octets : List ℕ) × StopsReading e i given left octets l × IsInside e octets
 line_lost e i k l given mid left line found octet is some so next = rw is (line ++ octet ∷ [], hands_out_then i k l given mid left line (octet ∷ []) so (one_more found octet k l mid left some next), tt)

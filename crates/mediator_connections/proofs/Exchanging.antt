@@ -20,8 +20,8 @@ use Rattle.admin_text.specs.Answers.{answer_text, refused_for_memory, IsAnswerTe
 use Rattle.admin_text.specs.declared.answer.Answer.{Answer}
 use Rattle.admin_text.specs.declared.answer.Answer.TheVariants as answer
 use Rattle.admin_text.proofs.LineLaws.{command_of-only}
-use Rattle.mediator_connections.specs.declared.fault.ServeFault.{ServeFault}
-use Rattle.mediator_connections.specs.declared.fault.ServeFault.TheVariants.{Read, Write, Framing, Turns, Mediator}
+use Rattle.mediator_connections.specs.declared.fault.Fault.{Fault}
+use Rattle.mediator_connections.specs.declared.fault.Fault.TheVariants.{Read, Write, Framing, Turns, Mediator}
 use Rattle.mediator_connections.specs.Faults.{out_of_memory}
 use Rattle.mediator_connections.specs.CommandInput.{InputState, unread, ahead, HandsOutOctets, EndsBehind, IsLine, IsInside, StopsReading}
 use Rattle.mediator_connections.specs.Answering.{handle_of, AnswersLine, Exchange, octets_read, octets_written, IsExchange, AreExchanges, MayBeFollowed, Exchanges, ServesAdmin, StopsInside, StopsAdmin, Performs, Hears, StopsHearing, StopsReplying}
@@ -112,12 +112,12 @@ line_some line octets is = some is.cut
     some (inl ends) = subst (λ t. 0 < length t) (sym ends) (ended_some line 10)
     some (inr long) = omega (arith, ap length long.0, long.1)
 
-begun_some : (e : ServeFault) (octets : List ℕ) → 0 < length octets → IsInside e octets
+begun_some : (e : Fault) (octets : List ℕ) → 0 < length octets → IsInside e octets
 begun_some (Framing framing.CutOff) octets some = some
 begun_some _ octets some = tt
 
 -- the line was handed out, and what stands behind it wasn't
-pub stops_behind_line : (e w : ServeFault) (i k l : InputState) (given mid left : Option (List ℕ)) (line : List ℕ) → e ≡ w → (octets : List ℕ) × IsLine line octets × HandsOutOctets i given mid octets k
+pub stops_behind_line : (e w : Fault) (i k l : InputState) (given mid left : Option (List ℕ)) (line : List ℕ) → e ≡ w → (octets : List ℕ) × IsLine line octets × HandsOutOctets i given mid octets k
     → (octets : List ℕ) × StopsReading w k mid left octets l → StopsHearing e i given left l
 stops_behind_line e w i k l given mid left line is heard stops = rw is (record {
   octets = heard.0 ++ stops.0;
@@ -125,7 +125,7 @@ stops_behind_line e w i k l given mid left line is heard stops = rw is (record {
   begun = begun_some w (heard.0 ++ stops.0) (omega (arith, line_some line heard.0 heard.1, length-append heard.0 stops.0));
 })
 
-pub stops_in_line : (e w : ServeFault) (i k : InputState) (given left : Option (List ℕ)) → e ≡ w → (octets : List ℕ) × StopsReading w i given left octets k × IsInside w octets → StopsHearing e i given left k
+pub stops_in_line : (e w : Fault) (i k : InputState) (given left : Option (List ℕ)) → e ≡ w → (octets : List ℕ) × StopsReading w i given left octets k × IsInside w octets → StopsHearing e i given left k
 stops_in_line e w i k given left is stops = rw is (record { octets = stops.0; stops = stops.1; begun = stops.2 })
 
 -- a line was handed out, and its call was made
@@ -306,7 +306,7 @@ inside_of turns i count sent given mid left held holds old new begun so taken = 
 }
 
 -- nothing was heard
-pub stops_hearing : (e : ServeFault) (turns : ℕ) (i k : InputState) (count sent : ℕ) (given mid left held holds : Option (List ℕ)) (failed : Bool) (old new : List KeptEntry) (octets : List ℕ)
+pub stops_hearing : (e : Fault) (turns : ℕ) (i k : InputState) (count sent : ℕ) (given mid left held holds : Option (List ℕ)) (failed : Bool) (old new : List KeptEntry) (octets : List ℕ)
     → (so : Serving turns i count sent given mid held holds old new) → StopsReading e i mid left octets k → IsInside e octets → StopsAdmin e turns (reader_of given left) (writer_of held holds) failed (handle_of old new) so.commands
 stops_hearing Read turns i k count sent given mid left held holds failed old new octets so stops begun =
     (octets ++ k.pending, inside_of turns i count sent given mid left held holds old new (octets ++ k.pending) so (all_read (ahead i mid) left octets k.pending stops))
@@ -329,7 +329,7 @@ stops_begun turns given held failed old = (
 )
 
 -- the writer failed inside the answer, or its octets can't be counted
-pub stops_replying : (e : ServeFault) (turns : ℕ) (i k : InputState) (count sent : ℕ) (given mid left held holds writes : Option (List ℕ)) (failed : Bool) (old before new : List KeptEntry) (reply : Answer) (last : Bool)
+pub stops_replying : (e : Fault) (turns : ℕ) (i k : InputState) (count sent : ℕ) (given mid left held holds writes : Option (List ℕ)) (failed : Bool) (old before new : List KeptEntry) (reply : Answer) (last : Bool)
     → (so : Serving turns i count sent given mid held holds old before) → Hears reply last i (reader_of mid left) k (handle_of before new) → StopsReplying e reply sent holds writes failed → StopsAdmin e turns (reader_of given left) (writer_of held writes) failed (handle_of old new) so.commands
 stops_replying (Write n) turns i k count sent given mid left held holds writes failed old before new reply last so hears stopped =
     let x : Exchange = exchange_of reply last i k mid left before new hears stopped.text in
@@ -357,13 +357,13 @@ stops_replying (Mediator fault.HandedFull) turns i k count sent given mid left h
     )
 stops_replying _ turns i k count sent given mid left held holds writes failed old before new reply last so hears stopped = absurd stopped.stops
 
-pub stopped_hearing : (e w : ServeFault) (turns : ℕ) (i k : InputState) (count sent : ℕ) (given mid left held holds : Option (List ℕ)) (failed : Bool) (old before new : List KeptEntry) → e ≡ w
+pub stopped_hearing : (e w : Fault) (turns : ℕ) (i k : InputState) (count sent : ℕ) (given mid left held holds : Option (List ℕ)) (failed : Bool) (old before new : List KeptEntry) → e ≡ w
     → Serving turns i count sent given mid held holds old before → StopsHearing w i mid left k → new ≡ before → (commands : List Exchange) × StopsAdmin e turns (reader_of given left) (writer_of held holds) failed (handle_of old new) commands
 stopped_hearing e w turns i k count sent given mid left held holds failed old before new is so stops same =
-    subst₂ (λ (x : ServeFault) (kept : List KeptEntry). (commands : List Exchange) × StopsAdmin x turns (reader_of given left) (writer_of held holds) failed (handle_of old kept) commands) (sym is) (sym same)
+    subst₂ (λ (x : Fault) (kept : List KeptEntry). (commands : List Exchange) × StopsAdmin x turns (reader_of given left) (writer_of held holds) failed (handle_of old kept) commands) (sym is) (sym same)
     (so.commands, stops_hearing w turns i k count sent given mid left held holds failed old before stops.octets so stops.stops stops.begun)
 
-pub stopped_replying : (e w : ServeFault) (turns : ℕ) (i k : InputState) (count sent : ℕ) (given mid left held holds writes : Option (List ℕ)) (failed : Bool) (old before new : List KeptEntry) (reply : Answer) (last : Bool) → e ≡ w
+pub stopped_replying : (e w : Fault) (turns : ℕ) (i k : InputState) (count sent : ℕ) (given mid left held holds writes : Option (List ℕ)) (failed : Bool) (old before new : List KeptEntry) (reply : Answer) (last : Bool) → e ≡ w
     → Serving turns i count sent given mid held holds old before → Hears reply last i (reader_of mid left) k (handle_of before new) → StopsReplying w reply sent holds writes failed → (commands : List Exchange) × StopsAdmin e turns (reader_of given left) (writer_of held writes) failed (handle_of old new) commands
 stopped_replying e w turns i k count sent given mid left held holds writes failed old before new reply last is so hears stops =
     rw is (so.commands, stops_replying w turns i k count sent given mid left held holds writes failed old before new reply last so hears stops)

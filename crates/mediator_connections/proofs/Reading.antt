@@ -6,12 +6,12 @@ use Rattle.ipfix_message.specs.declared.fault.Fault.{Fault as DecodeError}
 use Rattle.ipfix_message.specs.declared.fault.Fault.TheVariants as frame
 use Rattle.ipfix_message.specs.Framing.{IsFramed}
 use Rattle.ipfix_reader.specs.declared.fault.FramingFault.TheVariants as framing
-use Rattle.ipfix_reader.specs.declared.fault.IntakeFault.{IntakeFault}
-use Rattle.ipfix_reader.specs.declared.fault.IntakeFault.TheVariants as intake
+use Rattle.ipfix_reader.specs.declared.fault.Fault.{Fault as IntakeFault}
+use Rattle.ipfix_reader.specs.declared.fault.Fault.TheVariants as intake
 use Rattle.ipfix_reader.specs.Intake.{IntakeState, nothing_read, Yields, Ends, StopsIntake, StreamHasFault, reader_after as intake_reader}
 use Rattle.shared_mediator.specs.Locked.{Exporting}
-use Rattle.mediator_connections.specs.declared.fault.ServeFault.{ServeFault}
-use Rattle.mediator_connections.specs.declared.fault.ServeFault.TheVariants.{Read, Write, Framing, Turns, TooWide, TooManyCounts, Mediator}
+use Rattle.mediator_connections.specs.declared.fault.Fault.{Fault}
+use Rattle.mediator_connections.specs.declared.fault.Fault.TheVariants.{Read, Write, Framing, Turns, TooWide, TooManyCounts, Mediator}
 use Rattle.mediator_connections.specs.Faults.{out_of_memory, intake_refusal, reader_after}
 use Rattle.mediator_connections.specs.Serving.{IsRefusalOf, Offers, OffersWhole, OffersBefore, AreRead, RefusesOne, Serves, StopsAt, StopsServing, RefusesAmong, Reaches}
 use Rattle.mediator_connections.proofs.Offering.{offers_none, offers_then, receipts_count}
@@ -89,7 +89,7 @@ begins_not turns given d = record {
 }
 
 -- one of the messages is refused
-refuses_one : (e : ServeFault) (turns : ℕ) (i k : IntakeState) (given mid left : Option (List ℕ)) (old d new : Exporting) (out : List (List ℕ)) → (so : Reaches turns i given mid old d) → (takes : Yields i mid left out k) → RefusesAmong e d new out
+refuses_one : (e : Fault) (turns : ℕ) (i k : IntakeState) (given mid left : Option (List ℕ)) (old d new : Exporting) (out : List (List ℕ)) → (so : Reaches turns i given mid old d) → (takes : Yields i mid left out k) → RefusesAmong e d new out
     → RefusesOne (so.octets ++ takes.piece) old new
 refuses_one e turns i k given mid left old d new out so takes stop = record {
   before = so.messages ++ stop.before;
@@ -102,7 +102,7 @@ refuses_one e turns i k given mid left old d new out so takes stop = record {
   offers = offers_then old d new so.messages stop.before so.all.offers stop.offers;
 }
 
-stops_there : (e : ServeFault) (turns : ℕ) (octets : List ℕ) (left : Option (List ℕ)) (old new : Exporting) → (one : RefusesOne octets old new) → IsRefusalOf e one.message → AreRead turns octets → StopsAt e turns octets left old new
+stops_there : (e : Fault) (turns : ℕ) (octets : List ℕ) (left : Option (List ℕ)) (old new : Exporting) → (one : RefusesOne octets old new) → IsRefusalOf e one.message → AreRead turns octets → StopsAt e turns octets left old new
 stops_there (Mediator why) turns octets left old new one is few = (inl (one, is), few)
 stops_there TooWide turns octets left old new one is few = ((one, is), few)
 stops_there TooManyCounts turns octets left old new one is few = ((one, is), few)
@@ -111,7 +111,7 @@ stops_there (Write sent) turns octets left old new one is few = absurd is
 stops_there (Framing why) turns octets left old new one is few = absurd is
 stops_there Turns turns octets left old new one is few = absurd is
 
-pub message_stops : (e : ServeFault) (turns : ℕ) (i k : IntakeState) (given mid left : Option (List ℕ)) (old d new : Exporting) (out : List (List ℕ)) → Reaches turns i given mid old d → Yields i mid left out k → RefusesAmong e d new out
+pub message_stops : (e : Fault) (turns : ℕ) (i k : IntakeState) (given mid left : Option (List ℕ)) (old d new : Exporting) (out : List (List ℕ)) → Reaches turns i given mid old d → Yields i mid left out k → RefusesAmong e d new out
     → StopsServing e turns given left old new
 unfolding refuses_one
 message_stops e turns i k given mid left old d new out so takes stop = record {
@@ -198,13 +198,13 @@ intake_stops intake.OutOfMemory turns i k given mid left old d so stops = record
 }
 
 -- only a failed read leaves a failed reader
-pub intake_reads : (w : IntakeFault) (e : ServeFault) (failed : Bool) → e ≡ intake_refusal w → failed ≡ intake_reader w false → failed ≡ reader_after e
+pub intake_reads : (w : IntakeFault) (e : Fault) (failed : Bool) → e ≡ intake_refusal w → failed ≡ intake_reader w false → failed ≡ reader_after e
 intake_reads intake.Read e failed is fails = rw is fails
 intake_reads (intake.Framing why) e failed is fails = rw is fails
 intake_reads intake.Turns e failed is fails = rw is fails
 intake_reads intake.OutOfMemory e failed is fails = rw is fails
 
-pub refusal_reads : (e : ServeFault) (message : List ℕ) (failed : Bool) → IsRefusalOf e message → failed ≡ false → failed ≡ reader_after e
+pub refusal_reads : (e : Fault) (message : List ℕ) (failed : Bool) → IsRefusalOf e message → failed ≡ false → failed ≡ reader_after e
 refusal_reads (Mediator why) message failed is sound = sound
 refusal_reads TooWide message failed is sound = sound
 refusal_reads TooManyCounts message failed is sound = sound
@@ -213,5 +213,5 @@ refusal_reads (Write sent) message failed is sound = absurd is
 refusal_reads (Framing why) message failed is sound = absurd is
 refusal_reads Turns message failed is sound = absurd is
 
-pub mediator_reads : (e : ServeFault) (old new : Exporting) (out : List (List ℕ)) (failed : Bool) → RefusesAmong e old new out → failed ≡ false → failed ≡ reader_after e
+pub mediator_reads : (e : Fault) (old new : Exporting) (out : List (List ℕ)) (failed : Bool) → RefusesAmong e old new out → failed ≡ false → failed ≡ reader_after e
 mediator_reads e old new out failed stop sound = refusal_reads e stop.message failed stop.is sound

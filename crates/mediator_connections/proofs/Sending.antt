@@ -19,11 +19,11 @@ use Rattle.stream_meaning.proofs.Steps.{run_fits}
 use Rattle.stream_meaning.proofs.Listed.{parts_known}
 use Rattle.mediator_history.proofs.HistoryLaws.{flat_map-push}
 use Rattle.shared_mediator.specs.declared.handed.Handed.{Handed}
-use Rattle.mediator_state.specs.declared.fault.Fault.{Fault}
+use Rattle.mediator_state.specs.declared.fault.Fault.{Fault as MediatorFault}
 use Rattle.shared_mediator.specs.Locked.{Delivering}
 use Rattle.shared_mediator.specs.Handles.{IsBuilt, KeepsSome, MayRefusePull}
-use Rattle.mediator_connections.specs.declared.fault.ServeFault.{ServeFault}
-use Rattle.mediator_connections.specs.declared.fault.ServeFault.TheVariants.{Write, Mediator}
+use Rattle.mediator_connections.specs.declared.fault.Fault.{Fault}
+use Rattle.mediator_connections.specs.declared.fault.Fault.TheVariants.{Write, Mediator}
 use Rattle.mediator_connections.specs.Faults.{writer_after}
 use Rattle.mediator_connections.specs.Delivering.{octets_of, IsDue, PullsSome, DeliversSome, StopsInsideMessages, FailsToDeliver, Sends, StopsSending}
 
@@ -136,7 +136,7 @@ front_behind before due front held holds writes failed so stops = record {
 }
 
 -- inside the messages that were pulled at once
-pub sends_inside : (f : ServeFault) (Shows : ℕ → Type 0) (target sent : ℕ) (old d e : Delivering) (more : List Handed) (held holds writes : Option (List ℕ)) (failed : Bool) → DeliversSome Shows target sent old d (writer_of held holds) → Pulled Shows target d e more
+pub sends_inside : (f : Fault) (Shows : ℕ → Type 0) (target sent : ℕ) (old d e : Delivering) (more : List Handed) (held holds writes : Option (List ℕ)) (failed : Bool) → DeliversSome Shows target sent old d (writer_of held holds) → Pulled Shows target d e more
     → length more ≤ 32 → StopsSending f (octets_of more) sent holds writes failed → FailsToDeliver f Shows target old e (writer_of held writes) failed
 sends_inside f Shows target sent old d e more held holds writes failed so p few stops = rw stops.is inside
   where
@@ -154,7 +154,7 @@ sends_inside f Shows target sent old d e more held holds writes failed so p few 
       whole = omega (arith, so.counted);
     }
 
-pub inside_fails : (f : ServeFault) (octets : List ℕ) (sent : ℕ) (holds writes : Option (List ℕ)) (failed : Bool) → StopsSending f octets sent holds writes failed → failed ≡ writer_after f
+pub inside_fails : (f : Fault) (octets : List ℕ) (sent : ℕ) (holds writes : Option (List ℕ)) (failed : Bool) → StopsSending f octets sent holds writes failed → failed ≡ writer_after f
 inside_fails f octets sent holds writes failed stops = rw stops.is (stops.inside.failed)
 
 -- ---- messages are written one after another
@@ -211,7 +211,7 @@ sending_ends messages begun sent place held holds so over = record {
   counted = so.counted ∙ ap (λ ms. begun + length (octets_of ms)) (take_all place messages over);
 }
 
-pub sending_stops : (f : ServeFault) (messages : List Handed) (begun sent place : ℕ) (h other : Handed) (held holds writes : Option (List ℕ)) (failed : Bool) → IsSending messages begun sent place held holds → place < length messages
+pub sending_stops : (f : Fault) (messages : List Handed) (begun sent place : ℕ) (h other : Handed) (held holds writes : Option (List ℕ)) (failed : Bool) → IsSending messages begun sent place held holds → place < length messages
     → h ≡ get_or messages place other → StopsSending f h.message sent holds writes failed → StopsSending f (octets_of messages) begun held writes failed
 sending_stops f messages begun sent place h other held holds writes failed so l at stops = record {
   front = length (octets_of (take place messages)) + stops.front;
@@ -231,6 +231,6 @@ sending_stops f messages begun sent place h other held holds writes failed so l 
     }
 
 -- a pull is refused
-pub refused : (f : ServeFault) (why : Fault) (Shows : ℕ → Type 0) (target sent : ℕ) (old d e : Delivering) (held holds : Option (List ℕ)) (failed : Bool) → f ≡ Mediator why → MayRefusePull why → e ≡ d → DeliversSome Shows target sent old d (writer_of held holds)
+pub refused : (f : Fault) (why : MediatorFault) (Shows : ℕ → Type 0) (target sent : ℕ) (old d e : Delivering) (held holds : Option (List ℕ)) (failed : Bool) → f ≡ Mediator why → MayRefusePull why → e ≡ d → DeliversSome Shows target sent old d (writer_of held holds)
     → FailsToDeliver f Shows target old e (writer_of held holds) failed
 refused f why Shows target sent old d e held holds failed is may same so = rw is ((sent, subst (λ x. DeliversSome Shows target sent old x (writer_of held holds)) (sym same) so), may)

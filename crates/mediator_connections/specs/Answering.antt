@@ -15,8 +15,8 @@ use Rattle.admin_text.specs.Reading.{command_of}
 use Rattle.admin_text.specs.Answers.{IsAnswerText}
 use Rattle.admin_text.specs.declared.answer.Answer.{Answer}
 use Rattle.admin_text.specs.declared.answer.Answer.TheVariants as answer
-use Rattle.mediator_connections.specs.declared.fault.ServeFault.{ServeFault}
-use Rattle.mediator_connections.specs.declared.fault.ServeFault.TheVariants.{Read, Write, Framing, Turns, Mediator}
+use Rattle.mediator_connections.specs.declared.fault.Fault.{Fault}
+use Rattle.mediator_connections.specs.declared.fault.Fault.TheVariants.{Read, Write, Framing, Turns, Mediator}
 use Rattle.mediator_connections.specs.CommandInput.{InputState, HandsOutOctets, IsLine, IsInside, StopsReading}
 
 -- what an administrator's handle keeps, before and after
@@ -150,7 +150,7 @@ pub record StopsBehind (commands : List Exchange) (last : Exchange) (reader : Re
 
 -- why it stops: the reader failed; no read is left, and each gave some octets; the input ended inside a command; there was no memory
 -- for what was read; the writer failed inside an answer; or with the next answer, the octets could not be counted
-abbrev pub StopsAdmin : ServeFault → ℕ → Reader → Writer → Bool → Handle → List Exchange → Type 0
+abbrev pub StopsAdmin : Fault → ℕ → Reader → Writer → Bool → Handle → List Exchange → Type 0
 StopsAdmin Read turns reader writer has_failed handle commands = (begun : List ℕ) × StopsInside commands begun reader writer handle
 StopsAdmin Turns turns reader writer has_failed handle commands =
     (begun : List ℕ) × StopsInside commands begun reader writer handle × (turns ≤ length (octets_read commands ++ begun))
@@ -185,18 +185,18 @@ pub record Hears (reply : Answer) (stops : Bool) (old : InputState) (reader : Re
   pub stop : IsTrue stops ↔ (command_of line ≡ Some to_stop)
 
 -- nothing was answered, behind these octets of a command
-pub record StopsHearing (e : ServeFault) (old : InputState) (given left : Option (List ℕ)) (new : InputState) : Type 0 where
+pub record StopsHearing (e : Fault) (old : InputState) (given left : Option (List ℕ)) (new : InputState) : Type 0 where
   pub octets : List ℕ
   pub stops : StopsReading e old given left octets new
   pub begun : IsInside e octets
 
 -- the writer failed inside these octets; or behind so many they can't be counted
-abbrev pub StopsSendingOctets : ServeFault → List ℕ → ℕ → Option (List ℕ) → Option (List ℕ) → Bool → Type 0
+abbrev pub StopsSendingOctets : Fault → List ℕ → ℕ → Option (List ℕ) → Option (List ℕ) → Bool → Type 0
 StopsSendingOctets (Write count) octets sent held holds has_failed = (front : ℕ) × (count ≡ sent + front) × WritesFront held holds octets front has_failed
 StopsSendingOctets (Mediator fault.HandedFull) octets sent held holds has_failed = (holds ≡ held) × (2 ^ 64 ≤ sent + length octets)
 StopsSendingOctets _ octets sent held holds has_failed = ⊥
 
-pub record StopsReplying (e : ServeFault) (reply : Answer) (sent : ℕ) (held holds : Option (List ℕ)) (has_failed : Bool) : Type 0 where
+pub record StopsReplying (e : Fault) (reply : Answer) (sent : ℕ) (held holds : Option (List ℕ)) (has_failed : Bool) : Type 0 where
   pub text : List ℕ
   pub is : IsAnswerText reply text
   pub stops : StopsSendingOctets e text sent held holds has_failed

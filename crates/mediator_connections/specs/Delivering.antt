@@ -10,8 +10,8 @@ use Rattle.shared_mediator.specs.declared.handed.Handed.{Handed}
 use Rattle.shared_mediator.specs.Locked.{Delivering}
 use Rattle.shared_mediator.specs.Handles.{IsBuilt, KeepsEntry, MayRefusePull}
 use Rattle.mediator_connections.specs.declared.delivery.TheConstants.{MOST_AT_ONCE}
-use Rattle.mediator_connections.specs.declared.fault.ServeFault.{ServeFault}
-use Rattle.mediator_connections.specs.declared.fault.ServeFault.TheVariants.{Write, Mediator}
+use Rattle.mediator_connections.specs.declared.fault.Fault.{Fault}
+use Rattle.mediator_connections.specs.declared.fault.Fault.TheVariants.{Write, Mediator}
 
 -- the octets of messages, one directly after another
 abbrev pub octets_of : List Handed → List ℕ
@@ -47,13 +47,13 @@ pub record StopsInsideMessages (Shows : ℕ → Type 0) (target sent : ℕ) (old
   pub whole : length (octets_of messages) ≤ sent
 
 -- why it stops, and what was written then: at a refusal, all that was pulled
-abbrev pub FailsToDeliver : ServeFault → (ℕ → Type 0) → ℕ → Delivering → Delivering → Writer → Bool → Type 0
+abbrev pub FailsToDeliver : Fault → (ℕ → Type 0) → ℕ → Delivering → Delivering → Writer → Bool → Type 0
 FailsToDeliver (Write sent) Shows target old new writer has_failed = StopsInsideMessages Shows target sent old new writer has_failed
 FailsToDeliver (Mediator why) Shows target old new writer has_failed = ((sent : ℕ) × DeliversSome Shows target sent old new writer) × MayRefusePull why
 FailsToDeliver _ Shows target old new writer has_failed = ⊥
 
 -- what an administrator's handle keeps then: where the writer failed, the end of the subscription, unless that is refused
-abbrev pub EndsOnWrite : ServeFault → ℕ → List KeptEntry → List KeptEntry → Type 0
+abbrev pub EndsOnWrite : Fault → ℕ → List KeptEntry → List KeptEntry → Type 0
 EndsOnWrite (Write sent) sub old new = KeepsEntry old (Unsubscribe sub) new ⊎ (new ≡ old)
 EndsOnWrite _ sub old new = new ≡ old
 
@@ -65,7 +65,7 @@ pub record Sends (octets : List ℕ) (sent n : ℕ) (held holds : Option (List �
   pub counted : n ≡ sent + length octets
 
 -- the writer failed inside the octets, behind so many
-pub record StopsSending (e : ServeFault) (octets : List ℕ) (sent : ℕ) (held holds : Option (List ℕ)) (has_failed : Bool) : Type 0 where
+pub record StopsSending (e : Fault) (octets : List ℕ) (sent : ℕ) (held holds : Option (List ℕ)) (has_failed : Bool) : Type 0 where
   pub front : ℕ
   pub is : e ≡ Write (sent + front)
   pub inside : WritesFront held holds octets front has_failed

@@ -11,14 +11,14 @@ use Rattle.ipfix_reader.specs.Intake.{IntakeState}
 use Rattle.event_journal.specs.declared.entry.Entry.{Entry}
 use Rattle.event_journal.specs.declared.entry.Entry.TheVariants.{Message}
 use Rattle.shared_mediator.specs.declared.kept.KeptEntry.{KeptEntry}
-use Rattle.mediator_state.specs.declared.fault.Fault.{Fault}
+use Rattle.mediator_state.specs.declared.fault.Fault.{Fault as MediatorFault}
 use Rattle.mediator_state.specs.declared.fault.Fault.TheVariants as fault
 use Rattle.prepared_message.specs.Widths.{IsTooWide}
 use Rattle.prepared_message.specs.Holding.{CountsTooMany}
 use Rattle.shared_mediator.specs.Locked.{Exporting}
 use Rattle.shared_mediator.specs.Handles.{MayRefuseOffer}
-use Rattle.mediator_connections.specs.declared.fault.ServeFault.{ServeFault}
-use Rattle.mediator_connections.specs.declared.fault.ServeFault.TheVariants.{Read, Write, Framing, Turns, TooWide, TooManyCounts, Mediator}
+use Rattle.mediator_connections.specs.declared.fault.Fault.{Fault}
+use Rattle.mediator_connections.specs.declared.fault.Fault.TheVariants.{Read, Write, Framing, Turns, TooWide, TooManyCounts, Mediator}
 
 -- ---- receipts
 
@@ -86,7 +86,7 @@ pub record RefusesOne (octets : List ℕ) (old new : Exporting) : Type 0 where
   pub offers : Offers old new before
 
 -- what the last read gave found no memory, or there was none before the first; all whole messages of the octets before that were offered
-pub record LosesLastRead (why : Fault) (octets : List ℕ) (old new : Exporting) : Type 0 where
+pub record LosesLastRead (why : MediatorFault) (octets : List ℕ) (old new : Exporting) : Type 0 where
   pub memory : why ≡ fault.OutOfMemory
   pub fed : List ℕ
   pub piece : List ℕ
@@ -96,7 +96,7 @@ pub record LosesLastRead (why : Fault) (octets : List ℕ) (old new : Exporting)
   pub whole : OffersWhole fed pending old new
 
 -- where it stops that has read these octets, by what cause, and which of their messages were offered
-abbrev pub StopsAt : ServeFault → ℕ → List ℕ → Option (List ℕ) → Exporting → Exporting → Type 0
+abbrev pub StopsAt : Fault → ℕ → List ℕ → Option (List ℕ) → Exporting → Exporting → Type 0
 StopsAt Read turns octets left old new = ((pending : List ℕ) × OffersWhole octets pending old new) × AreReadBut turns octets
 StopsAt Turns turns octets left old new = ((pending : List ℕ) × OffersWhole octets pending old new) × (turns ≤ length octets) × AreRead turns octets
 StopsAt (Framing framing.CutOff) turns octets left old new = ((pending : List ℕ) × OffersWhole octets pending old new × (0 < length pending)) × AreReadBut turns octets × IsAtEnd left
@@ -108,7 +108,7 @@ StopsAt TooManyCounts turns octets left old new = ((one : RefusesOne octets old 
 StopsAt _ turns octets left old new = ⊥
 
 -- octets were read, and it stops so
-pub record StopsServing (e : ServeFault) (turns : ℕ) (given left : Option (List ℕ)) (old new : Exporting) : Type 0 where
+pub record StopsServing (e : Fault) (turns : ℕ) (given left : Option (List ℕ)) (old new : Exporting) : Type 0 where
   pub octets : List ℕ
   pub taken : Consumes given left octets
   pub stops : StopsAt e turns octets left old new
@@ -116,7 +116,7 @@ pub record StopsServing (e : ServeFault) (turns : ℕ) (given left : Option (Lis
 -- ---- what no public clause cites
 
 -- why a message isn't offered: the mediator refuses it, it's too wide, or too many of its records count
-abbrev pub IsRefusalOf : ServeFault → List ℕ → Type 0
+abbrev pub IsRefusalOf : Fault → List ℕ → Type 0
 IsRefusalOf (Mediator why) message = MayRefuseOffer why
 IsRefusalOf TooWide message = IsTooWideAt message
 IsRefusalOf TooManyCounts message = CountsTooMany message
@@ -126,7 +126,7 @@ IsRefusalOf (Framing why) message = ⊥
 IsRefusalOf Turns message = ⊥
 
 -- one of these messages is refused; those before it were offered
-pub record RefusesAmong (e : ServeFault) (old new : Exporting) (messages : List (List ℕ)) : Type 0 where
+pub record RefusesAmong (e : Fault) (old new : Exporting) (messages : List (List ℕ)) : Type 0 where
   pub before : List (List ℕ)
   pub message : List ℕ
   pub later : List (List ℕ)

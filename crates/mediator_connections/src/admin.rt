@@ -11,13 +11,13 @@ ghost use Rattle.mediator_connections.specs.Answering.{handle_of, AnswersEdit, A
 
 use crate::command_input::CommandInput;
 use crate::control::{Control, Patience};
-use crate::fault::ServeFault;
+use crate::fault::Fault;
 use crate::room::wait_for_advance;
 use admin_text::{Answer, Command, Topic, read_command, write_answer};
 use answer_writing::{AnswerBuffer, Stopped, drained_length};
 use disclosure_audit::AuditEntry;
 use mediator_calls::SubId;
-use mediator_state::Fault;
+use mediator_state::Fault as MediatorFault;
 use octet_io::{Sink, Source};
 use shared_mediator::{AdminHandle, EntryLedger, KeptEntry, RecordLedger, SharedMediator};
 use std::alloc::{AllocError, Global};
@@ -64,7 +64,7 @@ pub fn serve_admin<E: EntryLedger, H: RecordLedger, R: Source, W: Sink, C: Contr
     writer: &mut W,
     turns: u64,
     control: &C,
-) -> Result<u64, ServeFault>
+) -> Result<u64, Fault>
     requires reader { R.has_failed reader.old ≡ false }
     requires writer { W.has_failed writer.old ≡ false }
     // All commands were read, their calls made, and their answers written.
@@ -115,7 +115,7 @@ fn hear<E: EntryLedger, H: RecordLedger, R: Source, C: Control>(
     input: &mut CommandInput,
     reader: &mut R,
     control: &C,
-) -> Result<Option<Heard>, ServeFault>
+) -> Result<Option<Heard>, Fault>
     requires reader { R.has_failed reader.old ≡ false }
     // What came of the line, or that the input ended before it.
     ensures ok { IfOk result (λ found. MatchOption found
@@ -153,7 +153,7 @@ fn answer_line<E: EntryLedger, H: RecordLedger, R: Source, C: Control>(
     reader: &mut R,
     line: &[u8],
     control: &C,
-) -> Result<Heard, ServeFault>
+) -> Result<Heard, Fault>
     requires reader { R.has_failed reader.old ≡ false }
     // What came of the line.
     ensures ok { IfOk result (λ heard. Performs (command_of line.now) heard.answer input.old
@@ -184,7 +184,7 @@ fn answer_line<E: EntryLedger, H: RecordLedger, R: Source, C: Control>(
             stops: false,
         }),
         Err(AllocError) => Ok(Heard {
-            answer: Answer::Refused(Fault::OutOfMemory),
+            answer: Answer::Refused(MediatorFault::OutOfMemory),
             stops: false,
         }),
     }
@@ -226,7 +226,7 @@ fn perform<E: EntryLedger, H: RecordLedger, R: Source, C: Control>(
     reader: &mut R,
     command: Command,
     control: &C,
-) -> Result<Answer, ServeFault>
+) -> Result<Answer, Fault>
     requires reader { R.has_failed reader.old ≡ false }
     // What came of the command.
     ensures ok { IfOk result (λ answer. Performs (Some (saying command)) answer input.old
@@ -300,7 +300,7 @@ fn subscribe<E: EntryLedger, H: RecordLedger>(
     match from_utf8(octets) {
         Ok(name) => subscribe_by_name(rt, shared, handle, name),
         // A name is ASCII.
-        Err(_) => Answer::Refused(Fault::BadName),
+        Err(_) => Answer::Refused(MediatorFault::BadName),
     }
 }
 
@@ -372,7 +372,7 @@ fn tell<E: EntryLedger, C: Control>(handle: &AdminHandle<E>, topic: Topic, contr
 {
     match control.tell(topic, handle.kept()) {
         Ok(page) => Answer::Told(page),
-        Err(AllocError) => Answer::Refused(Fault::OutOfMemory),
+        Err(AllocError) => Answer::Refused(MediatorFault::OutOfMemory),
     }
 }
 
@@ -387,7 +387,7 @@ fn drain_audit<E: EntryLedger, H: RecordLedger>(
     ensures { DrainsAudit result handle.now handle.now }
 {
     let Ok(mut buffer) = AnswerBuffer::new(alloc) else {
-        return Answer::Refused(Fault::OutOfMemory);
+        return Answer::Refused(MediatorFault::OutOfMemory);
     };
     let (mut drained, mut octets) = (Vec::new(alloc), 0u64);
     'entries: for _ in 0..most {
@@ -401,7 +401,7 @@ fn drain_audit<E: EntryLedger, H: RecordLedger>(
             )),
             Ok(false) => break,
             Err(AllocError) if drained.is_empty() => {
-                return Answer::Refused(Fault::OutOfMemory);
+                return Answer::Refused(MediatorFault::OutOfMemory);
             }
             Err(AllocError) => break,
         }
@@ -450,7 +450,7 @@ fn reply<W: Sink>(
     writer: &mut W,
     answer: &Answer,
     sent: u64,
-) -> Result<u64, ServeFault>
+) -> Result<u64, Fault>
     requires writer { W.has_failed writer.old ≡ false }
     // The whole answer was written.
     ensures ok { IfOk result (λ n.
@@ -463,7 +463,7 @@ fn reply<W: Sink>(
 {
     match write_answer(alloc, buffer, writer, answer, sent) {
         Ok(sent) => Ok(sent),
-        Err(Stopped::Failed { sent }) => Err(ServeFault::Write { sent }),
-        Err(Stopped::Uncounted) => Err(ServeFault::Mediator(Fault::HandedFull)),
+        Err(Stopped::Failed { sent }) => Err(Fault::Write { sent }),
+        Err(Stopped::Uncounted) => Err(Fault::Mediator(MediatorFault::HandedFull)),
     }
 }

@@ -6,9 +6,9 @@ ghost use Rattle.mediator_connections.specs.Faults.{writer_after};
 ghost use Rattle.mediator_connections.specs.Delivering.{DeliversSome, FailsToDeliver, Sends, StopsSending, EndsOnWrite, octets_of};
 
 use crate::clock::Clock;
-use crate::fault::ServeFault;
+use crate::fault::Fault;
 use mediator_calls::SubId;
-use mediator_state::Fault;
+use mediator_state::Fault as MediatorFault;
 use octet_io::{Sink, write_all};
 use shared_mediator::{
     AdminHandle, DeliveryHandle, EntryLedger, Handed, RecordLedger, SharedMediator, Waited,
@@ -42,7 +42,7 @@ pub fn deliver<E: EntryLedger, H: RecordLedger, W: Sink, C: Clock>(
     writer: &mut W,
     target: u16,
     clock: &C,
-) -> Result<u64, (ServeFault, u64)>
+) -> Result<u64, (Fault, u64)>
     requires writer { W.has_failed writer.old ≡ false }
     // All that was pulled was written.
     ensures delivers { IfOk result (λ sent. DeliversSome (C.shows clock.now) target sent
@@ -86,11 +86,11 @@ fn end_on_write<E: EntryLedger, H: RecordLedger>(
     shared: &SharedMediator<E, H>,
     sub: SubId,
     admin: &mut AdminHandle<E>,
-    fault: ServeFault,
+    fault: Fault,
 )
     ensures { EndsOnWrite fault sub.0 admin.old admin.new }
 {
-    if let ServeFault::Write { .. } = fault {
+    if let Fault::Write { .. } = fault {
         let _ended = admin.unsubscribe(rt, shared, sub);
     }
 }
@@ -106,7 +106,7 @@ fn send_messages<E: EntryLedger, H: RecordLedger, W: Sink, C: Clock>(
     writer: &mut W,
     target: u16,
     clock: &C,
-) -> Result<u64, ServeFault>
+) -> Result<u64, Fault>
     requires writer { W.has_failed writer.old ≡ false }
     // All that was pulled was written.
     ensures delivers { IfOk result (λ sent. DeliversSome (C.shows clock.now) target sent
@@ -122,7 +122,7 @@ fn send_messages<E: EntryLedger, H: RecordLedger, W: Sink, C: Clock>(
     let mut sent = 0u64;
     'pulls: for _ in rt.forever() {
         if sent > u64::MAX - MOST_AT_ONCE * LONGEST_MESSAGE {
-            return Err(ServeFault::Mediator(Fault::HandedFull));
+            return Err(Fault::Mediator(MediatorFault::HandedFull));
         }
         let messages = handle.pull_some(rt, shared, clock.now(), target, MOST_AT_ONCE)?;
         if !messages.is_empty() {
@@ -144,7 +144,7 @@ fn send_all<W: Sink>(
     messages: &[Handed],
     writer: &mut W,
     sent: u64,
-) -> Result<u64, ServeFault>
+) -> Result<u64, Fault>
     requires fits { sent + length (octets_of messages.now) < 2 ^ 64 }
     ensures ok { IfOk result (λ n. Sends (octets_of messages.now) sent n
         (W.contents writer.old) (W.contents writer.new)) }
@@ -177,7 +177,7 @@ fn joined(alloc: Global, messages: &[Handed]) -> Result<Vec<u8>, AllocError>
 ///
 /// # Errors
 /// The writer failed, and the fault says how many octets were sent in all.
-fn send_each<W: Sink>(messages: &[Handed], writer: &mut W, mut sent: u64) -> Result<u64, ServeFault>
+fn send_each<W: Sink>(messages: &[Handed], writer: &mut W, mut sent: u64) -> Result<u64, Fault>
     requires fits { sent + length (octets_of messages.now) < 2 ^ 64 }
     ensures ok { IfOk result (λ n. Sends (octets_of messages.now) sent n
         (W.contents writer.old) (W.contents writer.new)) }
@@ -195,7 +195,7 @@ fn send_each<W: Sink>(messages: &[Handed], writer: &mut W, mut sent: u64) -> Res
 ///
 /// # Errors
 /// The writer failed, and the fault says how many octets were sent in all.
-fn send<W: Sink>(message: &[u8], writer: &mut W, sent: u64) -> Result<u64, ServeFault>
+fn send<W: Sink>(message: &[u8], writer: &mut W, sent: u64) -> Result<u64, Fault>
     requires fits { sent + length message.now < 2 ^ 64 }
     ensures ok { IfOk result (λ n.
         Sends message.now sent n (W.contents writer.old) (W.contents writer.new)) }
@@ -205,7 +205,7 @@ fn send<W: Sink>(message: &[u8], writer: &mut W, sent: u64) -> Result<u64, Serve
 {
     match write_all(writer, message) {
         Ok(()) => Ok(sent + message.len() as u64),
-        Err(stopped) => Err(ServeFault::Write {
+        Err(stopped) => Err(Fault::Write {
             sent: sent + stopped.sent as u64,
         }),
     }

@@ -9,7 +9,7 @@
 //! - `control`: [`Reception`] and [`Control`], what an exporter's and an administrator's connection ask of their server and tell it,
 //!   and [`Patience`], how long they wait for room in the queues, as `room` does.
 //! - `clock`: [`Clock`], which tells the Export Times.
-//! - `fault`: [`ServeFault`], why a call stops.
+//! - `fault`: [`Fault`], why a call stops.
 //!
 //! Proved of `serve_exporter`: the messages that it adds to its handle's receipts, under the handle's session and numbered on,
 //! are those that the octets that it read are cut into (RFC 7011, section 10.4): where the answer is `Ok`, all of them, and the
@@ -58,4 +58,4 @@ pub use collector::Collector;
 pub use control::{Control, Patience, Reception};
 pub use delivery::deliver;
 pub use exporter::{Served, serve_exporter};
-pub use fault::ServeFault;
+pub use fault::Fault;

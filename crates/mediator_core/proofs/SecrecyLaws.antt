@@ -11,7 +11,7 @@ use Rattle.ipfix_template.specs.Template.{shortest_record}
 use Rattle.ipfix_template.specs.DataRecord.{DataRecord}
 use Rattle.ipfix_session.specs.Meaning.{meaning_of, domain_of}
 use Rattle.policy_text.specs.declared.rule.Rule.{Rule}
-use Rattle.policy_text.specs.declared.fault.PolicyFault.{PolicyFault}
+use Rattle.policy_text.specs.declared.fault.Fault.{Fault as PolicyFault}
 use Rattle.policy_text.specs.Policies.{PolicyMeaning as Policy, Aggregate as Definition, nothing as no_policy}
 use Rattle.policy_text.specs.Parsing.{policy_of}
 use Rattle.policy_judge.specs.declared.verdict.RecordAction.{RecordAction}

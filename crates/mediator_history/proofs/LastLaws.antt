@@ -7,7 +7,7 @@ use Rattle.sequences.specs.Before.{last_of, IsLastOr}
 use Rattle.sequences.proofs.BeforeLaws.{last_of-append, last_of-found, last_of-only}
 use Rattle.policy_text.specs.Policies.{PolicyMeaning as Policy, nothing as no_policy}
 use Rattle.policy_text.specs.Parsing.{policy_of}
-use Rattle.policy_text.specs.declared.fault.PolicyFault.{PolicyFault}
+use Rattle.policy_text.specs.declared.fault.Fault.{Fault as PolicyFault}
 use Rattle.event_journal.specs.declared.entry.Entry.{Entry}
 use Rattle.event_journal.specs.declared.entry.Entry.TheVariants.{Open, Close, Message, Edit, Subscribe, Unsubscribe, Advance, Cut}
 use Rattle.mediator_history.specs.Subscriptions.{policy_or_none, policy_from, policy_in_force, named, name_of, switched, is_served}

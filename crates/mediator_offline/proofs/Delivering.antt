@@ -36,8 +36,8 @@ use Rattle.mediator_offline.specs.Runs.{tells, audit_drained, RunStands, Small, 
 use Rattle.mediator_offline.specs.HandsOut.{HandsOutAll}
 use Rattle.mediator_offline.proofs.Receiving.{within_end}
 use Rattle.mediator_offline.specs.Offline.{end_of}
-use Rattle.mediator_offline.specs.declared.job.OfflineFault.{OfflineFault}
-use Rattle.mediator_offline.specs.declared.job.OfflineFault.TheVariants.{Write, Mediator}
+use Rattle.mediator_offline.specs.declared.job.Fault.{Fault}
+use Rattle.mediator_offline.specs.declared.job.Fault.TheVariants.{Write, Mediator}
 use Rattle.mediator_state.specs.declared.fault.Fault.TheVariants as fault
 use Rattle.mediator_offline.specs.Pulling.{IsDeliveringRun, PullsMessage, Delivers, StopsDelivery, FailsDelivery}
 
@@ -320,7 +320,7 @@ pub all_fits : (old new : OfflineRun) (text : List ℕ) → IsDeliveringRun old 
 all_fits old new text start d = omega (arith, d.sent, ap length d.written, d.few start.place start.sent start.history start.stands start.small, parts_few (disclosed 1 start.history), start.small.listed, start.small.entries)
 
 -- the writer failed after n octets
-pub write_fails : (old new : OfflineRun) (held holds : Option (List ℕ)) (text : List ℕ) (n : ℕ) (e : OfflineFault) (failed : Bool) → Delivers old new (Some []) (Some text) → e ≡ Write (old.sent + n) → WritesFront held holds text n failed
+pub write_fails : (old new : OfflineRun) (held holds : Option (List ℕ)) (text : List ℕ) (n : ℕ) (e : Fault) (failed : Bool) → Delivers old new (Some []) (Some text) → e ≡ Write (old.sent + n) → WritesFront held holds text n failed
     → FailsDelivery e old held holds failed
 write_fails old new held holds text n e failed d is front = rw is (record {
   messages = d.messages;
@@ -329,7 +329,7 @@ write_fails old new held holds text n e failed d is front = rw is (record {
 })
 
 -- memory ran out, and nothing was written
-pub memory_fails : (old : OfflineRun) (held : Option (List ℕ)) (e : OfflineFault) (failed : Bool) → e ≡ Mediator fault.OutOfMemory → FailsDelivery e old held held failed
+pub memory_fails : (old : OfflineRun) (held : Option (List ℕ)) (e : Fault) (failed : Bool) → e ≡ Mediator fault.OutOfMemory → FailsDelivery e old held held failed
 memory_fails old held e failed is = rw is (record {
   messages = [];
   handed = λ h p so small. (p, refl);

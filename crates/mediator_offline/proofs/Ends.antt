@@ -6,8 +6,8 @@ use Rattle.std.proofs.KnownBytes.{Appends-nil, Consumes-nil, Consumes-trans}
 use Rattle.ipfix_message.specs.Framing.{IsFramed}
 use Rattle.ipfix_message.specs.declared.fault.Fault.{Fault as DecodeError}
 use Rattle.ipfix_message.specs.declared.fault.Fault.TheVariants as frame
-use Rattle.ipfix_reader.specs.declared.fault.IntakeFault.{IntakeFault}
-use Rattle.ipfix_reader.specs.declared.fault.IntakeFault.TheVariants as intake
+use Rattle.ipfix_reader.specs.declared.fault.Fault.{Fault as IntakeFault}
+use Rattle.ipfix_reader.specs.declared.fault.Fault.TheVariants as intake
 use Rattle.ipfix_reader.specs.declared.fault.FramingFault.TheVariants as framing
 use Rattle.ipfix_reader.specs.Intake.{IntakeState, nothing_read, Yields, Ends, StopsIntake, StreamHasFault, reader_after as intake_reader}
 use Rattle.event_journal.specs.declared.entry.Entry.{Entry}
@@ -18,8 +18,8 @@ use Rattle.stream_meaning.specs.HandedOut.{AreHandedOut}
 use Rattle.stream_meaning.proofs.Handing.{none_handed_out}
 use Rattle.mediator_offline.specs.declared.job.OfflineJob.{OfflineJob}
 use Rattle.mediator_offline.specs.declared.job.OfflineReport.{OfflineReport}
-use Rattle.mediator_offline.specs.declared.job.OfflineFault.{OfflineFault}
-use Rattle.mediator_offline.specs.declared.job.OfflineFault.TheVariants.{Write, Mediator, Cut, AuditWrite}
+use Rattle.mediator_offline.specs.declared.job.Fault.{Fault}
+use Rattle.mediator_offline.specs.declared.job.Fault.TheVariants.{Write, Mediator, Cut, AuditWrite}
 use Rattle.mediator_offline.specs.declared.run.OfflineRun.{OfflineRun}
 use Rattle.mediator_offline.specs.Ports.{Outputs, Ports, holding, with_left, sound_ports}
 use Rattle.mediator_offline.specs.Faults.{intake_refusal}
@@ -88,7 +88,7 @@ pub runs_after : (d : OfflineRun) (i : IntakeState) (job : OfflineJob) (before a
 runs_after d i job before after so = record { job = job; messages = so.messages; before = before.outputs; running = so.running }
 
 -- one of these messages stops the run
-pub message_stops : (e : OfflineFault) (d : OfflineRun) (i k : IntakeState) (job : OfflineJob) (before mid after : Ports) (out : List (List ℕ)) → IsAfter d i job before mid
+pub message_stops : (e : Fault) (d : OfflineRun) (i k : IntakeState) (job : OfflineJob) (before mid after : Ports) (out : List (List ℕ)) → IsAfter d i job before mid
     → Yields i mid.left after.left out k → StopsAmong e d out mid.outputs after.outputs → StopsSomewhere e job before after
 message_stops e d i k job before mid after out so takes stop = record { octets = octets; taken = taken; stops = by e here }
   where
@@ -119,7 +119,7 @@ message_stops e d i k job before mid after out so takes stop = record { octets =
       stops = there.1;
     }
 
-    by : (x : OfflineFault) → StopsAtOne x job octets before.outputs after.outputs → StopsHere x job octets before after
+    by : (x : Fault) → StopsAtOne x job octets before.outputs after.outputs → StopsHere x job octets before after
     by (Mediator f) s = (inl s, few)
     by (Write sent) s = (s, few)
     by Cut s = (s, few)
@@ -206,7 +206,7 @@ intake_stops intake.OutOfMemory d i k job before mid left failed so stops fails 
 }
 
 -- only a failed read leaves a failed device
-pub intake_only : (w : IntakeFault) (e : OfflineFault) (had failed audit_had afailed rfailed : Bool) → e ≡ intake_refusal w → rfailed ≡ intake_reader w false → failed ≡ had → afailed ≡ audit_had → FailsOnly e had audit_had rfailed failed afailed
+pub intake_only : (w : IntakeFault) (e : Fault) (had failed audit_had afailed rfailed : Bool) → e ≡ intake_refusal w → rfailed ≡ intake_reader w false → failed ≡ had → afailed ≡ audit_had → FailsOnly e had audit_had rfailed failed afailed
 intake_only intake.Read e had failed audit_had afailed rfailed is fails same audit_same = rw is (record { reader = fails; writer = same; audit = audit_same })
 intake_only (intake.Framing why) e had failed audit_had afailed rfailed is fails same audit_same = rw is (record { reader = fails; writer = same; audit = audit_same })
 intake_only intake.Turns e had failed audit_had afailed rfailed is fails same audit_same = rw is (record { reader = fails; writer = same; audit = audit_same })

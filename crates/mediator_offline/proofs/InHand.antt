@@ -20,13 +20,13 @@ use Rattle.mediator_history.proofs.HistoryLaws.{disclosed-push}
 use Rattle.mediator_history.proofs.SinceLaws.{cut_is_served_no_more, unserved_get_nothing}
 use Rattle.mediator_history.specs.Auditing.{audit_list}
 use Rattle.mediator_state.specs.Calls.{StateStandsFor}
-use Rattle.mediator_state.specs.declared.fault.Fault.{Fault}
+use Rattle.mediator_state.specs.declared.fault.Fault.{Fault as MediatorFault}
 use Rattle.mediator_state.specs.declared.fault.Fault.TheVariants as fault
 use Rattle.sequences.proofs.ListLaws.{take-add-append}
 use Rattle.mediator_offline.specs.declared.run.OfflineRun.{OfflineRun}
 use Rattle.mediator_offline.specs.declared.job.OfflineJob.{OfflineJob}
-use Rattle.mediator_offline.specs.declared.job.OfflineFault.{OfflineFault}
-use Rattle.mediator_offline.specs.declared.job.OfflineFault.TheVariants.{Write, Mediator, Cut, AuditWrite}
+use Rattle.mediator_offline.specs.declared.job.Fault.{Fault}
+use Rattle.mediator_offline.specs.declared.job.Fault.TheVariants.{Write, Mediator, Cut, AuditWrite}
 use Rattle.mediator_offline.specs.Ports.{Outputs, holding}
 use Rattle.mediator_offline.specs.Lines.{lines_for, WritesBeginning, WritesOn}
 use Rattle.mediator_offline.specs.Recording.{Records, StopsLines}
@@ -242,7 +242,7 @@ nothing_in_hand d job messages octets {before} {after} r =
           (some_after before.audited after.audited after.audited (audit_due job messages) (lines_for job.audit more.0) r.writes.audit (record { count = 0; within = omega arith; written = Appends-nil after.audited }));
     }
 
-pub stops_refused : (f : Fault) (d : OfflineRun) (job : OfflineJob) (messages : List (List ℕ)) (octets : List ℕ) (before after : Outputs) → IsRunning d job messages before after
+pub stops_refused : (f : MediatorFault) (d : OfflineRun) (job : OfflineJob) (messages : List (List ℕ)) (octets : List ℕ) (before after : Outputs) → IsRunning d job messages before after
     → RefusesOctets f (history_of job messages) octets → StopsAtMessage (Mediator f) job messages (due job messages) octets before after
 stops_refused fault.OutOfMemory d job messages octets before after r refuses = nothing_in_hand d job messages octets r
 stops_refused (fault.Malformed why) d job messages octets before after r refuses = (refuses, r.writes)
@@ -251,13 +251,13 @@ stops_refused (fault.AuditFull need room) d job messages octets before after r r
 stops_refused _ d job messages octets before after r refuses = absurd refuses
 
 -- lines stop where the audit fails, or for want of memory
-by_lines : (P : OfflineFault → Type 0) (failed : Bool) → (failed ≡ true → P AuditWrite) → P (Mediator fault.OutOfMemory) → (e : OfflineFault) → StopsLines e failed → P e
+by_lines : (P : Fault → Type 0) (failed : Bool) → (failed ≡ true → P AuditWrite) → P (Mediator fault.OutOfMemory) → (e : Fault) → StopsLines e failed → P e
 by_lines P failed audit memory AuditWrite cause = audit cause
 by_lines P failed audit memory (Mediator fault.OutOfMemory) cause = memory
 by_lines P failed audit memory _ cause = absurd cause
 
 -- the message was delivered, and its lines stop
-pub stops_recording : (f : OfflineFault) (d1 d3 : OfflineRun) (job : OfflineJob) (messages : List (List ℕ)) (octets : List ℕ) (before mid after : Outputs) → IsRunning d1 job messages before mid
+pub stops_recording : (f : Fault) (d1 d3 : OfflineRun) (job : OfflineJob) (messages : List (List ℕ)) (octets : List ℕ) (before mid after : Outputs) → IsRunning d1 job messages before mid
     → Delivered d1 d3 job messages octets before.written after.written → StopsLines f after.audit_failed → WritesBeginning mid.audited after.audited (lines_for d3.job.audit (audit_waiting d3))
     → StopsAtMessage f job messages (due job messages) octets before after
 stops_recording f d1 d3 job messages octets before mid after r k cause some =
@@ -278,7 +278,7 @@ stops_recording f d1 d3 job messages octets before mid after r k cause some =
     }
 
 -- the message was accepted, and its delivery stops; the audit is as it was
-pub stops_delivering : (f : OfflineFault) (d1 d2 : OfflineRun) (job : OfflineJob) (messages : List (List ℕ)) (octets : List ℕ) (before mid : Outputs) (writes : Option (List ℕ)) (failed afailed : Bool)
+pub stops_delivering : (f : Fault) (d1 d2 : OfflineRun) (job : OfflineJob) (messages : List (List ℕ)) (octets : List ℕ) (before mid : Outputs) (writes : Option (List ℕ)) (failed afailed : Bool)
     → IsRunning d1 job messages before mid → TakesMessage d1 octets false d2 → d2.job ≡ d1.job → d2.sent ≡ d1.sent → d2.job.target < 2 ^ 16 → FailsDelivery f d2 mid.written writes failed
     → StopsAtMessage f job messages (due job messages) octets before (holding writes mid.audited failed afailed)
 stops_delivering f d1 d2 job messages octets before mid writes failed afailed r receives same sent_same low fails = by f fails.stops
@@ -327,7 +327,7 @@ stops_delivering f d1 d2 job messages octets before mid writes failed afailed r 
           audit = none.audit;
         }
 
-    by : (g : OfflineFault) → StopsDelivery g d2 mid.written writes failed fails.messages → StopsAtMessage g job messages (due job messages) octets before (holding writes mid.audited failed afailed)
+    by : (g : Fault) → StopsDelivery g d2 mid.written writes failed fails.messages → StopsAtMessage g job messages (due job messages) octets before (holding writes mid.audited failed afailed)
     by (Write sent) s = (
       receives.accepts (history_of job messages) r.stands r.small,
       (due job (messages ++ octets ∷ []), due_found job (messages ++ octets ∷ []), writes_front s.0 sent s.1 s.2),
@@ -400,7 +400,7 @@ stops_cut d1 d2 job messages octets before mid awrites failed afailed r k lines 
   },
 )
 
-pub stops_cut_recording : (f : OfflineFault) (d1 d2 : OfflineRun) (job : OfflineJob) (messages : List (List ℕ)) (octets : List ℕ) (before mid : Outputs) (awrites : Option (List ℕ)) (failed afailed : Bool)
+pub stops_cut_recording : (f : Fault) (d1 d2 : OfflineRun) (job : OfflineJob) (messages : List (List ℕ)) (octets : List ℕ) (before mid : Outputs) (awrites : Option (List ℕ)) (failed afailed : Bool)
     → IsRunning d1 job messages before mid → WasCut d1 d2 job messages octets → StopsLines f afailed → WritesBeginning mid.audited awrites (lines_for d2.job.audit (audit_waiting d2))
     → StopsAtMessage f job messages (due job messages) octets before (holding mid.written awrites failed afailed)
 stops_cut_recording f d1 d2 job messages octets before mid awrites failed afailed r k cause some =

@@ -13,7 +13,7 @@ use Rattle.mediator_history.proofs.HistoryLaws.{octets-push}
 use Rattle.mediator_tables.specs.declared.subscription.Subscription.{Subscription}
 use Rattle.mediator_tables.specs.SubscriptionTable.{at}
 use Rattle.mediator_state.specs.declared.state.State.{State}
-use Rattle.mediator_state.specs.declared.fault.Fault.{Fault}
+use Rattle.mediator_state.specs.declared.fault.Fault.{Fault as MediatorFault}
 use Rattle.mediator_state.specs.declared.fault.Fault.TheVariants as fault
 use Rattle.mediator_state.specs.Standing.{IsLiveAs}
 use Rattle.mediator_state.specs.Seen.{place_in, IsUntouched}
@@ -157,13 +157,13 @@ opened d a b c job n k i same messages records sent m ab e bc s cd o = record {
 
 -- ---- refusals
 
-pub edit_refused : (f : Fault) (a : State CountedEntries) (job : OfflineJob) → IsMade a → RefusesEdit f a.chronicle.limits [] job.policy.now → RefusesJob f job
+pub edit_refused : (f : MediatorFault) (a : State CountedEntries) (job : OfflineJob) → IsMade a → RefusesEdit f a.chronicle.limits [] job.policy.now → RefusesJob f job
 edit_refused fault.JournalFull a job m x = (x.0, inl (λ room. x.1 (subst (λ l. HasRoomAfter l [] (first_edit job)) (sym m.journal) room)))
 edit_refused (fault.Policy why) a job m x = x
 edit_refused fault.OutOfMemory a job m x = tt
 edit_refused _ a job m x = absurd x
 
-pub subscribe_refused : (f : Fault) (a b : State CountedEntries) (job : OfflineJob) (n : ℕ) → IsMade a → Keeps a b → EditsAll a job.policy.now n b → RefusesSubscribe f b.chronicle.limits (first_edit job) job.name.now → RefusesJob f job
+pub subscribe_refused : (f : MediatorFault) (a b : State CountedEntries) (job : OfflineJob) (n : ℕ) → IsMade a → Keeps a b → EditsAll a job.policy.now n b → RefusesSubscribe f b.chronicle.limits (first_edit job) job.name.now → RefusesJob f job
 subscribe_refused f a b job n m ab e = by f
   where
     policy : HasPolicy job.policy.now
@@ -175,18 +175,18 @@ subscribe_refused f a b job n m ab e = by f
     no : false ≡ true → ⊥
     no e = absurd cc
 
-    by : (g : Fault) → RefusesSubscribe g b.chronicle.limits (first_edit job) job.name.now → RefusesJob g job
+    by : (g : MediatorFault) → RefusesSubscribe g b.chronicle.limits (first_edit job) job.name.now → RefusesJob g job
     by fault.BadName x = (policy, room, x)
     by (fault.AlreadySubscribed sub) x = absurd (no x.1)
     by fault.JournalFull x = (policy, inr (x.0, λ all. x.2 (subst (λ l. HasRoomAfter l (first_edit job) (Subscribe 1 job.name.now ∷ [])) (sym (ab.journaled ∙ m.journal)) (room_named job all))))
     by fault.OutOfMemory x = tt
     by _ x = absurd x.2
 
-pub open_refused : (f : Fault) (a b c : State CountedEntries) (job : OfflineJob) (n k : ℕ) → IsMade a → Keeps a b → EditsAll a job.policy.now n b → Keeps b c → SubscribesAll b job.name.now k c
+pub open_refused : (f : MediatorFault) (a b c : State CountedEntries) (job : OfflineJob) (n k : ℕ) → IsMade a → Keeps a b → EditsAll a job.policy.now n b → Keeps b c → SubscribesAll b job.name.now k c
     → LacksRoomAfter f c.chronicle.limits (Edit job.policy.now ∷ Subscribe 1 job.name.now ∷ []) (Open 1 ∷ []) → RefusesJob f job
 open_refused f a b c job n k m ab e bc s = by f
   where
-    by : (g : Fault) → LacksRoomAfter g c.chronicle.limits (Edit job.policy.now ∷ Subscribe 1 job.name.now ∷ []) (Open 1 ∷ []) → RefusesJob g job
+    by : (g : MediatorFault) → LacksRoomAfter g c.chronicle.limits (Edit job.policy.now ∷ Subscribe 1 job.name.now ∷ []) (Open 1 ∷ []) → RefusesJob g job
     by fault.JournalFull x = (
       record { policy = (e [] m.stands).policy; spelled = (e [] m.stands).spelled },
       inr (

@@ -35,7 +35,7 @@ use Rattle.mediator_history.proofs.Counts.{few_records}
 use Rattle.mediator_history.proofs.EntryLaws.{served_is_live, messages-any}
 use Rattle.mediator_tables.specs.declared.subscription.Subscription.{Subscription}
 use Rattle.mediator_tables.specs.SubscriptionTable.{at}
-use Rattle.mediator_state.specs.declared.fault.Fault.{Fault}
+use Rattle.mediator_state.specs.declared.fault.Fault.{Fault as MediatorFault}
 use Rattle.mediator_state.specs.declared.fault.Fault.TheVariants as fault
 use Rattle.mediator_state.specs.declared.receipt.Receipt.{Receipt}
 use Rattle.mediator_state.specs.Standing.{IsLiveAs}
@@ -299,7 +299,7 @@ few_noted old new octets r had t = by (one_or_none had.history octets (served_al
 
 -- ---- refusals
 
-pub refused : (e : Fault) (old : OfflineRun) (octets : List ℕ) → HasDelivered old → ((h : List Entry) → StateStandsFor tells old.state h → RefusesReceiveAfter e old.state.chronicle.limits old.state.engine h 1 old.messages octets) → RunRefuses e old octets
+pub refused : (e : MediatorFault) (old : OfflineRun) (octets : List ℕ) → HasDelivered old → ((h : List Entry) → StateStandsFor tells old.state h → RefusesReceiveAfter e old.state.chronicle.limits old.state.engine h 1 old.messages octets) → RunRefuses e old octets
 refused e old octets had refuses = record { after = λ h so small. by e h so (refuses h so.state) }
   where
     judged : (h : List Entry) → RunStands old h (end_of h) → HasRoomAfter old.state.chronicle.limits h (with_cuts_after old.state.engine h (Message 1 old.messages octets)) → HasRoomAfter journal_limits h (cuts_by h octets ++ next_message h octets ∷ [])
@@ -308,7 +308,7 @@ refused e old octets had refuses = record { after = λ h so small. by e h so (re
     back : (h : List Entry) → RunStands old h (end_of h) → HasRoomAfter journal_limits h (cuts_by h octets ++ next_message h octets ∷ []) → HasRoomAfter old.state.chronicle.limits h (with_cuts_after old.state.engine h (Message 1 old.messages octets))
     back h so room = subst (HasRoomAfter old.state.chronicle.limits h) (sym (same_entries old h octets so)) (subst (λ l. HasRoomAfter l h (cuts_by h octets ++ next_message h octets ∷ [])) (sym so.limited.journal) room)
 
-    by : (f : Fault) (h : List Entry) → RunStands old h (end_of h) → RefusesReceiveAfter f old.state.chronicle.limits old.state.engine h 1 old.messages octets → RefusesOctets f h octets
+    by : (f : MediatorFault) (h : List Entry) → RunStands old h (end_of h) → RefusesReceiveAfter f old.state.chronicle.limits old.state.engine h 1 old.messages octets → RefusesOctets f h octets
     by (fault.Malformed why) h so x = x.1
     by fault.OutOfMemory h so x = tt
     by fault.JournalFull h so x = (x.1, λ room. x.2 (back h so room))
@@ -326,7 +326,7 @@ refused e old octets had refuses = record { after = λ h so small. by e h so (re
 
 -- ---- pulls and drains
 
-pub pull_memory : (f : Fault) (h : List Entry) → is_live 1 h ≡ true → calls.RefusesPull f h 1 → f ≡ fault.OutOfMemory
+pub pull_memory : (f : MediatorFault) (h : List Entry) → is_live 1 h ≡ true → calls.RefusesPull f h 1 → f ≡ fault.OutOfMemory
 pull_memory fault.UnknownSub h live x = absurd (no (sym x ∙ live))
   where
     no : false ≡ true → ⊥

@@ -8,7 +8,7 @@ use Rattle.subscriber_stream.proofs.CallLaws.{parts_bring}
 use Rattle.stream_meaning.specs.Means.{Means}
 use Rattle.stream_meaning.proofs.Handing.{handed_means}
 use Rattle.mediator_offline.specs.declared.job.OfflineJob.{OfflineJob}
-use Rattle.mediator_offline.specs.declared.job.OfflineFault.{OfflineFault}
+use Rattle.mediator_offline.specs.declared.job.Fault.{Fault}
 use Rattle.mediator_offline.specs.declared.run.OfflineRun.{OfflineRun}
 use Rattle.mediator_offline.specs.Ports.{Outputs}
 use Rattle.mediator_offline.specs.Offline.{history_of, disclosed_by, due, end_of}
@@ -58,7 +58,7 @@ means_of d job messages before after r =
 filters_of : (d : OfflineRun) (job : OfflineJob) (messages : List (List ℕ)) (before after : Outputs) → IsRunning d job messages before after → Filters job messages (due job messages)
 filters_of d job messages before after r = record { accepted = r.accepted; due = due_found job messages; means = means_of d job messages before after r }
 
-pub one_stops : (e : OfflineFault) (old d : OfflineRun) (all more rest : List (List ℕ)) (m : List ℕ) (before mid after : Outputs) → more ≡ m ∷ rest
+pub one_stops : (e : Fault) (old d : OfflineRun) (all more rest : List (List ℕ)) (m : List ℕ) (before mid after : Outputs) → more ≡ m ∷ rest
     → IsHandling old d all more before mid → StopsOn e d m mid after → StopsAmong e old all before after
 one_stops e old d all more rest m before mid after is so stop = record {
   done = so.done;

@@ -12,7 +12,7 @@ use Rattle.policy_text.specs.Words.{lines_of}
 use Rattle.policy_text.specs.Policies.{PolicyMeaning as Policy, Aggregate, nothing as no_policy}
 use Rattle.policy_text.specs.Parsing.{policy_of}
 use Rattle.policy_text.specs.Grammar.{AreAggregates}
-use Rattle.policy_text.specs.declared.fault.PolicyFault.{PolicyFault}
+use Rattle.policy_text.specs.declared.fault.Fault.{Fault as PolicyFault}
 use Rattle.policy_text.proofs.OneFaultLaws.{spelled_kept}
 use Rattle.policy_text.proofs.SpellLaws.{policy_of-found}
 use Rattle.disclosure_audit.specs.declared.entry.RemovedField.{RemovedField}

@@ -6,7 +6,7 @@ use Rattle.event_journal.specs.declared.entry.Entry.{Entry}
 use Rattle.event_journal.specs.Room.{HasRoomAfter}
 use Rattle.mediator_history.specs.Sessions.{messages_of}
 use Rattle.mediator_history.specs.Auditing.{audit_list}
-use Rattle.mediator_state.specs.declared.fault.Fault.{Fault}
+use Rattle.mediator_state.specs.declared.fault.Fault.{Fault as MediatorFault}
 use Rattle.mediator_state.specs.declared.fault.Fault.TheVariants as fault
 use Rattle.mediator_state.specs.Calls.{HasMeaning}
 use Rattle.mediator_offline.specs.declared.job.OfflineJob.{OfflineJob}
@@ -20,7 +20,7 @@ pub record AcceptsMessage (h : List Entry) (octets : List ℕ) : Type 0 where
 
 -- a message is refused so after a history, of which nothing waits in the audit: it is read first, then the journal's room is
 -- judged, and then the audit's
-abbrev pub RefusesOctets : Fault → List Entry → List ℕ → Type 0
+abbrev pub RefusesOctets : MediatorFault → List Entry → List ℕ → Type 0
 RefusesOctets (fault.Malformed why) h octets = meaning_of (messages_of 1 h) octets ≡ Err why
 RefusesOctets fault.JournalFull h octets = HasMeaning h 1 octets × (HasRoomAfter journal_limits h (cuts_by h octets ++ next_message h octets ∷ []) → ⊥)
 RefusesOctets (fault.AuditFull need room) h octets =

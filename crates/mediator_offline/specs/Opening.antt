@@ -3,7 +3,7 @@ use Rattle.std.specs.Prelude.{◌≡◌, ◌⊎◌, true, false, [], Err}
 use Rattle.policy_text.specs.Naming.{is_name}
 use Rattle.policy_text.specs.Parsing.{policy_of}
 use Rattle.event_journal.specs.Room.{HasRoomAfter}
-use Rattle.mediator_state.specs.declared.fault.Fault.{Fault}
+use Rattle.mediator_state.specs.declared.fault.Fault.{Fault as MediatorFault}
 use Rattle.mediator_state.specs.declared.fault.Fault.TheVariants as fault
 use Rattle.mediator_state.specs.Calls.{HasPolicy}
 use Rattle.mediator_offline.specs.declared.job.OfflineJob.{OfflineJob}
@@ -17,7 +17,7 @@ pub record IsAcceptedJob (job : OfflineJob) : Type 0 where
 
 -- the whole run is refused so: the policy is judged first, then room for it in the journal, then the name, and then room
 -- for the rest
-abbrev pub RefusesJob : Fault → OfflineJob → Type 0
+abbrev pub RefusesJob : MediatorFault → OfflineJob → Type 0
 RefusesJob (fault.Policy why) job = policy_of job.policy.now ≡ Err why
 RefusesJob fault.BadName job = HasPolicy job.policy.now × HasRoomAfter journal_limits [] (first_edit job) × (is_name job.name.now ≡ false)
 RefusesJob fault.JournalFull job =

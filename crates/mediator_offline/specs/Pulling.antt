@@ -8,8 +8,8 @@ use Rattle.octet_io.specs.Written.{WritesFront}
 use Rattle.event_journal.specs.declared.entry.Entry.{Entry}
 use Rattle.mediator_history.specs.Disclosed.{disclosed}
 use Rattle.mediator_state.specs.declared.fault.Fault.TheVariants as fault
-use Rattle.mediator_offline.specs.declared.job.OfflineFault.{OfflineFault}
-use Rattle.mediator_offline.specs.declared.job.OfflineFault.TheVariants.{Write, Mediator}
+use Rattle.mediator_offline.specs.declared.job.Fault.{Fault}
+use Rattle.mediator_offline.specs.declared.job.Fault.TheVariants.{Write, Mediator}
 use Rattle.mediator_offline.specs.declared.run.OfflineRun.{OfflineRun}
 use Rattle.mediator_offline.specs.Runs.{RunStands, Small, KeepsAudit}
 use Rattle.mediator_offline.specs.HandsOut.{HandsOutAll}
@@ -40,12 +40,12 @@ pub record Delivers (old new : OfflineRun) (held holds : Option (List ℕ)) : Ty
 
 -- a front of the messages that waited was written: whole ones where memory ran out, and up to an octet where the writer
 -- failed
-abbrev pub StopsDelivery : OfflineFault → OfflineRun → Option (List ℕ) → Option (List ℕ) → Bool → List (List ℕ) → Type 0
+abbrev pub StopsDelivery : Fault → OfflineRun → Option (List ℕ) → Option (List ℕ) → Bool → List (List ℕ) → Type 0
 StopsDelivery (Write sent) old held holds failed messages = (n : ℕ) × (sent ≡ old.sent + n) × WritesFront held holds (concat messages) n failed
 StopsDelivery (Mediator fault.OutOfMemory) old held holds failed messages = Appends held holds (concat messages)
 StopsDelivery _ old held holds failed messages = ⊥
 
-pub record FailsDelivery (e : OfflineFault) (old : OfflineRun) (held holds : Option (List ℕ)) (failed : Bool) : Type 0 where
+pub record FailsDelivery (e : Fault) (old : OfflineRun) (held holds : Option (List ℕ)) (failed : Bool) : Type 0 where
   pub messages : List (List ℕ)
   pub handed : (h : List Entry) (p : ℕ) → RunStands old h p → Small h → (q : ℕ) × HandsOutAll (disclosed 1 h) old.job.now old.job.target p messages q
   pub stops : StopsDelivery e old held holds failed messages

@@ -4,7 +4,7 @@ use Rattle.std.specs.Io.KnownBytes.{Consumes, IsAtEnd}
 use Rattle.ipfix_message.specs.Framing.{IsFramed}
 use Rattle.ipfix_reader.specs.Intake.{IntakeState}
 use Rattle.mediator_offline.specs.declared.job.OfflineJob.{OfflineJob}
-use Rattle.mediator_offline.specs.declared.job.OfflineFault.{OfflineFault}
+use Rattle.mediator_offline.specs.declared.job.Fault.{Fault}
 use Rattle.mediator_offline.specs.declared.run.OfflineRun.{OfflineRun}
 use Rattle.mediator_offline.specs.Ports.{Outputs, Ports}
 use Rattle.mediator_offline.specs.Offline.{due}
@@ -17,7 +17,7 @@ pub record HandlesAll (old new : OfflineRun) (more : List (List ℕ)) (before af
       → IsRunning new job (messages ++ more) first after
 
 -- the run stops at one of them, and filtered those before it
-pub record StopsAmong (e : OfflineFault) (old : OfflineRun) (more : List (List ℕ)) (before after : Outputs) : Type 0 where
+pub record StopsAmong (e : Fault) (old : OfflineRun) (more : List (List ℕ)) (before after : Outputs) : Type 0 where
   pub done : List (List ℕ)
   pub message : List ℕ
   pub later : List (List ℕ)

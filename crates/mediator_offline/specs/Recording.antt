@@ -1,8 +1,8 @@
 -- What recording does to a run, and where it stops.
 use Rattle.std.specs.Prelude.{◌≡◌, Bool, true, List, []}
 use Rattle.mediator_state.specs.declared.fault.Fault.TheVariants as fault
-use Rattle.mediator_offline.specs.declared.job.OfflineFault.{OfflineFault}
-use Rattle.mediator_offline.specs.declared.job.OfflineFault.TheVariants.{Mediator, AuditWrite}
+use Rattle.mediator_offline.specs.declared.job.Fault.{Fault}
+use Rattle.mediator_offline.specs.declared.job.Fault.TheVariants.{Mediator, AuditWrite}
 use Rattle.event_journal.specs.declared.entry.Entry.{Entry}
 use Rattle.mediator_state.specs.Calls.{StateStandsFor}
 use Rattle.mediator_state.specs.Seen.{place_of}
@@ -18,7 +18,7 @@ pub record Records (old new : OfflineRun) : Type 0 where
   pub quiet : audit_waiting new ≡ []
 
 -- lines stop where their writer failed, or memory ran out
-abbrev pub StopsLines : OfflineFault → Bool → Type 0
+abbrev pub StopsLines : Fault → Bool → Type 0
 StopsLines AuditWrite failed = failed ≡ true
 StopsLines (Mediator fault.OutOfMemory) failed = Unit {0}
 StopsLines _ failed = ⊥

@@ -4,7 +4,7 @@ use Rattle.std.specs.List.{concat}
 use Rattle.ipfix_octets.specs.MessageFormat.{longest_message}
 use Rattle.stream_meaning.specs.HandedOut.{AreHandedOut}
 use Rattle.mediator_offline.specs.declared.job.OfflineJob.{OfflineJob}
-use Rattle.mediator_offline.specs.declared.job.OfflineFault.{OfflineFault}
+use Rattle.mediator_offline.specs.declared.job.Fault.{Fault}
 use Rattle.mediator_offline.specs.declared.run.OfflineRun.{OfflineRun}
 use Rattle.mediator_offline.specs.Ports.{Outputs}
 use Rattle.mediator_offline.specs.Offline.{first_entries, history_of, disclosed_by, due, audit_due, end_of}
@@ -48,6 +48,6 @@ pub record HandlesOn (old new : OfflineRun) (octets : List ℕ) (before after : 
       → IsRunning new job (messages ++ octets ∷ []) first after
 
 -- the run stops at this message, whatever was before it
-pub record StopsOn (e : OfflineFault) (old : OfflineRun) (octets : List ℕ) (before after : Outputs) : Type 0 where
+pub record StopsOn (e : Fault) (old : OfflineRun) (octets : List ℕ) (before after : Outputs) : Type 0 where
   pub stops : (job : OfflineJob) (messages : List (List ℕ)) (first : Outputs) → IsRunning old job messages first before
       → StopsAtMessage e job messages (due job messages) octets first after

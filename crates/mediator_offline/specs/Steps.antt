@@ -2,7 +2,7 @@
 use Rattle.std.specs.Prelude.{◌≡◌, ℕ, Bool, true, false, List, [], ◌∷◌}
 use Rattle.event_journal.specs.declared.entry.Entry.{Entry}
 use Rattle.event_journal.specs.declared.entry.Entry.TheVariants.{Cut}
-use Rattle.mediator_state.specs.declared.fault.Fault.{Fault}
+use Rattle.mediator_state.specs.declared.fault.Fault.{Fault as MediatorFault}
 use Rattle.mediator_state.specs.Calls.{StateStandsFor}
 use Rattle.mediator_offline.specs.declared.run.OfflineRun.{OfflineRun}
 use Rattle.mediator_offline.specs.Offline.{cuts_by, after_message}
@@ -26,5 +26,5 @@ pub record TakesMessage (old : OfflineRun) (octets : List ℕ) (is_cut : Bool) (
   pub drained : audit_drained new ≡ audit_drained old
   pub goes_on : (h : List Entry) → RunStands old h (end_of h) → Small h → is_cut ≡ false → (cuts_by h octets ≡ []) × RunStands new (after_message h octets) (end_of h) × Small (after_message h octets)
 
-pub record RunRefuses (e : Fault) (old : OfflineRun) (octets : List ℕ) : Type 0 where
+pub record RunRefuses (e : MediatorFault) (old : OfflineRun) (octets : List ℕ) : Type 0 where
   pub after : (h : List Entry) → RunStands old h (end_of h) → Small h → RefusesOctets e h octets

@@ -1,15 +1,15 @@
 //! Writes what waits for the subscriber.
 ghost use Rattle.std.specs.Prelude.{◌≡◌, ◌≤◌, ◌<◌, ◌+◌, ◌^◌, ◌++◌, [], Some, length, IfOk, IfErr, OnOk};
 ghost use Rattle.mediator_state.specs.declared.fault.Fault.TheVariants.{OutOfMemory};
-ghost use Rattle.mediator_offline.specs.declared.job.OfflineFault.TheVariants.{Mediator};
+ghost use Rattle.mediator_offline.specs.declared.job.Fault.TheVariants.{Mediator};
 ghost use Rattle.mediator_offline.specs.Failing.{writer_after};
 ghost use Rattle.mediator_offline.specs.Runs.{IsServing, SameButState, KeepsAudit};
 ghost use Rattle.mediator_offline.specs.Pulling.{IsDeliveringRun, PullsMessage, Delivers, FailsDelivery};
 
-use crate::job::OfflineFault;
+use crate::job::Fault;
 use crate::run::{OfflineRun, SUBSCRIPTION};
 use bytes::Bytes;
-use mediator_state::Fault;
+use mediator_state::Fault as MediatorFault;
 use octet_io::{Sink, write_all};
 use std::alloc::AllocError;
 
@@ -19,7 +19,7 @@ impl<'a> OfflineRun<'a> {
     /// # Errors
     /// The writer failed, and the fault says how many octets of the whole run were written; or memory ran out, and then nothing
     /// was written.
-    pub(crate) fn deliver<W: Sink>(&mut self, writer: &mut W) -> Result<(), OfflineFault>
+    pub(crate) fn deliver<W: Sink>(&mut self, writer: &mut W) -> Result<(), Fault>
         requires delivering { IsDeliveringRun self.old }
         // What waited was written.
         ensures ok { OnOk result (Delivers self.old self.new
@@ -38,7 +38,7 @@ impl<'a> OfflineRun<'a> {
         let text = self.pull_all()?;
         match write_all(writer, &text) {
             Ok(()) => Ok(()),
-            Err(stopped) => Err(OfflineFault::Write {
+            Err(stopped) => Err(Fault::Write {
                 sent: before + stopped.sent as u64,
             }),
         }
@@ -48,7 +48,7 @@ impl<'a> OfflineRun<'a> {
     ///
     /// # Errors
     /// Want of memory.
-    fn pull_all(&mut self) -> Result<Vec<u8>, OfflineFault>
+    fn pull_all(&mut self) -> Result<Vec<u8>, Fault>
         requires delivering { IsDeliveringRun self.old }
         // The text is what is due for what waited.
         ensures ok { IfOk result (λ text. Delivers self.old self.new (Some []) (Some text.items)) }
@@ -70,7 +70,7 @@ impl<'a> OfflineRun<'a> {
     ///
     /// # Errors
     /// Want of memory.
-    fn pull(&mut self) -> Result<Option<Bytes>, OfflineFault>
+    fn pull(&mut self) -> Result<Option<Bytes>, Fault>
         requires serving { IsServing self.old }
         // The mediator's state alone changes, and its audit doesn't.
         ensures same { SameButState self.old self.new }
@@ -93,7 +93,7 @@ impl<'a> OfflineRun<'a> {
     ///
     /// # Errors
     /// Want of memory.
-    fn gather(&mut self, message: &[u8], text: &mut Vec<u8>) -> Result<(), OfflineFault>
+    fn gather(&mut self, message: &[u8], text: &mut Vec<u8>) -> Result<(), Fault>
         requires fits { self.old.sent + length message.now < 2 ^ 64 }
         // The count of octets alone changes.
         ensures same { SameButState self.old self.new }
@@ -104,7 +104,7 @@ impl<'a> OfflineRun<'a> {
         ensures err { IfErr result (λ e. e ≡ Mediator OutOfMemory) }
     {
         if append(text, message).is_err() {
-            return Err(OfflineFault::Mediator(Fault::OutOfMemory));
+            return Err(Fault::Mediator(MediatorFault::OutOfMemory));
         }
         self.sent += message.len() as u64;
         Ok(())

@@ -5,11 +5,11 @@ ghost use Rattle.mediator_offline.specs.Failing.{FailsOnly};
 ghost use Rattle.mediator_offline.specs.Running.{RunsSomewhere};
 ghost use Rattle.mediator_offline.specs.Reaching.{HandlesAll, StopsAmong};
 
-use crate::job::{OfflineFault, OfflineJob, OfflineReport};
+use crate::job::{Fault, OfflineJob, OfflineReport};
 use crate::run::{OfflineRun, SUBSCRIPTION};
 use bytes::Bytes;
 use ipfix_reader::Intake;
-use mediator_state::Fault;
+use mediator_state::Fault as MediatorFault;
 use octet_io::{Sink, Source};
 use std::alloc::Global;
 
@@ -23,7 +23,7 @@ impl<'a> OfflineRun<'a> {
         messages: Vec<Bytes>,
         writer: &mut W,
         audit_writer: &mut A,
-    ) -> Result<(), OfflineFault>
+    ) -> Result<(), Fault>
         requires running { RunsSomewhere self.old
             (holding (W.contents writer.old) (A.contents audit_writer.old)
             (W.has_failed writer.old) (A.has_failed audit_writer.old)) }
@@ -71,7 +71,7 @@ impl<'a> OfflineRun<'a> {
         reader: &mut R,
         writer: &mut W,
         audit_writer: &mut A,
-    ) -> Result<(), OfflineFault>
+    ) -> Result<(), Fault>
         requires opened { IsRunOpened self.old self.old.job }
         requires intake { intake.old ≡ nothing_read self.old.job.turns }
         requires reader { R.has_failed reader.old ≡ false }
@@ -186,7 +186,7 @@ pub fn offline<R: Source, W: Sink, A: Sink>(
     reader: &mut R,
     writer: &mut W,
     audit_writer: &mut A,
-) -> Result<OfflineReport, OfflineFault>
+) -> Result<OfflineReport, Fault>
     requires reader { R.has_failed reader.old ≡ false }
     requires writer { W.has_failed writer.old ≡ false }
     requires audit { A.has_failed audit_writer.old ≡ false }
@@ -224,7 +224,7 @@ pub fn offline<R: Source, W: Sink, A: Sink>(
 {
     let mut run = OfflineRun::open(alloc, *job)?;
     let Ok(mut intake) = Intake::new(alloc, job.turns) else {
-        return Err(OfflineFault::Mediator(Fault::OutOfMemory));
+        return Err(Fault::Mediator(MediatorFault::OutOfMemory));
     };
     run.read_stream(&mut intake, reader, writer, audit_writer)?;
     Ok(run.report())

@@ -4,7 +4,7 @@ ghost use Rattle.mediator_offline.specs.Ports.{holding};
 ghost use Rattle.mediator_offline.specs.Failing.{FailsOnly};
 ghost use Rattle.mediator_offline.specs.Running.{RunsSomewhere, HandlesOn, StopsOn};
 
-use crate::job::OfflineFault;
+use crate::job::Fault;
 use crate::run::OfflineRun;
 use bytes::Bytes;
 use octet_io::Sink;
@@ -19,7 +19,7 @@ impl<'a> OfflineRun<'a> {
         message: Bytes,
         writer: &mut W,
         audit_writer: &mut A,
-    ) -> Result<(), OfflineFault>
+    ) -> Result<(), Fault>
         requires running { RunsSomewhere self.old
             (holding (W.contents writer.old) (A.contents audit_writer.old)
             (W.has_failed writer.old) (A.has_failed audit_writer.old)) }
@@ -45,7 +45,7 @@ impl<'a> OfflineRun<'a> {
     {
         if self.receive(message)? {
             self.record(audit_writer)?;
-            return Err(OfflineFault::Cut);
+            return Err(Fault::Cut);
         }
         self.deliver(writer)?;
         self.record(audit_writer)?;

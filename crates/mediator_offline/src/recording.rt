@@ -5,10 +5,10 @@ ghost use Rattle.mediator_offline.specs.Failing.{audit_after};
 ghost use Rattle.mediator_offline.specs.Lines.{lines_of, WritesBeginning};
 ghost use Rattle.mediator_offline.specs.Recording.{StopsLines};
 
-use crate::job::OfflineFault;
+use crate::job::Fault;
 use crate::run::OfflineRun;
 use disclosure_audit::{AuditEntry, put_line};
-use mediator_state::Fault;
+use mediator_state::Fault as MediatorFault;
 use octet_io::{Sink, write_all};
 use std::alloc::{AllocError, Global};
 
@@ -20,7 +20,7 @@ pub(crate) fn write_lines<A: Sink>(
     alloc: Global,
     entries: &[AuditEntry],
     writer: &mut A,
-) -> Result<(), OfflineFault>
+) -> Result<(), Fault>
     // All lines were written.
     ensures ok { OnOk result (Appends (A.contents writer.old) (A.contents writer.new)
         (lines_of entries.now)) }
@@ -33,11 +33,11 @@ pub(crate) fn write_lines<A: Sink>(
         (lines_of entries.now)) }
 {
     let Ok(text) = lines(alloc, entries) else {
-        return Err(OfflineFault::Mediator(Fault::OutOfMemory));
+        return Err(Fault::Mediator(MediatorFault::OutOfMemory));
     };
     match write_all(writer, text.as_bytes()) {
         Ok(()) => Ok(()),
-        Err(_) => Err(OfflineFault::AuditWrite),
+        Err(_) => Err(Fault::AuditWrite),
     }
 }
 
@@ -65,7 +65,7 @@ impl<'a> OfflineRun<'a> {
     ///
     /// # Errors
     /// The writer failed, or memory ran out: a front of the lines was written.
-    pub(crate) fn record<A: Sink>(&mut self, writer: &mut A) -> Result<(), OfflineFault>
+    pub(crate) fn record<A: Sink>(&mut self, writer: &mut A) -> Result<(), Fault>
         requires known { RunHasHistory self.old }
         requires few { length (audit_waiting self.old) < 2 ^ 32 }
         // The lines were written, where they are asked for, and the audit is empty.
@@ -81,7 +81,7 @@ impl<'a> OfflineRun<'a> {
             (lines_for self.old.job.audit (audit_waiting self.old))) }
     {
         let Ok(entries) = self.state.drain_audit(u32::MAX) else {
-            return Err(OfflineFault::Mediator(Fault::OutOfMemory));
+            return Err(Fault::Mediator(MediatorFault::OutOfMemory));
         };
         if !self.job.audit {
             return Ok(());

@@ -5,7 +5,7 @@ ghost use Rattle.event_journal.specs.Room.{Limits as Journaled};
 use crate::job::OfflineJob;
 use bytes::Bytes;
 use event_journal::{JournalSizes, MOST_ENTRIES, MOST_OCTETS};
-use mediator_state::{DEFAULT_AUDIT, DEFAULT_QUEUE, Fault, State};
+use mediator_state::{DEFAULT_AUDIT, DEFAULT_QUEUE, Fault as MediatorFault, State};
 use mediator_tables::{SessionId, SubId};
 use std::alloc::Global;
 use subscriber_stream::{MOST_SHAPES, StreamLimits};
@@ -48,7 +48,7 @@ impl<'a> OfflineRun<'a> {
     ///
     /// # Errors
     /// The policy or the name is refused; or the journal has no room, or memory ran out.
-    pub(crate) fn open(alloc: Global, job: OfflineJob<'a>) -> Result<OfflineRun<'a>, Fault>
+    pub(crate) fn open(alloc: Global, job: OfflineJob<'a>) -> Result<OfflineRun<'a>, MediatorFault>
         ensures ok { IfOk result (λ d. IsRunOpened d job.entry) }
         ensures err { IfErr result (λ e. RefusesJob e job.entry) }
     {
@@ -76,7 +76,7 @@ impl<'a> OfflineRun<'a> {
     ///
     /// # Errors
     /// The message is malformed; or the journal is full, or the audit, or memory.
-    pub(crate) fn receive(&mut self, message: Bytes) -> Result<bool, Fault>
+    pub(crate) fn receive(&mut self, message: Bytes) -> Result<bool, MediatorFault>
         requires delivered { HasDelivered self.old }
         // The job, and what was written, stay as they are.
         ensures job { self.new.job ≡ self.old.job }

@@ -11,8 +11,8 @@ use crate::socket_options::{look_while_reading, prepare_to_write, reset};
 use crate::stream_calls::{PatientWriter, say_farewell};
 use crate::time::{has_passed, now};
 use log::Log;
-use mediator_connections::{Collector, ServeFault, deliver};
-use mediator_state::Fault;
+use mediator_connections::{Collector, Fault as ServeFault, deliver};
+use mediator_state::Fault as MediatorFault;
 use shared_mediator::{AdminHandle, DeliveryHandle, EntryLedger, Handed, RecordLedger};
 use std::alloc::Global;
 use std::io::{self, ErrorKind};
@@ -247,7 +247,7 @@ fn begin<E: EntryLedger, H: RecordLedger, R: Wait>(
     service: &Service<'_, E, H>,
     collector: &Collector,
     handles: &mut CollectorHandles<E, H>,
-) -> Result<(), Fault> {
+) -> Result<(), MediatorFault> {
     handles.deliveries.reserve(1)?;
     let name = collector.subscriber.as_str();
     let sub = handles.admin.subscribe(rt, service.shared, name)?;

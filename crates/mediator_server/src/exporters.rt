@@ -13,7 +13,7 @@ use ipfix_reader::FramingFault;
 use ipfix_session::Gap;
 use log::Log;
 use mediator_calls::SessionId;
-use mediator_connections::{Patience, Reception, ServeFault, Served, serve_exporter};
+use mediator_connections::{Fault as ServeFault, Patience, Reception, Served, serve_exporter};
 use mediator_state::Receipt;
 use octet_io::{Failed, Source};
 use shared_mediator::{EntryLedger, ExporterHandle, RecordLedger};

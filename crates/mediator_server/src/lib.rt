@@ -35,9 +35,9 @@ mod socket_options;
 mod stream_calls;
 mod time;
 
-pub use listening::{Ended, ListenFault, listen};
+pub use listening::{Ended, Fault, listen};
 pub use mediator_connections::{
-    Clock, Collector, Control, Patience, Reception, ServeFault, Served, deliver, serve_admin,
-    serve_exporter,
+    Clock, Collector, Control, Fault as ServeFault, Patience, Reception, Served, deliver,
+    serve_admin, serve_exporter,
 };
 pub use plan::RunPlan;

@@ -5,8 +5,8 @@ use crate::run_state::Dismissal;
 use ipfix_session::Gap;
 use log::{Log, error, info, warn};
 use mediator_calls::{Limits, SessionId};
-use mediator_connections::{Collector, ServeFault, Served};
-use mediator_state::{Fault, Receipt};
+use mediator_connections::{Collector, Fault as ServeFault, Served};
+use mediator_state::{Fault as MediatorFault, Receipt};
 use shared_mediator::{Closed, Fill, Handed};
 use std::fmt::{self, Display, Formatter, Write};
 use std::io;
@@ -91,7 +91,7 @@ pub(crate) fn exporter_gap(rt: &impl Log, peer: SocketAddr, gap: Gap, position: 
 }
 
 /// No session could be opened for an exporter.
-pub(crate) fn exporter_refused(rt: &impl Log, peer: SocketAddr, why: Fault) {
+pub(crate) fn exporter_refused(rt: &impl Log, peer: SocketAddr, why: MediatorFault) {
     warn!(rt; "exporter {peer} refused: {why}");
 }
 
@@ -214,7 +214,7 @@ pub(crate) fn collector_again(rt: &impl Log, collector: &Collector, dropped: u64
 }
 
 /// A collector can't be subscribed anew, and is tried again.
-pub(crate) fn cannot_subscribe(rt: &impl Log, collector: &Collector, why: Fault) {
+pub(crate) fn cannot_subscribe(rt: &impl Log, collector: &Collector, why: MediatorFault) {
     let (name, address) = (collector.subscriber.as_str(), collector.address.as_str());
     warn!(rt; "collector {name} {address} not subscribed: {why}");
 }

@@ -8,7 +8,7 @@ use Rattle.policy_text.specs.Policies.{PolicyMeaning}
 use Rattle.policy_text.specs.Parsing.{policy_of}
 use Rattle.policy_text.specs.Grammar.{IsPolicy}
 use Rattle.policy_text.specs.Printing.{policy_text}
-use Rattle.policy_text.specs.declared.fault.PolicyFault.{PolicyFault}
+use Rattle.policy_text.specs.declared.fault.Fault.{Fault as PolicyFault}
 use Rattle.policy_text.proofs.RoundLaws.{reads_back}
 use Rattle.mediator_tables.specs.declared.served.Served.{Served}
 use Rattle.mediator_tables.specs.SubscriptionTable.{told}

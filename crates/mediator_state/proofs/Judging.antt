@@ -24,7 +24,7 @@ use Rattle.ipfix_session.specs.Keeping.{at_key}
 use Rattle.ipfix_session.specs.Meaning.{Meaning, meaning_of, contents_of, read_items, items_of_domain, domain_of, gap_of}
 use Rattle.ipfix_session.specs.ReadAhead.{Ahead, IsReadingOf}
 use Rattle.ipfix_session.specs.Standing.{StandsFor}
-use Rattle.ipfix_session.specs.declared.read_error.ReadError.{ReadError}
+use Rattle.ipfix_session.specs.declared.fault.Fault.{Fault as ReadError}
 use Rattle.flow_aggregate.specs.Counts.{Count, count_of}
 use Rattle.subscriber_stream.specs.declared.limits.StreamLimits.{StreamLimits}
 use Rattle.subscriber_stream.specs.Shapes.{shapes_after}

@@ -1,8 +1,8 @@
 -- How a mediator names what its parts refuse.
 use Rattle.std.specs.Prelude.{if◌then◌else◌}
-use Rattle.ipfix_session.specs.declared.read_error.ReadError.{ReadError}
-use Rattle.ipfix_session.specs.declared.read_error.ReadError.TheVariants as read
-use Rattle.policy_text.specs.declared.fault.PolicyFault.{PolicyFault}
+use Rattle.ipfix_session.specs.declared.fault.Fault.{Fault as ReadError}
+use Rattle.ipfix_session.specs.declared.fault.Fault.TheVariants as read
+use Rattle.policy_text.specs.declared.fault.Fault.{Fault as PolicyFault}
 use Rattle.policy_text.specs.Results.{is_memory}
 use Rattle.mediator_state.specs.declared.fault.Fault.{Fault}
 use Rattle.mediator_state.specs.declared.fault.Fault.TheVariants.{Malformed, Policy, OutOfMemory}

@@ -1,7 +1,7 @@
 //! Why a mediator refuses a call.
 
-use ipfix_session::ReadError;
-use policy_text::PolicyFault;
+use ipfix_session::Fault as ReadError;
+use policy_text::Fault as PolicyFault;
 use std::alloc::AllocError;
 use std::error::Error;
 use std::fmt::{self, Display, Formatter, Write};

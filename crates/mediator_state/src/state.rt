@@ -19,7 +19,7 @@ use hash_keys::HashKeys;
 use ipfix_session::Reading;
 use mediator_shares::Judgement;
 use mediator_tables::{SessionId, Share, SubId};
-use policy_text::{FaultKind, Name, Policy, PolicyFault, is_name};
+use policy_text::{Fault as PolicyFault, FaultKind, Name, Policy, is_name};
 use prepared_message::{JudgedAhead, Prepared, Snapshot};
 use std::alloc::{AllocError, Global};
 use std::slice::from_ref;

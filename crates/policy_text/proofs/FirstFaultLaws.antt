@@ -8,7 +8,7 @@ use Rattle.sequences.proofs.ResultLaws.{Err-Ok, same_Err, bind_Ok}
 use Rattle.sequences.specs.Results.{◌>>=◌}
 use Rattle.policy_text.specs.declared.fault.FaultKind.{FaultKind}
 use Rattle.policy_text.specs.declared.fault.FaultKind.TheVariants.{NoHeader, UnknownWord, TooMany}
-use Rattle.policy_text.specs.declared.fault.PolicyFault.{PolicyFault}
+use Rattle.policy_text.specs.declared.fault.Fault.{Fault}
 use Rattle.policy_text.specs.declared.rule.Rule.{Rule}
 use Rattle.policy_text.specs.declared.version.Version.{Version}
 use Rattle.policy_text.specs.declared.version.Version.TheVariants.{One, Two}
@@ -335,7 +335,7 @@ adds_kept p q words valid h =
     h
 
 -- a fault of one of these lines, which stand after those that spell what S says
-record FaultIn (S : List (List ℕ) → Option PolicyMeaning → Type 0) (n : ℕ) (lines : List (List ℕ)) (fault : PolicyFault) : Type 0 where
+record FaultIn (S : List (List ℕ) → Option PolicyMeaning → Type 0) (n : ℕ) (lines : List (List ℕ)) (fault : Fault) : Type 0 where
   before : List (List ℕ)
   line : List ℕ
   others : List (List ℕ)
@@ -346,7 +346,7 @@ record FaultIn (S : List (List ℕ) → Option PolicyMeaning → Type 0) (n : �
   counts : is_skipped (words_of line) ≡ false
   fault_is : IsLineFault so_far (words_of line) fault.kind
 
-later_line : (S T : List (List ℕ) → Option PolicyMeaning → Type 0) (n : ℕ) (line : List ℕ) (lines : List (List ℕ)) (fault : PolicyFault) → ((before : List (List ℕ)) (so_far : Option PolicyMeaning) → S before so_far → T (line ∷ before) so_far) → FaultIn S (n + 1) lines fault → FaultIn T n (line ∷ lines) fault
+later_line : (S T : List (List ℕ) → Option PolicyMeaning → Type 0) (n : ℕ) (line : List ℕ) (lines : List (List ℕ)) (fault : Fault) → ((before : List (List ℕ)) (so_far : Option PolicyMeaning) → S before so_far → T (line ∷ before) so_far) → FaultIn S (n + 1) lines fault → FaultIn T n (line ∷ lines) fault
 later_line S T n line lines fault onto f =
     let number = f.number_is in
     record {
@@ -361,9 +361,9 @@ later_line S T n line lines fault onto f =
       fault_is = f.fault_is;
     }
 
-this_line : (S : List (List ℕ) → Option PolicyMeaning → Type 0) (n : ℕ) (line : List ℕ) (lines : List (List ℕ)) (fault : PolicyFault) (kind : FaultKind) (so_far : Option PolicyMeaning) → record { line = n; kind = kind } ≡ fault → S [] so_far → is_skipped (words_of line) ≡ false → IsLineFault so_far (words_of line) kind → FaultIn S n (line ∷ lines) fault
+this_line : (S : List (List ℕ) → Option PolicyMeaning → Type 0) (n : ℕ) (line : List ℕ) (lines : List (List ℕ)) (fault : Fault) (kind : FaultKind) (so_far : Option PolicyMeaning) → record { line = n; kind = kind } ≡ fault → S [] so_far → is_skipped (words_of line) ≡ false → IsLineFault so_far (words_of line) kind → FaultIn S n (line ∷ lines) fault
 this_line S n line lines fault kind so_far same spelled counts f =
-    let P : PolicyFault → Type 0 = λ x. FaultIn S n (line ∷ lines) x in
+    let P : Fault → Type 0 = λ x. FaultIn S n (line ∷ lines) x in
     subst P same (record {
       before = [];
       line = line;
@@ -399,7 +399,7 @@ line_failed p line kind e =
     (bound_err (line_of p (words_of line)) (λ q. Ok (Some q)) kind (rw kept at e)))
     (cases_Bool (is_skipped (words_of line)))
 
-lines_by : (p : PolicyMeaning) (n : ℕ) (line : List ℕ) (lines : List (List ℕ)) (fault : PolicyFault) → IsPolicy p → ((q : PolicyMeaning) → IsPolicy q → read_lines (Some q) (n + 1) lines ≡ Err fault → FaultIn (LeadTo q) (n + 1) lines fault) → (r : Result (Option PolicyMeaning) FaultKind) → line_step (Some p) line ≡ r → then_read (at_line n r) (λ x. read_lines x (n + 1) lines) ≡ Err fault → FaultIn (LeadTo p) n (line ∷ lines) fault
+lines_by : (p : PolicyMeaning) (n : ℕ) (line : List ℕ) (lines : List (List ℕ)) (fault : Fault) → IsPolicy p → ((q : PolicyMeaning) → IsPolicy q → read_lines (Some q) (n + 1) lines ≡ Err fault → FaultIn (LeadTo q) (n + 1) lines fault) → (r : Result (Option PolicyMeaning) FaultKind) → line_step (Some p) line ≡ r → then_read (at_line n r) (λ x. read_lines x (n + 1) lines) ≡ Err fault → FaultIn (LeadTo p) n (line ∷ lines) fault
 lines_by p n line lines fault valid later (Ok x) stepped e =
     let read = line_step-found p line x stepped in
     later_line (LeadTo read.mid) (LeadTo p) n line lines fault (lead_on p read.mid line read.line_is)
@@ -409,13 +409,13 @@ lines_by p n line lines fault valid later (Err kind) stepped e =
     this_line (LeadTo p) n line lines fault kind (Some p) (same_Err (record { line = n; kind = kind }) fault e) refl failed.counts
     (line_fault p (words_of line) kind valid failed.counts failed.failed)
 
-lines_fault : (p : PolicyMeaning) (n : ℕ) (lines : List (List ℕ)) (fault : PolicyFault) → IsPolicy p → read_lines (Some p) n lines ≡ Err fault → FaultIn (LeadTo p) n lines fault
+lines_fault : (p : PolicyMeaning) (n : ℕ) (lines : List (List ℕ)) (fault : Fault) → IsPolicy p → read_lines (Some p) n lines ≡ Err fault → FaultIn (LeadTo p) n lines fault
 lines_fault p n [] fault valid e = absurd (Err-Ok fault p (sym e ∙ read_lines-done p n))
 lines_fault p n (line ∷ lines) fault valid e =
     lines_by p n line lines fault valid (λ q kept f. lines_fault q (n + 1) lines fault kept f) (line_step (Some p) line) refl (sym (read_lines-cons (Some p) n line lines) ∙ e)
 
 -- the same before the header
-abbrev NoLines : List (List ℕ) → PolicyFault → Type 0
+abbrev NoLines : List (List ℕ) → Fault → Type 0
 NoLines lines fault = SpellSoFar lines None × (fault ≡ record { line = 1; kind = NoHeader })
 
 skip_on : (line : List ℕ) → is_skipped (words_of line) ≡ true → (before : List (List ℕ)) (so_far : Option PolicyMeaning) → SpellSoFar before so_far → SpellSoFar (line ∷ before) so_far
@@ -447,7 +447,7 @@ header_failed line kind e =
     record { counts = kept; failed = h.0; kind_is = h.1 })
     (cases_Bool (is_skipped (words_of line)))
 
-all_by : (n : ℕ) (line : List ℕ) (lines : List (List ℕ)) (fault : PolicyFault) → (read_lines None (n + 1) lines ≡ Err fault → FaultIn SpellSoFar (n + 1) lines fault ⊎ NoLines lines fault) → (r : Result (Option PolicyMeaning) FaultKind) → line_step None line ≡ r → then_read (at_line n r) (λ x. read_lines x (n + 1) lines) ≡ Err fault → FaultIn SpellSoFar n (line ∷ lines) fault ⊎ NoLines (line ∷ lines) fault
+all_by : (n : ℕ) (line : List ℕ) (lines : List (List ℕ)) (fault : Fault) → (read_lines None (n + 1) lines ≡ Err fault → FaultIn SpellSoFar (n + 1) lines fault ⊎ NoLines lines fault) → (r : Result (Option PolicyMeaning) FaultKind) → line_step None line ≡ r → then_read (at_line n r) (λ x. read_lines x (n + 1) lines) ≡ Err fault → FaultIn SpellSoFar n (line ∷ lines) fault ⊎ NoLines (line ∷ lines) fault
 all_by n line lines fault later (Ok x) stepped e =
     let read = header-found line x stepped in
     ⊎_elim (λ (skip : (is_skipped (words_of line) ≡ true) × (None ≡ x)).
@@ -465,13 +465,13 @@ all_by n line lines fault later (Err kind) stepped e =
     inl (this_line SpellSoFar n line lines fault kind None (same_Err (record { line = n; kind = kind }) fault e) tt failed.counts
     (subst P failed.kind_is (header_fault (words_of line) failed.counts failed.failed)))
 
-all_fault : (n : ℕ) (lines : List (List ℕ)) (fault : PolicyFault) → read_lines None n lines ≡ Err fault → FaultIn SpellSoFar n lines fault ⊎ NoLines lines fault
+all_fault : (n : ℕ) (lines : List (List ℕ)) (fault : Fault) → read_lines None n lines ≡ Err fault → FaultIn SpellSoFar n lines fault ⊎ NoLines lines fault
 all_fault n [] fault e = inr (tt, same_Err fault (record { line = 1; kind = NoHeader }) (sym e ∙ read_lines-empty n))
 all_fault n (line ∷ lines) fault e =
     all_by n line lines fault (λ f. all_fault (n + 1) lines fault f) (line_step None line) refl (sym (read_lines-cons None n line lines) ∙ e)
 
 -- a text's fault is its first fault
-pub fault_found : (text : List ℕ) (fault : PolicyFault) → policy_of text ≡ Err fault → IsFirstFault text fault
+pub fault_found : (text : List ℕ) (fault : Fault) → policy_of text ≡ Err fault → IsFirstFault text fault
 unfolding policy_of
 fault_found text fault e =
     ⊎_elim (λ (f : FaultIn SpellSoFar 1 (lines_of text) fault).

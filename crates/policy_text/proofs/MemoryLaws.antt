@@ -12,7 +12,7 @@ use Rattle.policy_text.specs.Spelling.{AreLines, AreAllLines}
 use Rattle.policy_text.specs.Results.{is_memory}
 use Rattle.policy_text.specs.Memory.{line_takes, step_takes, TakesMemory}
 use Rattle.policy_text.specs.declared.fault.FaultKind.{FaultKind}
-use Rattle.policy_text.specs.declared.fault.PolicyFault.{PolicyFault}
+use Rattle.policy_text.specs.declared.fault.Fault.{Fault}
 use Rattle.policy_text.proofs.RoundLaws.{header_step}
 use Rattle.policy_text.proofs.SpellLaws.{line_step-found, line_step-only, header-found, skip-only}
 
@@ -161,5 +161,5 @@ pub takes-whole : (so_far : Option PolicyMeaning) (text : List ℕ) → cut_at 1
 takes-whole so_far text e h = subst (SomeTakes so_far) (sym (slice_split-whole 10 text e)) (inl h)
 
 -- what reading says of a fault that is want of memory
-abbrev pub TakesIfMemory : List ℕ → PolicyFault → Type 0
+abbrev pub TakesIfMemory : List ℕ → Fault → Type 0
 TakesIfMemory text fault = is_memory fault.kind ≡ true → TakesMemory text

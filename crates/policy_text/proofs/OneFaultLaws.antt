@@ -8,7 +8,7 @@ use Rattle.sequences.proofs.ResultLaws.{same_Err, Err-Ok}
 use Rattle.sequences.specs.Results.{◌>>=◌}
 use Rattle.policy_text.specs.declared.fault.FaultKind.{FaultKind}
 use Rattle.policy_text.specs.declared.fault.FaultKind.TheVariants.{NoHeader, BadName, BadKey}
-use Rattle.policy_text.specs.declared.fault.PolicyFault.{PolicyFault}
+use Rattle.policy_text.specs.declared.fault.Fault.{Fault}
 use Rattle.policy_text.specs.declared.version.Version.{Version}
 use Rattle.policy_text.specs.Words.{Word, words_of, lines_of, is_skipped}
 use Rattle.policy_text.specs.Policies.{PolicyMeaning, without_lines}
@@ -248,22 +248,22 @@ fault_by (Some q) before others line n kind number spelled counts f =
     let e = step_refused q line kind counts (line_refused q (words_of line) kind (spelled_kept q before spelled) counts f (line_of q (words_of line)) refl) in
     spelled_read q 1 before (line ∷ others) spelled ∙ fault_line (Some q) (1 + length before) n line others kind e number
 
-fault_only : (text : List ℕ) (fault : PolicyFault) → IsFirstFault text fault → policy_of text ≡ Err fault
+fault_only : (text : List ℕ) (fault : Fault) → IsFirstFault text fault → policy_of text ≡ Err fault
 unfolding policy_of
 fault_only text fault h =
     ⊎_elim (λ (f : IsFaultAt (lines_of text) fault.line fault.kind).
     let number = f.number_is in
     ap (read_lines None 1) f.lines_are ∙ fault_by f.so_far f.before f.others f.line fault.line fault.kind (omega (arith, number)) f.spelled f.counts f.fault)
     (λ (none : SpellSoFar (lines_of text) None × (fault ≡ record { line = 1; kind = NoHeader })).
-    ap (read_lines None 1) (sym (append-nil (lines_of text))) ∙ skipped_read 1 (lines_of text) [] none.0 ∙ read_lines-empty (1 + length (lines_of text)) ∙ ap (λ (x : PolicyFault). Err x) (sym none.1))
+    ap (read_lines None 1) (sym (append-nil (lines_of text))) ∙ skipped_read 1 (lines_of text) [] none.0 ∙ read_lines-empty (1 + length (lines_of text)) ∙ ap (λ (x : Fault). Err x) (sym none.1))
     h
 
 -- the fault that a call answers
-reported : (text : List ℕ) (fault : PolicyFault) (b : Bool) → MatchBool b (fault.line ≡ 0) (policy_of text ≡ Err fault) → b ≡ false → IsFirstFault text fault
+reported : (text : List ℕ) (fault : Fault) (b : Bool) → MatchBool b (fault.line ≡ 0) (policy_of text ≡ Err fault) → b ≡ false → IsFirstFault text fault
 reported text fault true h e = absurd (false≢true (sym e))
 reported text fault false h e = fault_found text fault h
 
-pub parses-first : (text : List ℕ) (r : Result PolicyMeaning PolicyFault) → Parses (λ (p : PolicyMeaning). p) r (policy_of text) → IfErr r (λ fault. is_memory fault.kind ≡ false → IsFirstFault text fault)
+pub parses-first : (text : List ℕ) (r : Result PolicyMeaning Fault) → Parses (λ (p : PolicyMeaning). p) r (policy_of text) → IfErr r (λ fault. is_memory fault.kind ≡ false → IsFirstFault text fault)
 parses-first text (Ok p) h = tt
 parses-first text (Err fault) h = reported text fault (is_memory fault.kind) h
 
@@ -271,9 +271,9 @@ parses-first text (Err fault) h = reported text fault (is_memory fault.kind) h
 pub first_fault : FirstFault
 first_fault text fault = (fault_found text fault, fault_only text fault)
 
-policy_or_fault_by : (text : List ℕ) (r : Result PolicyMeaning PolicyFault) → policy_of text ≡ r →
-    ((policy : PolicyMeaning) × Spells text policy × ((fault : PolicyFault) → IsFirstFault text fault → ⊥))
-    ⊎ ((fault : PolicyFault) × IsFirstFault text fault × ((other : PolicyFault) → IsFirstFault text other → other ≡ fault) × ((policy : PolicyMeaning) → Spells text policy → ⊥))
+policy_or_fault_by : (text : List ℕ) (r : Result PolicyMeaning Fault) → policy_of text ≡ r →
+    ((policy : PolicyMeaning) × Spells text policy × ((fault : Fault) → IsFirstFault text fault → ⊥))
+    ⊎ ((fault : Fault) × IsFirstFault text fault × ((other : Fault) → IsFirstFault text other → other ≡ fault) × ((policy : PolicyMeaning) → Spells text policy → ⊥))
 policy_or_fault_by text (Ok policy) e = inl (policy, policy_of-found text policy e, λ fault f. Err-Ok fault policy (sym (fault_only text fault f) ∙ e))
 policy_or_fault_by text (Err fault) e = inr (
   fault,

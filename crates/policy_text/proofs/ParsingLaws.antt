@@ -5,14 +5,14 @@ use Rattle.flow_prefix.proofs.PartsLaws.{slice_split-cut, slice_split-whole}
 use Rattle.sequences.specs.Results.{◌>>=◌}
 use Rattle.policy_text.specs.declared.fault.FaultKind.{FaultKind}
 use Rattle.policy_text.specs.declared.fault.FaultKind.TheVariants.{NoHeader}
-use Rattle.policy_text.specs.declared.fault.PolicyFault.{PolicyFault}
+use Rattle.policy_text.specs.declared.fault.Fault.{Fault}
 use Rattle.policy_text.specs.Words.{words_of, lines_of, is_skipped}
 use Rattle.policy_text.specs.Policies.{PolicyMeaning}
 use Rattle.policy_text.specs.Results.{Fails, at_line, then_read, is_memory, fault_at}
 use Rattle.policy_text.specs.Parsing.{step, line_step, read_lines, policy_of}
 
 -- what is read after a line
-abbrev after_line : ℕ → List (List ℕ) → Option PolicyMeaning → Result PolicyMeaning PolicyFault
+abbrev after_line : ℕ → List (List ℕ) → Option PolicyMeaning → Result PolicyMeaning Fault
 after_line n others so_far = read_lines so_far (n + 1) others
 
 not_skipped : (n : ℕ) (others : List (List ℕ)) (r : Result PolicyMeaning FaultKind) → then_read (at_line n r) (λ q. read_lines (Some q) (n + 1) others) ≡ then_read (at_line n (r >>= λ q. Ok (Some q))) (after_line n others)
@@ -57,18 +57,18 @@ unfolding read_lines
 read_lines-empty n = refl
 
 -- a fault as parse reports it
-abbrev pub Reports : PolicyFault → Result PolicyMeaning PolicyFault → Type 0
+abbrev pub Reports : Fault → Result PolicyMeaning Fault → Type 0
 Reports fault read = MatchBool (is_memory fault.kind) (fault.line ≡ 0) (read ≡ Err fault)
 
 -- a line's fault is that of the text
-pub reports-line : (kind : FaultKind) (n : ℕ) (r : Result (Option PolicyMeaning) FaultKind) (f : Option PolicyMeaning → Result PolicyMeaning PolicyFault) → Fails kind r → Reports (fault_at n kind) (then_read (at_line n r) f)
+pub reports-line : (kind : FaultKind) (n : ℕ) (r : Result (Option PolicyMeaning) FaultKind) (f : Option PolicyMeaning → Result PolicyMeaning Fault) → Fails kind r → Reports (fault_at n kind) (then_read (at_line n r) f)
 reports-line kind n r f fails = by_test (is_memory kind) fails
   where
     by_test : (b : Bool) → MatchBool b (Unit {0}) (r ≡ Err kind) → MatchBool b (cond b 0 n ≡ 0) (then_read (at_line n r) f ≡ Err (record { line = cond b 0 n; kind = kind }))
     by_test true e = refl
     by_test false e = ap (λ x. then_read (at_line n x) f) e
 
-pub Reports-same : (fault : PolicyFault) (r s : Result PolicyMeaning PolicyFault) → r ≡ s → Reports fault s → Reports fault r
+pub Reports-same : (fault : Fault) (r s : Result PolicyMeaning Fault) → r ≡ s → Reports fault s → Reports fault r
 Reports-same fault r s e h = by_test (is_memory fault.kind) h
   where
     by_test : (b : Bool) → MatchBool b (fault.line ≡ 0) (s ≡ Err fault) → MatchBool b (fault.line ≡ 0) (r ≡ Err fault)

@@ -10,7 +10,7 @@ use Rattle.std.proofs.lemmas.Bool.{cases_Bool, leb-false, lt-leb, and_parts}
 use Rattle.ipfix_element.specs.Element.{Element}
 use Rattle.ipfix_element.specs.Names.{element_name}
 use Rattle.flow_prefix.specs.declared.prefix.Prefix.{Prefix}
-use Rattle.flow_prefix.specs.declared.fault.PrefixFault.{PrefixFault}
+use Rattle.flow_prefix.specs.declared.fault.Fault.{Fault as PrefixFault}
 use Rattle.numerals.specs.Numerals.{number_of}
 use Rattle.flow_prefix.specs.Reading.{prefix_of}
 use Rattle.flow_prefix.specs.Text.{IsPrefixText}
@@ -20,7 +20,7 @@ use Rattle.sequences.proofs.ResultLaws.{Err-Ok, same_Ok, bind_Ok}
 use Rattle.sequences.specs.Results.{◌>>=◌}
 use Rattle.policy_text.specs.declared.fault.FaultKind.{FaultKind}
 use Rattle.policy_text.specs.declared.fault.FaultKind.TheVariants.{UnknownAggregate, DoubleAggregate, UnknownWord, NoHeader, BadName, BadNumber, BadPrefix, BadTruncate, TooMany, BadDegrade}
-use Rattle.policy_text.specs.declared.fault.PolicyFault.{PolicyFault}
+use Rattle.policy_text.specs.declared.fault.Fault.{Fault}
 use Rattle.policy_text.specs.declared.rule.Rule.{Rule}
 use Rattle.policy_text.specs.declared.rule.Action.{Action}
 use Rattle.policy_text.specs.declared.rule.Action.TheVariants.{Pass, Withhold, Aggregate, Keep, Remove, Truncate, Degrade}
@@ -576,12 +576,12 @@ pub policy_of-only : (text : List ℕ) (q : PolicyMeaning) → Spells text q →
 unfolding policy_of
 policy_of-only text q h = all-only q 1 (lines_of text) h
 
-pub parses-found : (text : List ℕ) (r : Result PolicyMeaning PolicyFault) → Parses (λ (p : PolicyMeaning). p) r (policy_of text) → IfOk r (λ p. Spells text p)
+pub parses-found : (text : List ℕ) (r : Result PolicyMeaning Fault) → Parses (λ (p : PolicyMeaning). p) r (policy_of text) → IfOk r (λ p. Spells text p)
 parses-found text (Ok p) h = policy_of-found text p h
 parses-found text (Err fault) h = tt
 
-pub parses-only : (text : List ℕ) (r : Result PolicyMeaning PolicyFault) (p : PolicyMeaning) → Parses (λ (q : PolicyMeaning). q) r (policy_of text) → Spells text p → Parses (λ (q : PolicyMeaning). q) r (Ok p)
-parses-only text r p h spelled = let P : Result PolicyMeaning PolicyFault → Type 0 = λ read. Parses (λ (q : PolicyMeaning). q) r read in subst P (policy_of-only text p spelled) h
+pub parses-only : (text : List ℕ) (r : Result PolicyMeaning Fault) (p : PolicyMeaning) → Parses (λ (q : PolicyMeaning). q) r (policy_of text) → Spells text p → Parses (λ (q : PolicyMeaning). q) r (Ok p)
+parses-only text r p h spelled = let P : Result PolicyMeaning Fault → Type 0 = λ read. Parses (λ (q : PolicyMeaning). q) r read in subst P (policy_of-only text p spelled) h
 
 pub one_policy : OnePolicy
 one_policy text p q a b = same_Ok p q (sym (policy_of-only text p a) ∙ policy_of-only text q b)

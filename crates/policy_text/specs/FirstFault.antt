@@ -3,7 +3,7 @@ use Rattle.std.specs.Prelude.{◌≡◌, ◌⊎◌, ℕ, ◌+◌, true, false, L
 use Rattle.std.specs.List.{AllByRecursion}
 use Rattle.policy_text.specs.declared.fault.FaultKind.{FaultKind}
 use Rattle.policy_text.specs.declared.fault.FaultKind.TheVariants.{NoHeader}
-use Rattle.policy_text.specs.declared.fault.PolicyFault.{PolicyFault}
+use Rattle.policy_text.specs.declared.fault.Fault.{Fault}
 use Rattle.policy_text.specs.declared.version.Version.{Version}
 use Rattle.policy_text.specs.Words.{Word, words_of, lines_of, is_skipped}
 use Rattle.policy_text.specs.Policies.{PolicyMeaning, with_aggregate, Aggregate as Definition}
@@ -67,17 +67,17 @@ pub record IsFaultAt (lines : List (List ℕ)) (n : ℕ) (kind : FaultKind) : Ty
   pub fault : IsLineFault so_far (words_of line) kind
 
 -- the first fault of a text; a text without a header has it in line 1
-abbrev pub IsFirstFault : List ℕ → PolicyFault → Type 0
+abbrev pub IsFirstFault : List ℕ → Fault → Type 0
 IsFirstFault text fault =
     IsFaultAt (lines_of text) fault.line fault.kind
     ⊎ (SpellSoFar (lines_of text) None × (fault ≡ record { line = 1; kind = NoHeader }))
 
 -- The fault that reading answers is the text's first fault, and no other is.
 abbrev pub FirstFault : Type 0
-FirstFault = (text : List ℕ) (fault : PolicyFault) → (policy_of text ≡ Err fault → IsFirstFault text fault) × (IsFirstFault text fault → policy_of text ≡ Err fault)
+FirstFault = (text : List ℕ) (fault : Fault) → (policy_of text ≡ Err fault → IsFirstFault text fault) × (IsFirstFault text fault → policy_of text ≡ Err fault)
 
 -- a text spells a policy and has no first fault, or it spells none and has exactly one
 abbrev pub PolicyOrFault : Type 0
 PolicyOrFault = (text : List ℕ) →
-    ((policy : PolicyMeaning) × Spells text policy × ((fault : PolicyFault) → IsFirstFault text fault → ⊥))
-    ⊎ ((fault : PolicyFault) × IsFirstFault text fault × ((other : PolicyFault) → IsFirstFault text other → other ≡ fault) × ((policy : PolicyMeaning) → Spells text policy → ⊥))
+    ((policy : PolicyMeaning) × Spells text policy × ((fault : Fault) → IsFirstFault text fault → ⊥))
+    ⊎ ((fault : Fault) × IsFirstFault text fault × ((other : Fault) → IsFirstFault text other → other ≡ fault) × ((policy : PolicyMeaning) → Spells text policy → ⊥))

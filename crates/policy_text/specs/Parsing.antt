@@ -5,7 +5,7 @@ use Rattle.std.specs.Str.{bytes_eq}
 use Rattle.sequences.specs.Results.{◌>>=◌}
 use Rattle.policy_text.specs.declared.fault.FaultKind.{FaultKind}
 use Rattle.policy_text.specs.declared.fault.FaultKind.TheVariants.{NoHeader}
-use Rattle.policy_text.specs.declared.fault.PolicyFault.{PolicyFault}
+use Rattle.policy_text.specs.declared.fault.Fault.{Fault}
 use Rattle.policy_text.specs.declared.version.Version.{Version}
 use Rattle.policy_text.specs.declared.version.Version.TheVariants.{One, Two}
 use Rattle.policy_text.specs.Words.{Word, words_of, lines_of, is_skipped}
@@ -41,12 +41,12 @@ line_step so_far line =
     else (step so_far (words_of line) >>= λ policy. Ok (Some policy))
 
 -- the policy after these lines, of which the first has number n
-unfoldable pub read_lines : Option PolicyMeaning → ℕ → List (List ℕ) → Result PolicyMeaning PolicyFault
+unfoldable pub read_lines : Option PolicyMeaning → ℕ → List (List ℕ) → Result PolicyMeaning Fault
 read_lines None n [] = Err (record { line = 1; kind = NoHeader })
 read_lines (Some policy) n [] = Ok policy
 read_lines so_far n (line ∷ others) =
     if is_skipped (words_of line) then read_lines so_far (n + 1) others
     else then_read (at_line n (step so_far (words_of line))) (λ policy. read_lines (Some policy) (n + 1) others)
 
-unfoldable pub policy_of : List ℕ → Result PolicyMeaning PolicyFault
+unfoldable pub policy_of : List ℕ → Result PolicyMeaning Fault
 policy_of text = read_lines None 1 (lines_of text)

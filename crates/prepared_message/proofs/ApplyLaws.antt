@@ -4,7 +4,7 @@ use Rattle.sequences.specs.Results.{◌>>=◌}
 use Rattle.ipfix_message.specs.declared.header.Header.{Header}
 use Rattle.ipfix_message.specs.Reading.{header_of}
 use Rattle.ipfix_session.specs.declared.read.Gap.{Gap}
-use Rattle.ipfix_session.specs.declared.read_error.ReadError.{ReadError}
+use Rattle.ipfix_session.specs.declared.fault.Fault.{Fault as ReadError}
 use Rattle.ipfix_session.specs.Contents.{Contents}
 use Rattle.ipfix_session.specs.Meaning.{Meaning, expected_number, gap_between, gap_of, meaning_of}
 use Rattle.prepared_message.specs.Preparation.{Preparation, AgreesWith, IsPreparedWith}

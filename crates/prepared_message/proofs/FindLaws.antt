@@ -8,7 +8,7 @@ use Rattle.ipfix_message.specs.declared.item.Item.{Item}
 use Rattle.ipfix_message.specs.declared.fault.Fault.{Fault as DecodeError}
 use Rattle.ipfix_message.specs.declared.fault.Fault.TheVariants as decode
 use Rattle.ipfix_message.specs.Reading.{read_header, after_header, items_of}
-use Rattle.ipfix_session.specs.declared.read_error.ReadError.{ReadError}
+use Rattle.ipfix_session.specs.declared.fault.Fault.{Fault as ReadError}
 use Rattle.ipfix_session.specs.Answers.{as_contents}
 use Rattle.ipfix_session.specs.Contents.{Contents, contents_after}
 use Rattle.ipfix_session.specs.InForce.{template_in_force}
@@ -19,8 +19,8 @@ use Rattle.ipfix_session.proofs.SessionSteps.{contents_are}
 use Rattle.ipfix_session.proofs.AgreementLaws.{same_contents}
 use Rattle.ipfix_session.proofs.RecordCounts.{HoldAtMost, few_in}
 use Rattle.prepared_message.specs.declared.found.Found.{Found}
-use Rattle.prepared_message.specs.declared.fault.PrepareFault.{PrepareFault}
-use Rattle.prepared_message.specs.declared.fault.PrepareFault.TheVariants.{HasTemplates, Malformed, OutOfMemory}
+use Rattle.prepared_message.specs.declared.fault.Fault.{Fault}
+use Rattle.prepared_message.specs.declared.fault.Fault.TheVariants.{HasTemplates, Malformed, OutOfMemory}
 use Rattle.prepared_message.specs.SetIds.{has_template_set}
 use Rattle.prepared_message.specs.Seen.{used_pair}
 use Rattle.prepared_message.specs.Uses.{TablesAgree, AreUsesInForce, known_in, used_by}

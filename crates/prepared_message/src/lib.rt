@@ -7,7 +7,7 @@
 //! - [`prepared`]: `Prepared`, a message that was read against a snapshot: `prepare`; `apply_to` and `reading_in` for the
 //!   session that takes it in; `take_judgement`, what was judged.
 //! - [`ahead`]: `JudgedAhead`, what was judged of a message that its session reads itself, since it brings templates.
-//! - [`fault`]: `PrepareFault`, why a message is not prepared.
+//! - [`fault`]: `Fault`, why a message is not prepared.
 //! - [`width`]: how many values the Data Sets of a message may have: `Snapshot::is_too_wide`, and `VALUES_AN_OCTET`.
 //! - [`counting`]: how many of its records may count in aggregates: `counts_too_many` of `Prepared` and `JudgedAhead`, and
 //!   `MOST_COUNTS`.
@@ -38,7 +38,7 @@ pub mod width;
 
 pub use ahead::JudgedAhead;
 pub use counting::MOST_COUNTS;
-pub use fault::PrepareFault;
+pub use fault::Fault;
 pub use prepared::Prepared;
 pub use snapshot::Snapshot;
 pub use width::VALUES_AN_OCTET;

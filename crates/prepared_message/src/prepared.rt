@@ -9,7 +9,7 @@ ghost use Rattle.prepared_message.specs.Preparation.{AgreesWith, IsPrepared, Are
 ghost use Rattle.mediator_shares.specs.Judgements.{IsJudgementOf};
 ghost use Rattle.prepared_message.specs.Uses.{TablesAgree};
 
-use crate::fault::PrepareFault;
+use crate::fault::Fault;
 use crate::found::{Found, read_by};
 use crate::snapshot::Snapshot;
 use crate::used::{Used, are_in_force};
@@ -76,10 +76,10 @@ impl Prepared {
     /// copied. Where the snapshot has terms, the records are judged on them too, which shows in no other answer.
     ///
     /// # Errors
-    /// [`PrepareFault::HasTemplates`] where the octets are a message with a set of the ID 2 or 3;
-    /// [`PrepareFault::Malformed`] where they are no message, or a data record goes past its set; or
-    /// [`PrepareFault::OutOfMemory`].
-    pub fn prepare(snapshot: &Snapshot, message: Bytes) -> Result<Prepared, PrepareFault>
+    /// [`Fault::HasTemplates`] where the octets are a message with a set of the ID 2 or 3;
+    /// [`Fault::Malformed`] where they are no message, or a data record goes past its set; or
+    /// [`Fault::OutOfMemory`].
+    pub fn prepare(snapshot: &Snapshot, message: Bytes) -> Result<Prepared, Fault>
         // The answer is what the message holds after the messages that the snapshot stands for, or which fault it has.
         ensures gives { (older : List (List ℕ)) → Knows snapshot.now older
             → Gives (λ p. p.contents) result (prepared_from older message) }
@@ -101,7 +101,7 @@ impl Prepared {
         snapshot: &Snapshot,
         message: Bytes,
         workspace: &mut Workspace,
-    ) -> Result<Prepared, PrepareFault>
+    ) -> Result<Prepared, Fault>
         ensures gives { (older : List (List ℕ)) → Knows snapshot.now older
             → Gives (λ p. p.contents) result (prepared_from older message) }
         ensures whole { IfOk result (λ p. p.message ≡ message) }

@@ -5,8 +5,8 @@ use Rattle.std.proofs.lemmas.Bool.{cases_Bool}
 use Rattle.sequences.specs.Options.{◌>>=◌}
 use Rattle.mediator_calls.specs.declared.limits.Limits.{Limits}
 use Rattle.replay_text.specs.declared.call_list.CallList.{CallList}
-use Rattle.replay_text.specs.declared.fault.CallsFault.{CallsFault}
-use Rattle.replay_text.specs.declared.fault.CallsFault.TheVariants.{Line, OutOfMemory}
+use Rattle.replay_text.specs.declared.fault.Fault.{Fault}
+use Rattle.replay_text.specs.declared.fault.Fault.TheVariants.{Line, OutOfMemory}
 use Rattle.replay_text.specs.Sayings.{Saying}
 use Rattle.replay_text.specs.Sayings.Saying.{to_open, to_close, to_receive, to_edit, to_subscribe, to_unsubscribe, to_advance, to_pull, to_tell_status, to_drain_audit}
 use Rattle.replay_text.specs.Lines.{call_of, limits_of}
@@ -236,16 +236,16 @@ text_fault text n e =
 
 -- ---- what a reader answered
 
-pub reads-found : (text : List ℕ) (r : Result CallList CallsFault) → Reads r (list_of text) → IfOk r (λ list. Lists text (asked_calls list))
+pub reads-found : (text : List ℕ) (r : Result CallList Fault) → Reads r (list_of text) → IfOk r (λ list. Lists text (asked_calls list))
 reads-found text (Ok list) e = text_found text (asked_calls list) e
 reads-found text (Err fault) e = tt
 
-pub reads-only : (text : List ℕ) (r : Result CallList CallsFault) → Reads r (list_of text) → (list : AskedCalls) → Lists text list → Reads r (Ok list)
+pub reads-only : (text : List ℕ) (r : Result CallList Fault) → Reads r (list_of text) → (list : AskedCalls) → Lists text list → Reads r (Ok list)
 reads-only text (Ok read) e list is = sym (text_only text list is) ∙ e
 reads-only text (Err (Line n)) e list is = absurd (ok_or_err list n (sym (text_only text list is) ∙ e))
 reads-only text (Err OutOfMemory) e list is = tt
 
-pub reads-first : (text : List ℕ) (r : Result CallList CallsFault) → Reads r (list_of text) → IfErr r (λ fault. IsFaultOf fault text)
+pub reads-first : (text : List ℕ) (r : Result CallList Fault) → Reads r (list_of text) → IfErr r (λ fault. IsFaultOf fault text)
 reads-first text (Ok read) e = tt
 reads-first text (Err (Line n)) e = text_fault text n e
 reads-first text (Err OutOfMemory) e = tt

@@ -5,14 +5,14 @@ use Rattle.std.specs.Fmt.{decimal}
 use Rattle.hex.specs.Hex.{encode_lower}
 use Rattle.ipfix_message.specs.declared.fault.Fault.{Fault as DecodeError}
 use Rattle.ipfix_message.specs.declared.fault.Fault.TheVariants as decode
-use Rattle.ipfix_session.specs.declared.read_error.ReadError.{ReadError}
-use Rattle.ipfix_session.specs.declared.read_error.ReadError.TheVariants as read
+use Rattle.ipfix_session.specs.declared.fault.Fault.{Fault as ReadError}
+use Rattle.ipfix_session.specs.declared.fault.Fault.TheVariants as read
 use Rattle.ipfix_session.specs.declared.read.Gap.{Gap}
 use Rattle.ipfix_session.specs.declared.read.Skips.{Skips}
 use Rattle.policy_text.specs.FaultTexts.{text_of_kind}
 use Rattle.disclosure_audit.specs.declared.entry.AuditEntry.{AuditEntry}
 use Rattle.disclosure_audit.specs.Lines.{line_of}
-use Rattle.mediator_state.specs.declared.fault.Fault.{Fault}
+use Rattle.mediator_state.specs.declared.fault.Fault.{Fault as MediatorFault}
 use Rattle.mediator_state.specs.declared.fault.Fault.TheVariants as fault
 use Rattle.mediator_state.specs.declared.receipt.Receipt.{Receipt}
 use Rattle.mediator_state.specs.declared.receipt.Status.{Status}
@@ -67,7 +67,7 @@ read_word read.RecordOverrun = codes "RecordOverrun"
 read_word read.OutOfMemory = codes "OutOfMemory"
 
 -- what is said of a fault behind its name
-abbrev pub fault_details : Fault → List ℕ
+abbrev pub fault_details : MediatorFault → List ℕ
 fault_details (fault.OutOfTurn expected) = codes " " ++ decimal expected
 fault_details (fault.Malformed why) = codes " " ++ read_word why
 fault_details (fault.Policy why) = codes " " ++ decimal why.line ++ codes " " ++ text_of_kind why.kind
@@ -84,7 +84,7 @@ fault_details fault.HandedFull = []
 fault_details fault.JournalFull = []
 fault_details fault.OutOfMemory = []
 
-abbrev pub refusal_text : Fault → List ℕ
+abbrev pub refusal_text : MediatorFault → List ℕ
 refusal_text why = codes "err " ++ text_of_fault why ++ fault_details why
 
 -- ---- the lines of an answer

@@ -6,8 +6,8 @@ use Rattle.std.specs.Prelude.{◌==◌}
 use Rattle.std.specs.Fmt.{decimal}
 use Rattle.hex.specs.Hex.{decode_of}
 use Rattle.mediator_calls.specs.declared.limits.Limits.{Limits}
-use Rattle.replay_text.specs.declared.fault.CallsFault.{CallsFault}
-use Rattle.replay_text.specs.declared.fault.CallsFault.TheVariants.{Line, OutOfMemory}
+use Rattle.replay_text.specs.declared.fault.Fault.{Fault}
+use Rattle.replay_text.specs.declared.fault.Fault.TheVariants.{Line, OutOfMemory}
 use Rattle.replay_text.specs.LineEnds.{with_line_ends}
 use Rattle.replay_text.specs.Lines.{greatest}
 use Rattle.replay_text.specs.Lists.{AskedCalls, nothing, default_limits, lines_of, is_skipped}
@@ -99,6 +99,6 @@ pub record IsFirstBadLine (text : List ℕ) (n : ℕ) : Type 0 where
   pub bad : (list : AskedCalls) → AreList (take n (lines_of text)) list → ⊥
 
 -- the fault is the text's first line that asks for nothing; want of memory says nothing
-abbrev pub IsFaultOf : CallsFault → List ℕ → Type 0
+abbrev pub IsFaultOf : Fault → List ℕ → Type 0
 IsFaultOf (Line n) text = IsFirstBadLine text n
 IsFaultOf OutOfMemory text = Unit {0}

@@ -6,8 +6,8 @@ use Rattle.subscriber_stream.specs.declared.limits.TheConstants.{MOST_SHAPES}
 use Rattle.event_journal.specs.declared.limits.TheConstants.{MOST_ENTRIES, MOST_OCTETS}
 use Rattle.mediator_calls.specs.declared.limits.Limits.{Limits}
 use Rattle.replay_text.specs.declared.call_list.CallList.{CallList}
-use Rattle.replay_text.specs.declared.fault.CallsFault.{CallsFault}
-use Rattle.replay_text.specs.declared.fault.CallsFault.TheVariants.{Line, OutOfMemory}
+use Rattle.replay_text.specs.declared.fault.Fault.{Fault}
+use Rattle.replay_text.specs.declared.fault.Fault.TheVariants.{Line, OutOfMemory}
 use Rattle.replay_text.specs.Sayings.{Saying, saying}
 use Rattle.replay_text.specs.Lines.{call_of, limits_of}
 use Rattle.mediator_state.specs.declared.state.TheConstants.{DEFAULT_AUDIT, DEFAULT_QUEUE}
@@ -79,7 +79,7 @@ unfoldable pub list_of : List ℕ → Result AskedCalls ℕ
 list_of text = read_lines false nothing 1 (lines_of text)
 
 -- what a reader answered is what the text asks for, or its first line that asks for nothing; want of memory says nothing
-abbrev pub Reads : Result CallList CallsFault → Result AskedCalls ℕ → Type 0
+abbrev pub Reads : Result CallList Fault → Result AskedCalls ℕ → Type 0
 Reads (Ok list) read = read ≡ Ok (asked_calls list)
 Reads (Err (Line n)) read = read ≡ Err n
 Reads (Err OutOfMemory) read = Unit {0}

@@ -4,7 +4,7 @@ ghost use Rattle.std.specs.Option.{option_map};
 ghost use Rattle.replay_text.specs.Lists.{AskedCalls, Reads, asked_calls, nothing, list_of, line_step, step, call_step, is_skipped};
 ghost use Rattle.replay_text.specs.Grammar.{IsFaultOf, Lists};
 
-use crate::fault::CallsFault;
+use crate::fault::Fault;
 use crate::line::{read_call, read_limits};
 use crate::words::cut_at;
 use event_journal::{MOST_ENTRIES, MOST_OCTETS};
@@ -36,7 +36,7 @@ pub struct CallList {
 ///
 /// # Errors
 /// `Line` with the number of the first line that asks for nothing, or `OutOfMemory`.
-pub fn read_call_list(alloc: Global, text: &str) -> Result<CallList, CallsFault>
+pub fn read_call_list(alloc: Global, text: &str) -> Result<CallList, Fault>
     // What is read is listed so.
     ensures found { IfOk result (λ list. Lists text.now (asked_calls list)) }
     // What is listed so is read, unless memory runs out.
@@ -50,7 +50,7 @@ pub fn read_call_list(alloc: Global, text: &str) -> Result<CallList, CallsFault>
 }
 
 /// Reads the lines of a text, one after another.
-fn read_lines(alloc: Global, text: &str) -> Result<CallList, CallsFault>
+fn read_lines(alloc: Global, text: &str) -> Result<CallList, Fault>
     ensures { Reads result (list_of text.now) }
 {
     let mut list = CallList::new(alloc);
@@ -60,14 +60,14 @@ fn read_lines(alloc: Global, text: &str) -> Result<CallList, CallsFault>
     'lines: while let Some((line, after)) = cut_at(rest, '\n') {
         started = match list.read_line(alloc, started, line)? {
             Some(started) => started,
-            None => return Err(CallsFault::Line(number)),
+            None => return Err(Fault::Line(number)),
         };
         number += 1;
         rest = after;
     }
     match list.read_line(alloc, started, rest)? {
         Some(_) => Ok(list),
-        None => Err(CallsFault::Line(number)),
+        None => Err(Fault::Line(number)),
     }
 }
 

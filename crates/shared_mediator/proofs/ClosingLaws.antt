@@ -12,7 +12,7 @@ use Rattle.shared_mediator.proofs.Complete.{length_all_kept, all_of_handles, com
 use Rattle.shared_mediator.specs.Counted.{CountedMediation, has_receipt, entries_of}
 use Rattle.shared_mediator.specs.Locked.{Exporting}
 use Rattle.shared_mediator.specs.Handles.{HasReceipt}
-use Rattle.shared_mediator.specs.declared.fault.CloseFault.{CloseFault}
+use Rattle.shared_mediator.specs.declared.fault.Fault.{Fault}
 use Rattle.shared_mediator.specs.Closing.{KeepsMessages, receipts_of, entries_kept, HasReceipts, IsMismatch, NamesReceipt}
 use Rattle.shared_mediator.proofs.HandleLaws.{have_receipts}
 
@@ -100,5 +100,5 @@ exporters_mismatch from at n position h exporters i x shown low is same from_is 
   kept_of e = e.kept
 
 -- by the journal that was lent, and by the place that the marks have
-pub names_in : (e : CloseFault) (from at : ℕ) (h j : List Entry) (handles : List (List KeptEntry)) → j ≡ h → at ≡ from → NamesReceipt e at j handles → NamesReceipt e from h handles
+pub names_in : (e : Fault) (from at : ℕ) (h j : List Entry) (handles : List (List KeptEntry)) → j ≡ h → at ≡ from → NamesReceipt e at j handles → NamesReceipt e from h handles
 names_in e from at h j handles same from_is names = subst (λ (x : List Entry). NamesReceipt e from x handles) same (subst (λ n. NamesReceipt e n j handles) from_is names)

@@ -6,7 +6,7 @@ use Rattle.sequences.proofs.ListLaws.{AllByRecursion-append}
 use Rattle.event_journal.specs.declared.entry.Entry.{Entry}
 use Rattle.event_journal.specs.declared.entry.Entry.TheVariants.{Message}
 use Rattle.prepared_message.specs.Preparation.{Preparation}
-use Rattle.mediator_state.specs.declared.fault.Fault.{Fault}
+use Rattle.mediator_state.specs.declared.fault.Fault.{Fault as MediatorFault}
 use Rattle.mediator_state.specs.declared.fault.Fault.TheVariants as fault
 use Rattle.mediator_state.specs.Calls.{RefusesSnapshot}
 use Rattle.mediator_calls.specs.Mediation.{Mediation}
@@ -61,7 +61,7 @@ keeps_none kept now target = record { messages = []; some = record { built = tt;
 
 -- ---- why an offer or a pull is refused
 
-pub offer_refused : (why : Fault) (m : Mediation) (session number : ℕ) (octets : List ℕ) → RefusesReceive why m session number octets → MayRefuseOffer why
+pub offer_refused : (why : MediatorFault) (m : Mediation) (session number : ℕ) (octets : List ℕ) → RefusesReceive why m session number octets → MayRefuseOffer why
 offer_refused fault.UnknownSession m session number octets r = tt
 offer_refused (fault.OutOfTurn expected) m session number octets r = tt
 offer_refused (fault.Malformed why) m session number octets r = tt
@@ -71,7 +71,7 @@ offer_refused (fault.AuditFull need room) m session number octets r = tt
 offer_refused fault.OutOfMemory m session number octets r = tt
 offer_refused _ m session number octets r = absurd r
 
-pub prepared_refused : (why : Fault) (m : Mediation) (session number : ℕ) (p : Preparation) → RefusesReceivePrepared why m session number p → MayRefuseOffer why
+pub prepared_refused : (why : MediatorFault) (m : Mediation) (session number : ℕ) (p : Preparation) → RefusesReceivePrepared why m session number p → MayRefuseOffer why
 prepared_refused fault.UnknownSession m session number p r = tt
 prepared_refused (fault.OutOfTurn expected) m session number p r = tt
 prepared_refused (fault.Malformed why) m session number p r = tt
@@ -81,12 +81,12 @@ prepared_refused (fault.AuditFull need room) m session number p r = tt
 prepared_refused fault.OutOfMemory m session number p r = tt
 prepared_refused _ m session number p r = absurd r
 
-pub snapshot_refused : (why : Fault) (h : List Entry) (session : ℕ) → RefusesSnapshot why h session → MayRefuseOffer why
+pub snapshot_refused : (why : MediatorFault) (h : List Entry) (session : ℕ) → RefusesSnapshot why h session → MayRefuseOffer why
 snapshot_refused fault.UnknownSession h session r = tt
 snapshot_refused fault.OutOfMemory h session r = tt
 snapshot_refused _ h session r = absurd r
 
-pub handing_refused : (why : Fault) (c : CountedMediation) (sub : ℕ) → RefusesHanding why c sub → MayRefusePull why
+pub handing_refused : (why : MediatorFault) (c : CountedMediation) (sub : ℕ) → RefusesHanding why c sub → MayRefusePull why
 handing_refused fault.UnknownSub c sub r = tt
 handing_refused fault.HandedFull c sub r = tt
 handing_refused fault.OutOfMemory c sub r = tt

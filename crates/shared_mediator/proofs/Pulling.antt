@@ -7,7 +7,7 @@ use Rattle.subscriber_stream.specs.Message.{next_message}
 use Rattle.event_journal.specs.declared.entry.Entry.{Entry}
 use Rattle.mediator_history.specs.Disclosed.{disclosed}
 use Rattle.mediator_state.specs.declared.receipt.Status.{Status}
-use Rattle.mediator_state.specs.declared.fault.Fault.{Fault}
+use Rattle.mediator_state.specs.declared.fault.Fault.{Fault as MediatorFault}
 use Rattle.mediator_state.specs.declared.fault.Fault.TheVariants as fault
 use Rattle.mediator_state.specs.Calls.{RefusesPull}
 use Rattle.mediator_calls.specs.Mediation.{Mediation, live, place_at, waiting_at}
@@ -99,9 +99,9 @@ hands_none old new from gone sub now target was answer is sound room pulled none
 pub has_count_room : (core : Mediation) (from gone handed sub queued : ℕ) → IsCounted core from gone handed → queued ≡ waiting_at core sub → handed + queued < 2 ^ 64 → HasCountRoom (counted_as core from gone) sub
 has_count_room core from gone handed sub queued counted is room = omega (arith, counted.counted, is, room)
 
-pub refuses_handing : (why : Fault) (c was : CountedMediation) (sub : ℕ) → c ≡ was → RefusesPull why c.core.history sub → HasCountRoom c sub → RefusesHanding why was sub
+pub refuses_handing : (why : MediatorFault) (c was : CountedMediation) (sub : ℕ) → c ≡ was → RefusesPull why c.core.history sub → HasCountRoom c sub → RefusesHanding why was sub
 refuses_handing why c was sub is refused room = subst (λ (k : CountedMediation). RefusesHanding why k sub) is (by_fault why refused) where
-  by_fault : (why : Fault) → RefusesPull why c.core.history sub → RefusesHanding why c sub
+  by_fault : (why : MediatorFault) → RefusesPull why c.core.history sub → RefusesHanding why c sub
   by_fault fault.OutOfMemory r = (r, room)
   by_fault fault.UnknownSub r = r
   by_fault _ r = absurd r

@@ -1,7 +1,7 @@
 -- What the calls add to what lies under the lock, and why they refuse.
 use Rattle.std.specs.Prelude.{◌≡◌, ◌⊎◌, ℕ, ◌+◌, ◌<◌, Bool, true, false, ◌||◌, Option, Some, None}
 use Rattle.mediator_history.specs.Subscriptions.{is_live, is_served}
-use Rattle.mediator_state.specs.declared.fault.Fault.{Fault}
+use Rattle.mediator_state.specs.declared.fault.Fault.{Fault as MediatorFault}
 use Rattle.mediator_state.specs.declared.fault.Fault.TheVariants.{UnknownSub, NoHandle, JournalFull}
 use Rattle.mediator_calls.specs.Mediation.{waiting_at}
 use Rattle.mediator_calls.specs.Calls.{RefusesOpen}
@@ -31,7 +31,7 @@ pub record Makes (exporters deliveries admins : ℕ) (old new : Locked) : Type 0
   pub full : new.full ≡ old.full
 
 -- whether a call was refused since the journal is full
-abbrev pub is_full : Fault → Bool
+abbrev pub is_full : MediatorFault → Bool
 is_full JournalFull = true
 is_full _ = false
 
@@ -40,16 +40,16 @@ abbrev pub with_refusal : Bool → Locked → Locked
 with_refusal full d = locked_as d.counted d.handles d.exporters d.deliveries d.admins d.stopped (d.full || full)
 
 -- as many of the kind were made as there may be; or the mediator opens no session
-abbrev pub RefusesExporter : Fault → Locked → Type 0
+abbrev pub RefusesExporter : MediatorFault → Locked → Type 0
 RefusesExporter why d = ((why ≡ NoHandle) × (d.exporters ≡ d.handles)) ⊎ ((d.exporters < d.handles) × RefusesOpen why d.counted.core)
 
 -- no such subscription is live; or as many of the kind were made as there may be
-abbrev pub RefusesDelivery : Fault → Locked → ℕ → Type 0
+abbrev pub RefusesDelivery : MediatorFault → Locked → ℕ → Type 0
 RefusesDelivery UnknownSub d sub = is_live sub d.counted.core.history ≡ false
 RefusesDelivery NoHandle d sub = (is_live sub d.counted.core.history ≡ true) × (d.deliveries ≡ d.handles)
 RefusesDelivery _ d sub = ⊥
 
-abbrev pub RefusesAdmin : Fault → Locked → Type 0
+abbrev pub RefusesAdmin : MediatorFault → Locked → Type 0
 RefusesAdmin NoHandle d = d.admins ≡ d.handles
 RefusesAdmin _ d = ⊥
 

@@ -4,7 +4,7 @@ use Rattle.subscriber_stream.specs.Parts.{parts, records_in}
 use Rattle.subscriber_stream.specs.Message.{parts_taken}
 use Rattle.mediator_history.specs.Subscriptions.{is_live}
 use Rattle.mediator_history.specs.Disclosed.{disclosed}
-use Rattle.mediator_state.specs.declared.fault.Fault.{Fault}
+use Rattle.mediator_state.specs.declared.fault.Fault.{Fault as MediatorFault}
 use Rattle.mediator_state.specs.declared.fault.Fault.TheVariants as fault
 use Rattle.mediator_state.specs.Calls.{RefusesPull}
 use Rattle.mediator_calls.specs.Mediation.{Mediation, place_at, waiting_at}
@@ -38,7 +38,7 @@ pub record HandsOut (old : CountedMediation) (sub now target : ℕ) (answer : Op
 
 -- the count has no room for all that waits for a live subscription; or the mediator's own refusal, and memory runs out only where the
 -- count has room
-abbrev pub RefusesHanding : Fault → CountedMediation → ℕ → Type 0
+abbrev pub RefusesHanding : MediatorFault → CountedMediation → ℕ → Type 0
 RefusesHanding fault.HandedFull c sub = (is_live sub c.core.history ≡ true) × (2 ^ 64 ≤ handed_of c + waiting_at c.core sub)
 RefusesHanding fault.OutOfMemory c sub = RefusesPull fault.OutOfMemory c.core.history sub × HasCountRoom c sub
 RefusesHanding why c sub = RefusesPull why c.core.history sub

@@ -7,7 +7,7 @@ use Rattle.subscriber_stream.specs.Message.{built, parts_taken}
 use Rattle.stream_meaning.specs.Served.{AreStreamable}
 use Rattle.event_journal.specs.declared.entry.Entry.{Entry}
 use Rattle.event_journal.specs.declared.entry.Entry.TheVariants.{Message}
-use Rattle.mediator_state.specs.declared.fault.Fault.{Fault}
+use Rattle.mediator_state.specs.declared.fault.Fault.{Fault as MediatorFault}
 use Rattle.mediator_state.specs.declared.fault.Fault.TheVariants as fault
 use Rattle.shared_mediator.specs.declared.kept.KeptEntry.{KeptEntry}
 use Rattle.shared_mediator.specs.declared.handed.Handed.{Handed}
@@ -49,7 +49,7 @@ pub record KeepsEntry (old : List KeptEntry) (entry : Entry) (new : List KeptEnt
 
 -- a message may be refused so: for its session, its number, its octets, the templates by which it was prepared, or for want of room or
 -- of memory
-abbrev pub MayRefuseOffer : Fault → Type 0
+abbrev pub MayRefuseOffer : MediatorFault → Type 0
 MayRefuseOffer fault.UnknownSession = Unit {0}
 MayRefuseOffer (fault.OutOfTurn expected) = Unit {0}
 MayRefuseOffer (fault.Malformed why) = Unit {0}
@@ -60,7 +60,7 @@ MayRefuseOffer fault.OutOfMemory = Unit {0}
 MayRefuseOffer _ = ⊥
 
 -- a pull may be refused so: for its subscription, or for want of room in the count or of memory
-abbrev pub MayRefusePull : Fault → Type 0
+abbrev pub MayRefusePull : MediatorFault → Type 0
 MayRefusePull fault.UnknownSub = Unit {0}
 MayRefusePull fault.HandedFull = Unit {0}
 MayRefusePull fault.OutOfMemory = Unit {0}

@@ -6,7 +6,7 @@ use mathlib.Core.Option.{none}
 use denote.RattleType.{RattleType}
 use denote.Follow.{follows_so}
 use Rattle.shared_mediator.specs.declared.handed.Handed.{Handed}
-use Rattle.mediator_state.specs.declared.fault.Fault.{Fault}
+use Rattle.mediator_state.specs.declared.fault.Fault.{Fault as MediatorFault}
 use Rattle.shared_mediator.specs.Locked.{Delivering}
 use Rattle.shared_mediator.specs.Handles.{KeepsHanded, KeepsSome}
 
@@ -15,13 +15,13 @@ abbrev pub Leaves : (row : RattleType) → MutBor row.Denot → (row.Denot → T
 Leaves row lender IsLeft = follows_so row row lender.ghost_name none (λ _ _. ⊤) IsLeft
 
 -- the message that is lent, if any, is the last one that is kept from then on; a refusal changes nothing
-pub record LendsHanded (now target : ℕ) (old : Delivering) (result : Result (Option (Bor Handed)) Fault) (new : Delivering) : Type 0 where
+pub record LendsHanded (now target : ℕ) (old : Delivering) (result : Result (Option (Bor Handed)) MediatorFault) (new : Delivering) : Type 0 where
   pub kept : IfOk result (λ message. KeepsHanded old.kept now target (option_copied message) new.kept)
   pub sub : new.sub ≡ old.sub
   pub unchanged : OnErr result (new ≡ old)
 
 -- the messages that are lent are those that are kept from then on behind the others; a refusal changes nothing
-pub record LendsSome (now target : ℕ) (old : Delivering) (result : Result (Bor (List Handed)) Fault) (new : Delivering) : Type 0 where
+pub record LendsSome (now target : ℕ) (old : Delivering) (result : Result (Bor (List Handed)) MediatorFault) (new : Delivering) : Type 0 where
   pub kept : IfOk result (λ messages. KeepsSome old.kept now target messages.now new.kept)
   pub sub : new.sub ≡ old.sub
   pub unchanged : OnErr result (new ≡ old)

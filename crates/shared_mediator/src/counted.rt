@@ -12,7 +12,7 @@ use crate::handed::Handed;
 use bytes::Bytes;
 use disclosure_audit::AuditEntry;
 use mediator_calls::{Mediator, SessionId, SubId};
-use mediator_state::{Fault, Receipt, Status};
+use mediator_state::{Fault as MediatorFault, Receipt, Status};
 use mediator_tables::Share;
 use prepared_message::{JudgedAhead, Prepared, Snapshot};
 use std::alloc::AllocError;
@@ -117,7 +117,7 @@ impl CountedMediator {
     ///
     /// # Errors
     /// Those of [`Mediator::open`].
-    pub fn open(&mut self) -> Result<SessionId, Fault>
+    pub fn open(&mut self) -> Result<SessionId, MediatorFault>
         ensures ok { IfOk result (λ session. Opens self.old.core session.0 self.new.core) }
         ensures counts { OnOk result (Counts self.old 0 0 0 self.new) }
         ensures unchanged { OnErr result (self.new ≡ self.old) }
@@ -131,7 +131,7 @@ impl CountedMediator {
     ///
     /// # Errors
     /// Those of [`Mediator::close`].
-    pub fn close(&mut self, session: SessionId) -> Result<(), Fault>
+    pub fn close(&mut self, session: SessionId) -> Result<(), MediatorFault>
         ensures ok { OnOk result (Closes self.old.core session.0 self.new.core) }
         ensures counts { OnOk result (Counts self.old 0 0 0 self.new) }
         ensures unchanged { OnErr result (self.new ≡ self.old) }
@@ -152,7 +152,7 @@ impl CountedMediator {
         session: SessionId,
         number: u64,
         message: Bytes,
-    ) -> Result<Receipt, Fault>
+    ) -> Result<Receipt, MediatorFault>
         ensures ok { IfOk result (λ receipt.
             Receives self.old.core session.0 number message receipt self.new.core) }
         ensures counts { OnOk result (Counts self.old 1 0 0 self.new) }
@@ -174,7 +174,7 @@ impl CountedMediator {
         number: u64,
         message: Bytes,
         ahead: Option<JudgedAhead>,
-    ) -> Result<Receipt, Fault>
+    ) -> Result<Receipt, MediatorFault>
         ensures ok { IfOk result (λ receipt.
             Receives self.old.core session.0 number message receipt self.new.core) }
         ensures counts { OnOk result (Counts self.old 1 0 0 self.new) }
@@ -191,7 +191,7 @@ impl CountedMediator {
     ///
     /// # Errors
     /// Those of [`Mediator::snapshot`].
-    pub fn snapshot(&mut self, session: SessionId) -> Result<Snapshot, Fault>
+    pub fn snapshot(&mut self, session: SessionId) -> Result<Snapshot, MediatorFault>
         ensures ok { IfOk result (IsSnapshot self.old.core.history session.0) }
         ensures unchanged { self.new ≡ self.old }
         ensures err { IfErr result (λ e. RefusesSnapshot e self.old.core.history session.0) }
@@ -209,7 +209,7 @@ impl CountedMediator {
         session: SessionId,
         number: u64,
         prepared: Prepared,
-    ) -> Result<Receipt, (Fault, Prepared)>
+    ) -> Result<Receipt, (MediatorFault, Prepared)>
         ensures ok { IfOk result (λ receipt.
             Receives self.old.core session.0 number prepared.message receipt self.new.core) }
         ensures counts { OnOk result (Counts self.old 1 0 0 self.new) }
@@ -228,7 +228,7 @@ impl CountedMediator {
     ///
     /// # Errors
     /// Those of [`Mediator::edit`].
-    pub fn edit(&mut self, text: &str) -> Result<u64, Fault>
+    pub fn edit(&mut self, text: &str) -> Result<u64, MediatorFault>
         ensures ok { IfOk result (λ edits. Edits self.old.core text.now edits self.new.core) }
         ensures counts { OnOk result (Counts self.old 1 0 0 self.new) }
         ensures unchanged { OnErr result (self.new ≡ self.old) }
@@ -244,7 +244,7 @@ impl CountedMediator {
     ///
     /// # Errors
     /// Those of [`Mediator::subscribe`].
-    pub fn subscribe(&mut self, name: &str) -> Result<SubId, Fault>
+    pub fn subscribe(&mut self, name: &str) -> Result<SubId, MediatorFault>
         ensures ok { IfOk result (λ sub. Subscribes self.old.core name.now sub.0 self.new.core) }
         ensures counts { OnOk result (Counts self.old 1 0 0 self.new) }
         ensures unchanged { OnErr result (self.new ≡ self.old) }
@@ -260,7 +260,7 @@ impl CountedMediator {
     ///
     /// # Errors
     /// Those of [`Mediator::unsubscribe`].
-    pub fn unsubscribe(&mut self, sub: SubId) -> Result<(), Fault>
+    pub fn unsubscribe(&mut self, sub: SubId) -> Result<(), MediatorFault>
         ensures ok { OnOk result (Unsubscribes self.old.core sub.0 self.new.core) }
         ensures counts { OnOk result
             (Counts self.old 1 0 (handed_at self.old.core sub.0) self.new) }
@@ -271,7 +271,7 @@ impl CountedMediator {
         let _for_proof = self.mediator.journal();
         let handed = match self.mediator.status(sub) {
             Ok(status) => status.handed,
-            Err(_) => return Err(Fault::UnknownSub),
+            Err(_) => return Err(MediatorFault::UnknownSub),
         };
         self.mediator.unsubscribe(sub)?;
         self.gone += handed;
@@ -282,7 +282,7 @@ impl CountedMediator {
     ///
     /// # Errors
     /// Those of [`Mediator::advance`].
-    pub fn advance(&mut self, t: u64) -> Result<(), Fault>
+    pub fn advance(&mut self, t: u64) -> Result<(), MediatorFault>
         ensures ok { OnOk result (Advances self.old.core t self.new.core) }
         ensures counts { OnOk result (Counts self.old 1 0 0 self.new) }
         ensures unchanged { OnErr result (self.new ≡ self.old) }
@@ -296,9 +296,14 @@ impl CountedMediator {
     /// `target`, and counts its records as handed out; or answers `None` where nothing waits.
     ///
     /// # Errors
-    /// [`Fault::UnknownSub`] where the subscription isn't live; [`Fault::HandedFull`] where the count has no room for
-    /// all that waits for it; or [`Fault::OutOfMemory`]. Nothing has changed then.
-    pub fn pull(&mut self, sub: SubId, now: u32, target: u16) -> Result<Option<Handed>, Fault>
+    /// [`MediatorFault::UnknownSub`] where the subscription isn't live; [`MediatorFault::HandedFull`] where the count has no room for
+    /// all that waits for it; or [`MediatorFault::OutOfMemory`]. Nothing has changed then.
+    pub fn pull(
+        &mut self,
+        sub: SubId,
+        now: u32,
+        target: u16,
+    ) -> Result<Option<Handed>, MediatorFault>
         ensures ok { IfOk result (λ answer. HandsOut self.old sub.0 now target answer self.new) }
         ensures unchanged { OnErr result (self.new ≡ self.old) }
         ensures err { IfErr result (λ e. RefusesHanding e self.old sub.0) }
@@ -306,10 +311,10 @@ impl CountedMediator {
         let _for_proof = self.mediator.journal();
         let before = match self.mediator.status(sub) {
             Ok(before) => before,
-            Err(_) => return Err(Fault::UnknownSub),
+            Err(_) => return Err(MediatorFault::UnknownSub),
         };
         if before.queued as u64 > u64::MAX - self.handed {
-            return Err(Fault::HandedFull);
+            return Err(MediatorFault::HandedFull);
         }
         let message = match self.mediator.pull(sub, now, target) {
             Ok(message) => message,
@@ -317,7 +322,7 @@ impl CountedMediator {
         };
         let after = match self.mediator.status(sub) {
             Ok(after) => after,
-            Err(_) => return Err(Fault::UnknownSub),
+            Err(_) => return Err(MediatorFault::UnknownSub),
         };
         let records = after.handed - before.handed;
         self.handed += records;
@@ -330,8 +335,8 @@ impl CountedMediator {
     /// How the live subscription with the number `sub` stands.
     ///
     /// # Errors
-    /// [`Fault::UnknownSub`] where no subscription with this number is live.
-    pub fn status(&self, sub: SubId) -> Result<Status, Fault>
+    /// [`MediatorFault::UnknownSub`] where no subscription with this number is live.
+    pub fn status(&self, sub: SubId) -> Result<Status, MediatorFault>
         ensures ok { IfOk result (λ status. IsStatusOf self.now.core sub.0 status) }
         ensures err { OnErr result (is_live sub.0 self.now.core.history ≡ false) }
         ensures fault { IfErr result (λ e. e ≡ UnknownSub) }

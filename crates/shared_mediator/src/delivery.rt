@@ -11,7 +11,7 @@ use crate::ledgers::{EntryLedger, RecordLedger};
 use crate::locked::LockedMediator;
 use crate::shared::SharedMediator;
 use mediator_calls::SubId;
-use mediator_state::Fault;
+use mediator_state::Fault as MediatorFault;
 use std::alloc::Global;
 use std::marker::Model;
 use std::sync::Wait;
@@ -91,15 +91,15 @@ impl<H: RecordLedger> DeliveryHandle<H> {
     /// waits for the lock by `rt`.
     ///
     /// # Errors
-    /// [`Fault::UnknownSub`] where the subscription isn't live; [`Fault::HandedFull`] where the count of records handed
-    /// out has no room for all that waits; or [`Fault::OutOfMemory`]. Nothing has changed then.
+    /// [`MediatorFault::UnknownSub`] where the subscription isn't live; [`MediatorFault::HandedFull`] where the count of records handed
+    /// out has no room for all that waits; or [`MediatorFault::OutOfMemory`]. Nothing has changed then.
     pub fn pull<E: EntryLedger>(
         &mut self,
         rt: &impl Wait,
         shared: &SharedMediator<E, H>,
         now: u32,
         target: u16,
-    ) -> Result<Option<&Handed>, Fault>
+    ) -> Result<Option<&Handed>, MediatorFault>
         // What the handle keeps, beside what it lends.
         ensures* leaves { sem 𝓛 (Leaves (the_row H.row (record { all = H.all }) H.Ledger)
             self.entry (LendsHanded now target self.old result)) }
@@ -122,7 +122,7 @@ impl<H: RecordLedger> DeliveryHandle<H> {
         now: u32,
         target: u16,
         most: u64,
-    ) -> Result<&[Handed], Fault>
+    ) -> Result<&[Handed], MediatorFault>
         ensures most { IfOk result (λ messages. length messages.now ≤ most) }
         // What the handle keeps, beside what it lends.
         ensures* leaves { sem 𝓛 (Leaves (the_row H.row (record { all = H.all }) H.Ledger)
@@ -152,13 +152,13 @@ impl<H: RecordLedger> DeliveryHandle<H> {
         locked: &mut LockedMediator<E, H>,
         now: u32,
         target: u16,
-    ) -> Result<Option<&Handed>, Fault>
+    ) -> Result<Option<&Handed>, MediatorFault>
         ensures* leaves { sem 𝓛 (Leaves (the_row H.row (record { all = H.all }) H.Ledger)
             self.entry (LendsHanded now target self.old result)) }
         ensures refuses { IfErr result MayRefusePull }
     {
         if self.kept.reserve(1).is_err() {
-            return Err(Fault::OutOfMemory);
+            return Err(MediatorFault::OutOfMemory);
         }
         match locked.pull(&mut self.share, self.sub, now, target)? {
             Some(handed) => {

@@ -11,7 +11,7 @@ use crate::shared::SharedMediator;
 use bytes::Bytes;
 use event_journal::Entry;
 use mediator_calls::SessionId;
-use mediator_state::{Fault, Receipt};
+use mediator_state::{Fault as MediatorFault, Receipt};
 use prepared_message::{JudgedAhead, Prepared, Snapshot};
 use std::alloc::Global;
 use std::marker::Model;
@@ -88,13 +88,13 @@ impl<E: EntryLedger> ExporterHandle<E> {
     /// that wait.
     ///
     /// # Errors
-    /// Those of `Mediator::receive`, and [`Fault::OutOfMemory`] for the receipt. Nothing has changed then.
+    /// Those of `Mediator::receive`, and [`MediatorFault::OutOfMemory`] for the receipt. Nothing has changed then.
     pub fn offer<H: RecordLedger>(
         &mut self,
         rt: &impl Wait,
         shared: &SharedMediator<E, H>,
         message: Bytes,
-    ) -> Result<Receipt, Fault>
+    ) -> Result<Receipt, MediatorFault>
         ensures kept { IfOk result (λ receipt.
             self.new.kept ≡ self.old.kept ++ record {
               position = receipt.position;
@@ -119,7 +119,7 @@ impl<E: EntryLedger> ExporterHandle<E> {
         rt: &impl Wait,
         shared: &SharedMediator<E, H>,
         message: Bytes,
-    ) -> Result<Receipt, Fault>
+    ) -> Result<Receipt, MediatorFault>
         ensures kept { IfOk result (λ receipt.
             self.new.kept ≡ self.old.kept ++ record {
               position = receipt.position;
@@ -144,7 +144,7 @@ impl<E: EntryLedger> ExporterHandle<E> {
         shared: &SharedMediator<E, H>,
         message: Bytes,
         ahead: Option<JudgedAhead>,
-    ) -> Result<Receipt, Fault>
+    ) -> Result<Receipt, MediatorFault>
         ensures kept { IfOk result (λ receipt.
             self.new.kept ≡ self.old.kept ++ record {
               position = receipt.position;
@@ -176,12 +176,12 @@ impl<E: EntryLedger> ExporterHandle<E> {
     /// by `rt`.
     ///
     /// # Errors
-    /// [`Fault::UnknownSession`] where the session was closed; or [`Fault::OutOfMemory`].
+    /// [`MediatorFault::UnknownSession`] where the session was closed; or [`MediatorFault::OutOfMemory`].
     pub fn snapshot<H: RecordLedger>(
         &self,
         rt: &impl Wait,
         shared: &SharedMediator<E, H>,
-    ) -> Result<Snapshot, Fault>
+    ) -> Result<Snapshot, MediatorFault>
         ensures refuses { IfErr result MayRefuseOffer }
     {
         shared.locked(rt).snapshot(self.session)
@@ -192,14 +192,14 @@ impl<E: EntryLedger> ExporterHandle<E> {
     /// the deliveries that wait.
     ///
     /// # Errors
-    /// Those of `Mediator::receive_prepared`, and [`Fault::OutOfMemory`] for the receipt. Nothing has changed then, and
+    /// Those of `Mediator::receive_prepared`, and [`MediatorFault::OutOfMemory`] for the receipt. Nothing has changed then, and
     /// the message is handed back.
     pub fn offer_prepared<H: RecordLedger>(
         &mut self,
         rt: &impl Wait,
         shared: &SharedMediator<E, H>,
         prepared: Prepared,
-    ) -> Result<Receipt, (Fault, Prepared)>
+    ) -> Result<Receipt, (MediatorFault, Prepared)>
         ensures kept { IfOk result (λ receipt.
             self.new.kept ≡ self.old.kept ++ record {
               position = receipt.position;
@@ -225,7 +225,7 @@ impl<E: EntryLedger> ExporterHandle<E> {
         rt: &impl Wait,
         shared: &SharedMediator<E, H>,
         prepared: Prepared,
-    ) -> Result<Receipt, (Fault, Prepared)>
+    ) -> Result<Receipt, (MediatorFault, Prepared)>
         ensures kept { IfOk result (λ receipt.
             self.new.kept ≡ self.old.kept ++ record {
               position = receipt.position;
@@ -238,10 +238,10 @@ impl<E: EntryLedger> ExporterHandle<E> {
     {
         let octets = match prepared.message().clone() {
             Ok(octets) => octets,
-            Err(_) => return Err((Fault::OutOfMemory, prepared)),
+            Err(_) => return Err((MediatorFault::OutOfMemory, prepared)),
         };
         if self.kept.reserve(1).is_err() {
-            return Err((Fault::OutOfMemory, prepared));
+            return Err((MediatorFault::OutOfMemory, prepared));
         }
         let number = self.kept.len() as u64;
         let receipt = shared
@@ -266,7 +266,7 @@ impl<E: EntryLedger> ExporterHandle<E> {
         &self,
         rt: &impl Wait,
         shared: &SharedMediator<E, H>,
-    ) -> Result<(), Fault> {
+    ) -> Result<(), MediatorFault> {
         shared.locked(rt).close(self.session)
     }
 

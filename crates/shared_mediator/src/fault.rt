@@ -6,7 +6,7 @@ use std::fmt::{self, Display, Formatter, Write};
 
 /// Why a mediator isn't given back. A fault's text is its name.
 #[derive(Clone, Copy, Debug, PartialEq, Eq)]
-pub enum CloseFault {
+pub enum Fault {
     /// A handle that was made isn't among those handed in.
     MissingHandle,
     /// What the handle numbered `handle` keeps a receipt of at `position` doesn't stand in the journal there, is from
@@ -16,9 +16,9 @@ pub enum CloseFault {
     OutOfMemory,
 }
 
-impl Error for CloseFault {}
+impl Error for Fault {}
 
-impl Display for CloseFault {
+impl Display for Fault {
     ghost use Rattle.std.specs.Prelude.{Option, Some};
     ghost use Rattle.shared_mediator.specs.FaultTexts.{text_of_close};
 
@@ -26,20 +26,20 @@ impl Display for CloseFault {
 
     fn fmt<W: Write>(&self, f: &mut Formatter<W>) -> fmt::Result {
         f.write_str(match self {
-            CloseFault::MissingHandle => "MissingHandle",
-            CloseFault::Mismatch { .. } => "Mismatch",
-            CloseFault::OutOfMemory => "OutOfMemory",
+            Fault::MissingHandle => "MissingHandle",
+            Fault::Mismatch { .. } => "Mismatch",
+            Fault::OutOfMemory => "OutOfMemory",
         })
     }
 }
 
-impl From<AllocError> for CloseFault {
+impl From<AllocError> for Fault {
     ghost use Rattle.std.specs.Prelude.{◌≡◌};
-    ghost use Rattle.shared_mediator.specs.declared.fault.CloseFault.TheVariants.{OutOfMemory};
+    ghost use Rattle.shared_mediator.specs.declared.fault.Fault.TheVariants.{OutOfMemory};
 
     ghost from_gives = { λ _ e. e ≡ OutOfMemory };
 
-    fn from(_e: AllocError) -> CloseFault {
-        CloseFault::OutOfMemory
+    fn from(_e: AllocError) -> Fault {
+        Fault::OutOfMemory
     }
 }

@@ -9,7 +9,7 @@
 //! - `locked`: what lies under the lock, and what each call does there. `ledgers`: [`EntryLedger`] and [`RecordLedger`].
 //! - `counted`: [`CountedMediator`], which counts what it takes in and hands out, so that those who called it can add up their
 //!   receipts. `handed`: [`Handed`], a message that was handed out, with its number of records.
-//! - `fault`: [`CloseFault`]; the other refusals are [`mediator_state::Fault`]. `fill`: [`Fill`], how full the journal and the
+//! - `fault`: [`Fault`]; the other refusals are [`mediator_state::Fault`]. `fill`: [`Fill`], how full the journal and the
 //!   audit are.
 //! - `laws`: that a full count is told.
 //!
@@ -70,7 +70,7 @@ pub use closing::Closed;
 pub use counted::CountedMediator;
 pub use delivery::{DeliveryHandle, Waited};
 pub use exporter::ExporterHandle;
-pub use fault::CloseFault;
+pub use fault::Fault;
 pub use fill::Fill;
 pub use handed::Handed;
 pub use kept::KeptEntry;

@@ -19,7 +19,7 @@ use crate::ledgers::{EntryLedger, RecordLedger};
 use bytes::Bytes;
 use disclosure_audit::AuditEntry;
 use mediator_calls::{Mediator, SessionId, SubId};
-use mediator_state::{Fault, Receipt, Status};
+use mediator_state::{Fault as MediatorFault, Receipt, Status};
 use mediator_tables::Share as Given;
 use prepared_message::{JudgedAhead, Prepared, Snapshot};
 use std::alloc::AllocError;
@@ -119,8 +119,8 @@ impl<E: EntryLedger, H: RecordLedger> LockedMediator<E, H> {
     /// Opens a session, with a share of the ledger of entries for its exporter.
     ///
     /// # Errors
-    /// [`Fault::NoHandle`] where as many exporters were made as there may be; or those of [`CountedMediator::open`].
-    pub(crate) fn exporter(&mut self) -> Result<OpenedSession<E>, Fault>
+    /// [`MediatorFault::NoHandle`] where as many exporters were made as there may be; or those of [`CountedMediator::open`].
+    pub(crate) fn exporter(&mut self) -> Result<OpenedSession<E>, MediatorFault>
         // A session is opened, and one handle more is made, with a share that counts nothing.
         ensures ok { IfOk result (λ opened.
             Opens self.old.counted.core opened.session.0 self.new.counted.core) }
@@ -134,7 +134,7 @@ impl<E: EntryLedger, H: RecordLedger> LockedMediator<E, H> {
         ensures err { IfErr result (λ e. RefusesExporter e self.old) }
     {
         if self.exporters == self.handles {
-            return Err(Fault::NoHandle);
+            return Err(MediatorFault::NoHandle);
         }
         let position = self.counted.mediator().journal().len();
         let session = match self.counted.open() {
@@ -152,9 +152,9 @@ impl<E: EntryLedger, H: RecordLedger> LockedMediator<E, H> {
     /// A share of the ledger of records for the delivery to the live subscription with the number `sub`.
     ///
     /// # Errors
-    /// [`Fault::UnknownSub`] where it isn't live; or [`Fault::NoHandle`] where as many deliveries were made as there may
+    /// [`MediatorFault::UnknownSub`] where it isn't live; or [`MediatorFault::NoHandle`] where as many deliveries were made as there may
     /// be.
-    pub(crate) fn delivery(&mut self, sub: SubId) -> Result<Share<H>, Fault>
+    pub(crate) fn delivery(&mut self, sub: SubId) -> Result<Share<H>, MediatorFault>
         // One handle more is made, with a share that counts nothing.
         ensures live { OnOk result (is_live sub.0 self.old.counted.core.history ≡ true) }
         ensures counts { OnOk result (Makes 0 1 0 self.old self.new) }
@@ -164,10 +164,10 @@ impl<E: EntryLedger, H: RecordLedger> LockedMediator<E, H> {
         ensures err { IfErr result (λ e. RefusesDelivery e self.old sub.0) }
     {
         if self.counted.status(sub).is_err() {
-            return Err(Fault::UnknownSub);
+            return Err(MediatorFault::UnknownSub);
         }
         if self.deliveries == self.handles {
-            return Err(Fault::NoHandle);
+            return Err(MediatorFault::NoHandle);
         }
         self.deliveries += 1;
         Ok(self.handed_left.split_off(1, 0))
@@ -176,15 +176,15 @@ impl<E: EntryLedger, H: RecordLedger> LockedMediator<E, H> {
     /// A share of the ledger of entries for an administrator.
     ///
     /// # Errors
-    /// [`Fault::NoHandle`] where as many administrators were made as there may be.
-    pub(crate) fn admin(&mut self) -> Result<Share<E>, Fault>
+    /// [`MediatorFault::NoHandle`] where as many administrators were made as there may be.
+    pub(crate) fn admin(&mut self) -> Result<Share<E>, MediatorFault>
         ensures counts { OnOk result (Makes 0 0 1 self.old self.new) }
         ensures share { IfOk result (λ share. (share.parts ≡ 1) × (share.amount ≡ 0)) }
         ensures unchanged { OnErr result (self.new ≡ self.old) }
         ensures err { IfErr result (λ e. RefusesAdmin e self.old) }
     {
         if self.admins == self.handles {
-            return Err(Fault::NoHandle);
+            return Err(MediatorFault::NoHandle);
         }
         self.admins += 1;
         Ok(self.entries_left.split_off(1, 0))
@@ -202,7 +202,7 @@ impl<E: EntryLedger, H: RecordLedger> LockedMediator<E, H> {
         number: u64,
         message: Bytes,
         ahead: Option<JudgedAhead>,
-    ) -> Result<Receipt, Fault>
+    ) -> Result<Receipt, MediatorFault>
         requires part { 0 < share.old.parts }
         // What the counted mediator's call does, with one entry more on the books and in the share.
         ensures ok { IfOk result (λ receipt.
@@ -229,7 +229,7 @@ impl<E: EntryLedger, H: RecordLedger> LockedMediator<E, H> {
     ///
     /// # Errors
     /// Those of [`CountedMediator::snapshot`].
-    pub(crate) fn snapshot(&mut self, session: SessionId) -> Result<Snapshot, Fault>
+    pub(crate) fn snapshot(&mut self, session: SessionId) -> Result<Snapshot, MediatorFault>
         ensures ok { IfOk result (IsSnapshot self.old.counted.core.history session.0) }
         ensures unchanged { self.new ≡ self.old }
         ensures err { IfErr result (λ e.
@@ -249,7 +249,7 @@ impl<E: EntryLedger, H: RecordLedger> LockedMediator<E, H> {
         session: SessionId,
         number: u64,
         prepared: Prepared,
-    ) -> Result<Receipt, (Fault, Prepared)>
+    ) -> Result<Receipt, (MediatorFault, Prepared)>
         requires part { 0 < share.old.parts }
         // What the counted mediator's call does, with one entry more on the books and in the share.
         ensures ok { IfOk result (λ receipt. Receives self.old.counted.core session.0 number
@@ -277,7 +277,7 @@ impl<E: EntryLedger, H: RecordLedger> LockedMediator<E, H> {
     ///
     /// # Errors
     /// Those of [`CountedMediator::close`].
-    pub(crate) fn close(&mut self, session: SessionId) -> Result<(), Fault>
+    pub(crate) fn close(&mut self, session: SessionId) -> Result<(), MediatorFault>
         ensures ok { OnOk result (Closes self.old.counted.core session.0 self.new.counted.core) }
         ensures counts { OnOk result (Adds 0 0 0 self.old self.new) }
         ensures noted { IfErr result (λ e. self.new ≡ with_refusal (is_full e) self.old) }
@@ -301,7 +301,7 @@ impl<E: EntryLedger, H: RecordLedger> LockedMediator<E, H> {
         sub: SubId,
         now: u32,
         target: u16,
-    ) -> Result<Option<Handed>, Fault>
+    ) -> Result<Option<Handed>, MediatorFault>
         requires part { 0 < share.old.parts }
         // What the counted mediator's call does, with the records of the message on the books and in the share.
         ensures sound { IsSoundMediation self.old.counted.core }
@@ -344,7 +344,11 @@ impl<E: EntryLedger, H: RecordLedger> LockedMediator<E, H> {
     ///
     /// # Errors
     /// Those of [`CountedMediator::edit`].
-    pub(crate) fn edit(&mut self, share: &mut Share<E>, text: &str) -> Result<Accepted, Fault>
+    pub(crate) fn edit(
+        &mut self,
+        share: &mut Share<E>,
+        text: &str,
+    ) -> Result<Accepted, MediatorFault>
         requires part { 0 < share.old.parts }
         // What the counted mediator's call does, with one entry more on the books and in the share.
         ensures ok { IfOk result (λ accepted.
@@ -375,7 +379,11 @@ impl<E: EntryLedger, H: RecordLedger> LockedMediator<E, H> {
     ///
     /// # Errors
     /// Those of [`CountedMediator::subscribe`].
-    pub(crate) fn subscribe(&mut self, share: &mut Share<E>, name: &str) -> Result<Accepted, Fault>
+    pub(crate) fn subscribe(
+        &mut self,
+        share: &mut Share<E>,
+        name: &str,
+    ) -> Result<Accepted, MediatorFault>
         requires part { 0 < share.old.parts }
         // What the counted mediator's call does, with one entry more on the books and in the share.
         ensures ok { IfOk result (λ accepted.
@@ -406,7 +414,11 @@ impl<E: EntryLedger, H: RecordLedger> LockedMediator<E, H> {
     ///
     /// # Errors
     /// Those of [`CountedMediator::unsubscribe`].
-    pub(crate) fn unsubscribe(&mut self, share: &mut Share<E>, sub: SubId) -> Result<u64, Fault>
+    pub(crate) fn unsubscribe(
+        &mut self,
+        share: &mut Share<E>,
+        sub: SubId,
+    ) -> Result<u64, MediatorFault>
         requires part { 0 < share.old.parts }
         // What the counted mediator's call does, with one entry more on the books and in the share.
         ensures ok { OnOk result (Unsubscribes self.old.counted.core sub.0 self.new.counted.core) }
@@ -437,7 +449,7 @@ impl<E: EntryLedger, H: RecordLedger> LockedMediator<E, H> {
     ///
     /// # Errors
     /// Those of [`CountedMediator::advance`].
-    pub(crate) fn advance(&mut self, share: &mut Share<E>, t: u64) -> Result<u64, Fault>
+    pub(crate) fn advance(&mut self, share: &mut Share<E>, t: u64) -> Result<u64, MediatorFault>
         requires part { 0 < share.old.parts }
         // What the counted mediator's call does, with one entry more on the books and in the share.
         ensures ok { OnOk result (Advances self.old.counted.core t self.new.counted.core) }
@@ -477,8 +489,8 @@ impl<E: EntryLedger, H: RecordLedger> LockedMediator<E, H> {
     /// How the live subscription with the number `sub` stands.
     ///
     /// # Errors
-    /// [`Fault::UnknownSub`] where none with this number is live.
-    pub(crate) fn status(&self, sub: SubId) -> Result<Status, Fault>
+    /// [`MediatorFault::UnknownSub`] where none with this number is live.
+    pub(crate) fn status(&self, sub: SubId) -> Result<Status, MediatorFault>
         ensures ok { IfOk result (λ status. IsStatusOf self.now.counted.core sub.0 status) }
         ensures err { OnErr result (is_live sub.0 self.now.counted.core.history ≡ false) }
         ensures fault { IfErr result (λ e. e ≡ UnknownSub) }
@@ -525,7 +537,7 @@ impl<E: EntryLedger, H: RecordLedger> LockedMediator<E, H> {
     }
 
     /// Notes `fault`, a refusal of the mediator, where it is that the journal is full; and hands it on.
-    fn note(&mut self, fault: Fault) -> Fault
+    fn note(&mut self, fault: MediatorFault) -> MediatorFault
         ensures same { result ≡ fault }
         ensures noted { self.new ≡ with_refusal (is_full fault) self.old }
     {
@@ -535,8 +547,8 @@ impl<E: EntryLedger, H: RecordLedger> LockedMediator<E, H> {
 }
 
 /// Whether `fault` is that the journal is full.
-fn is_full(fault: Fault) -> bool
+fn is_full(fault: MediatorFault) -> bool
     ensures { result ≡ is_full fault }
 {
-    matches!(fault, Fault::JournalFull)
+    matches!(fault, MediatorFault::JournalFull)
 }

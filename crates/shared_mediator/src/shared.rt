@@ -10,7 +10,7 @@ use crate::fill::Fill;
 use crate::ledgers::{EntryLedger, RecordLedger};
 use crate::locked::LockedMediator;
 use mediator_calls::{Mediator, SubId};
-use mediator_state::{Fault, Status};
+use mediator_state::{Fault as MediatorFault, Status};
 use mediator_tables::Share;
 use std::alloc::Global;
 use std::sync::ledger::Blank;
@@ -91,8 +91,8 @@ impl<E: EntryLedger, H: RecordLedger> SharedMediator<E, H> {
     /// Opens a session of an exporter, and answers its handle. It waits for the lock by `rt`.
     ///
     /// # Errors
-    /// [`Fault::NoHandle`] where as many exporters' handles were made as there may be; or those of `Mediator::open`.
-    pub fn exporter(&self, rt: &impl Wait) -> Result<ExporterHandle<E>, Fault>
+    /// [`MediatorFault::NoHandle`] where as many exporters' handles were made as there may be; or those of `Mediator::open`.
+    pub fn exporter(&self, rt: &impl Wait) -> Result<ExporterHandle<E>, MediatorFault>
         ensures { IfOk result (λ handle. handle.kept ≡ []) }
     {
         let opened = self.mediator.lock(rt).exporter()?;
@@ -102,9 +102,9 @@ impl<E: EntryLedger, H: RecordLedger> SharedMediator<E, H> {
     /// A handle for the delivery to the live subscription with the number `sub`. It waits for the lock by `rt`.
     ///
     /// # Errors
-    /// [`Fault::UnknownSub`] where no subscription with this number is live; or [`Fault::NoHandle`] where as many
+    /// [`MediatorFault::UnknownSub`] where no subscription with this number is live; or [`MediatorFault::NoHandle`] where as many
     /// deliveries' handles were made as there may be.
-    pub fn delivery(&self, rt: &impl Wait, sub: SubId) -> Result<DeliveryHandle<H>, Fault>
+    pub fn delivery(&self, rt: &impl Wait, sub: SubId) -> Result<DeliveryHandle<H>, MediatorFault>
         ensures sub { IfOk result (λ handle. handle.sub ≡ sub.0) }
         ensures none { IfOk result (λ handle. handle.kept ≡ []) }
     {
@@ -146,8 +146,8 @@ impl<E: EntryLedger, H: RecordLedger> SharedMediator<E, H> {
     /// How the live subscription with the number `sub` stands. It waits for the lock by `rt`.
     ///
     /// # Errors
-    /// [`Fault::UnknownSub`] where no subscription with this number is live.
-    pub fn status(&self, rt: &impl Wait, sub: SubId) -> Result<Status, Fault>
+    /// [`MediatorFault::UnknownSub`] where no subscription with this number is live.
+    pub fn status(&self, rt: &impl Wait, sub: SubId) -> Result<Status, MediatorFault>
         ensures { IfErr result (λ e. e ≡ UnknownSub) }
     {
         self.locked(rt).status(sub)
@@ -167,8 +167,8 @@ impl<E: EntryLedger, H: RecordLedger> SharedMediator<E, H> {
     /// A handle for an administrator. It waits for the lock by `rt`.
     ///
     /// # Errors
-    /// [`Fault::NoHandle`] where as many administrators' handles were made as there may be.
-    pub fn admin(&self, rt: &impl Wait) -> Result<AdminHandle<E>, Fault>
+    /// [`MediatorFault::NoHandle`] where as many administrators' handles were made as there may be.
+    pub fn admin(&self, rt: &impl Wait) -> Result<AdminHandle<E>, MediatorFault>
         ensures { IfOk result (λ handle. handle ≡ []) }
     {
         let share = self.mediator.lock(rt).admin()?;

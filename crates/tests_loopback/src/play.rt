@@ -4,7 +4,7 @@
 use crate::peers::{reach, send, take_all};
 use crate::stage::{Scene, Stage, run, set_up};
 use crate::world::{Left, Time, World};
-use mediator_server::{ListenFault, RunPlan};
+use mediator_server::{Fault as ListenFault, RunPlan};
 use shared_mediator::Closed;
 use std::alloc::{AllocError, Global};
 use std::net::{Net, Shutdown, SocketAddr, TcpListener, TcpStream};

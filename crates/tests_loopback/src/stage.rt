@@ -2,7 +2,7 @@
 
 use log::Log;
 use mediator_calls::{Limits, Mediator};
-use mediator_server::{Collector, Ended, ListenFault, RunPlan, listen};
+use mediator_server::{Collector, Ended, Fault as ListenFault, RunPlan, listen};
 use mediator_state::Fault;
 use shared_mediator::Closed;
 use std::alloc::{AllocError, Global};

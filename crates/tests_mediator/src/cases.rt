@@ -7,9 +7,9 @@ use crate::octets::{
     TWO_DISCLOSED, TWO_RECORDS, VERSION_NINE, WITHDRAWN,
 };
 use ipfix_message::Fault as DecodeError;
-use ipfix_session::{Gap, ReadError, Skips};
+use ipfix_session::{Fault as ReadError, Gap, Skips};
 use mediator_core::{Fault, Limits, Receipt};
-use policy_text::{FaultKind, PolicyFault};
+use policy_text::{Fault as PolicyFault, FaultKind};
 
 /// A call, and what it must answer.
 pub(crate) enum Step {

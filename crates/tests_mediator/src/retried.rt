@@ -4,7 +4,7 @@ use crate::calls::{NOW, copy};
 use bytes::Bytes;
 use disclosure_audit::AuditEntry;
 use mediator_core::{Fault, Limits, Mediator, Receipt, SessionId, SubId};
-use prepared_message::{PrepareFault, Prepared, Snapshot};
+use prepared_message::{Fault as PrepareFault, Prepared, Snapshot};
 use std::alloc::{AllocError, Global};
 
 pub(crate) fn begin(alloc: Global, limits: Limits) -> Result<Mediator, Fault> {

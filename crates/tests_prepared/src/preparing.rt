@@ -3,7 +3,7 @@
 use bytes::Bytes;
 use ipfix_session::{Read, Session};
 use mediator_shares::{InForce, Terms};
-use prepared_message::{PrepareFault, Prepared, Snapshot};
+use prepared_message::{Fault as PrepareFault, Prepared, Snapshot};
 use std::alloc::{AllocError, Global};
 use std::fmt::Display;
 use std::sync::Arc;

@@ -8,7 +8,7 @@ use crate::offline::{ONE_RECORD, REMOVE};
 use bytes::Bytes;
 use disclosure_audit::{AuditEntry, RemovedField, What};
 use event_journal::Journal;
-use history_verify::{Count, Verified, VerifyFault, verify};
+use history_verify::{Count, Fault as VerifyFault, Verified, verify};
 use mediator_core::{Call, Fault, Finished, Limits, Reply, SessionId, Transcript, run};
 use mediator_legal_runs::{runs_are_legal, verify_finished};
 use std::alloc::{AllocError, Global};

@@ -1,9 +1,9 @@
 //! Streams that are filtered with a bound on reads, and on devices of which each call fails; and the names of faults. A run that is
 //! refused memory has written a front of what is due.
 use ipfix_reader::FramingFault;
-use mediator_offline::{Device, OfflineFault, OfflineJob, OfflineReport, offline};
+use mediator_offline::{Device, Fault as OfflineFault, OfflineJob, OfflineReport, offline};
 use mediator_state::Fault;
-use policy_text::{FaultKind, PolicyFault};
+use policy_text::{Fault as PolicyFault, FaultKind};
 use std::alloc::{AllocError, Global};
 use std::fmt::Display;
 use std::io::ErrorKind::{BrokenPipe, ConnectionReset};

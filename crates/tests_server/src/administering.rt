@@ -7,7 +7,7 @@ use crate::returned_handles::{
 use crate::server::Told;
 use crate::stage::{Case, ReturnedHandles, play};
 use ipfix_reader::FramingFault;
-use mediator_connections::{ServeFault, serve_admin};
+use mediator_connections::{Fault as ServeFault, serve_admin};
 use mediator_core::SubId;
 use octet_io::Device;
 use shared_mediator::{

@@ -5,7 +5,7 @@ use crate::returned_handles::{
     Bounds, ENOUGH, PASS, ROOMY, SMALL, begin, limits_of, offer_all, returned_handles,
 };
 use crate::stage::{Case, ReturnedHandles, play};
-use mediator_connections::{Clock, ServeFault, deliver};
+use mediator_connections::{Clock, Fault as ServeFault, deliver};
 use mediator_core::{Fault, SubId};
 use octet_io::Device;
 use shared_mediator::{

@@ -6,11 +6,11 @@ use crate::sharing::{Case, ReturnedHandles, one, share};
 use bytes::Bytes;
 use disclosure_audit::line;
 use ipfix_message::Fault as DecodeError;
-use ipfix_session::{ReadError, Skips};
+use ipfix_session::{Fault as ReadError, Skips};
 use mediator_core::{Fault, Finished, Receipt, Status, SubId};
-use policy_text::{FaultKind, PolicyFault};
+use policy_text::{Fault as PolicyFault, FaultKind};
 use shared_mediator::{
-    AdminHandle, CloseFault, DeliveryHandle, EntryLedger, ExporterHandle, RecordLedger,
+    AdminHandle, DeliveryHandle, EntryLedger, ExporterHandle, Fault as CloseFault, RecordLedger,
     SharedMediator,
 };
 use std::alloc::{AllocError, Global};

@@ -1,6 +1,6 @@
 use Rattle.std.proofs.Common.{ap, ◌∙◌}
 use Rattle.mediator_history.proofs.EntryLaws.{served_is_live}
-use Rattle.mediator_offline.specs.declared.job.OfflineFault.TheVariants.{Mediator}
+use Rattle.mediator_offline.specs.declared.job.Fault.TheVariants.{Mediator}
 use Rattle.mediator_offline.proofs.Receiving.{err_gives, pull_memory}
 use Rattle.mediator_offline.proofs.run.OfflineRun.pull.Goals as goal
 

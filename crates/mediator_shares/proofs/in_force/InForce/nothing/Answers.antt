@@ -3,7 +3,7 @@ use Rattle.std.specs.Prelude.{codes}
 use Rattle.policy_text.specs.Policies.{PolicyMeaning, nothing}
 use Rattle.policy_text.specs.Parsing.{policy_of, read_lines, step, version_of}
 use Rattle.policy_text.specs.Words.{words_of}
-use Rattle.policy_text.specs.declared.fault.PolicyFault.{PolicyFault}
+use Rattle.policy_text.specs.declared.fault.Fault.{Fault as PolicyFault}
 use Rattle.mediator_shares.specs.InForce.{in_force_with}
 use Rattle.mediator_shares.proofs.in_force.InForce.nothing.Goals as goal
 

@@ -1,6 +1,6 @@
 use Rattle.octet_io.specs.Device.{device_failed, device_inner}
 use Rattle.ipmd_commands.proofs.Telling.{blames}
-use Rattle.ipmd_commands.proofs.fault.ProgramFault.report.Goals as goal
+use Rattle.ipmd_commands.proofs.fault.Fault.report.Goals as goal
 
 pub returns-clause-told : goal.returns-clause-told
 returns-clause-told g c =

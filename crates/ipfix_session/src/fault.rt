@@ -6,7 +6,7 @@ use thiserror::Error;
 
 /// Why a session refuses a message: the first fault in reading order.
 #[derive(Clone, Copy, Debug, PartialEq, Eq, Error)]
-pub enum ReadError {
+pub enum Fault {
     /// The octets are no message, for this reason.
     #[error("Malformed")]
     Malformed(DecodeError),
@@ -18,42 +18,42 @@ pub enum ReadError {
     OutOfMemory,
 }
 
-impl From<AllocError> for ReadError {
+impl From<AllocError> for Fault {
     ghost use Rattle.std.specs.Prelude.{◌≡◌};
-    ghost use Rattle.ipfix_session.specs.declared.read_error.ReadError.TheVariants.{OutOfMemory};
+    ghost use Rattle.ipfix_session.specs.declared.fault.Fault.TheVariants.{OutOfMemory};
 
     ghost from_gives = { λ _ e. e ≡ OutOfMemory };
 
-    fn from(_e: AllocError) -> ReadError {
-        ReadError::OutOfMemory
+    fn from(_e: AllocError) -> Fault {
+        Fault::OutOfMemory
     }
 }
 
-impl<T: Drop> From<AllocFailed<T>> for ReadError {
+impl<T: Drop> From<AllocFailed<T>> for Fault {
     ghost use Rattle.std.specs.Prelude.{◌≡◌};
-    ghost use Rattle.ipfix_session.specs.declared.read_error.ReadError.TheVariants.{OutOfMemory};
+    ghost use Rattle.ipfix_session.specs.declared.fault.Fault.TheVariants.{OutOfMemory};
 
     ghost from_gives = { λ _ e. e ≡ OutOfMemory };
 
-    fn from(_e: AllocFailed<T>) -> ReadError {
-        ReadError::OutOfMemory
+    fn from(_e: AllocFailed<T>) -> Fault {
+        Fault::OutOfMemory
     }
 }
 
-impl From<DecodeError> for ReadError {
+impl From<DecodeError> for Fault {
     ghost use Rattle.std.specs.Prelude.{◌≡◌};
     ghost use Rattle.ipfix_session.specs.Answers.{read_fault};
 
     ghost from_gives = { λ d e. e ≡ read_fault d };
 
-    fn from(fault: DecodeError) -> ReadError {
+    fn from(fault: DecodeError) -> Fault {
         match fault {
-            DecodeError::OutOfMemory => ReadError::OutOfMemory,
+            DecodeError::OutOfMemory => Fault::OutOfMemory,
             DecodeError::ShortHeader
             | DecodeError::BadVersion
             | DecodeError::BadLength
             | DecodeError::BadSetLength
-            | DecodeError::TemplateOverrun => ReadError::Malformed(fault),
+            | DecodeError::TemplateOverrun => Fault::Malformed(fault),
         }
     }
 }
