@@ -19,7 +19,7 @@ use Rattle.replay_text.specs.Grammar.{IsNumberLine}
 use Rattle.replay_text.specs.Lines.{greatest}
 use Rattle.admin_text.specs.declared.command.Command.{Command}
 use Rattle.admin_text.specs.Sayings.{AdminSaying, saying}
-use Rattle.admin_text.specs.Sayings.Saying.{to_edit, to_subscribe, to_unsubscribe, to_advance, to_tell_status, to_drain_audit, to_tell, to_stop}
+use Rattle.admin_text.specs.Sayings.AdminSaying.{to_edit, to_subscribe, to_unsubscribe, to_advance, to_tell_status, to_drain_audit, to_tell, to_stop}
 use Rattle.admin_text.specs.declared.command.Topic.{Topic}
 use Rattle.admin_text.specs.declared.command.Topic.TheVariants as topic
 use Rattle.admin_text.specs.Grammar.{longest_line, longest_policy, most_audit_entries, topic_word, IsSubscribeLine, AsksFor, IsCommandLine, IsNamingLine}

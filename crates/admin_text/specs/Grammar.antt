@@ -4,7 +4,7 @@ use Rattle.std.specs.Prelude.{◌≡◌, ℕ, ◌<◌, ◌≤◌, List, [], ◌�
 use Rattle.replay_text.specs.Grammar.{words_text, IsWord, IsNumberLine}
 use Rattle.replay_text.specs.Lines.{greatest}
 use Rattle.admin_text.specs.Sayings.{AdminSaying}
-use Rattle.admin_text.specs.Sayings.Saying.{to_edit, to_subscribe, to_unsubscribe, to_advance, to_tell_status, to_drain_audit, to_tell, to_stop}
+use Rattle.admin_text.specs.Sayings.AdminSaying.{to_edit, to_subscribe, to_unsubscribe, to_advance, to_tell_status, to_drain_audit, to_tell, to_stop}
 use Rattle.admin_text.specs.declared.command.Topic.{Topic}
 use Rattle.admin_text.specs.declared.command.Topic.TheVariants as topic
 

@@ -8,7 +8,7 @@ use Rattle.flow_prefix.specs.Reading.{cut_at}
 use Rattle.replay_text.specs.Lines.{greatest}
 use Rattle.admin_text.specs.Grammar.{longest_line, longest_policy, most_audit_entries}
 use Rattle.admin_text.specs.Sayings.{AdminSaying}
-use Rattle.admin_text.specs.Sayings.Saying.{to_edit, to_subscribe, to_unsubscribe, to_advance, to_tell_status, to_drain_audit, to_tell, to_stop}
+use Rattle.admin_text.specs.Sayings.AdminSaying.{to_edit, to_subscribe, to_unsubscribe, to_advance, to_tell_status, to_drain_audit, to_tell, to_stop}
 use Rattle.admin_text.specs.declared.command.Topic.TheVariants as topic
 
 -- some octets, none of them a space

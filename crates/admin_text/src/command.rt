@@ -2,7 +2,7 @@
 ghost use Rattle.std.specs.Prelude.{◌≡◌, Some, IfErr, IfOk, IfSome};
 ghost use Rattle.std.specs.Option.{option_map};
 ghost use Rattle.admin_text.specs.Sayings.{AdminSaying, saying};
-ghost use Rattle.admin_text.specs.Sayings.Saying.{to_tell};
+ghost use Rattle.admin_text.specs.Sayings.AdminSaying.{to_tell};
 ghost use Rattle.admin_text.specs.Grammar.{IsCommandLine, IsNamingLine};
 ghost use Rattle.admin_text.specs.Reading.{command_of, command_alone, command_by, edit_of, subscribe_of, unsubscribe_of, advance_of, status_of, audit_of, NamesSubscriber};
 

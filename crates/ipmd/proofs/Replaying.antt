@@ -1,6 +1,7 @@
 -- A list of calls that no mediator is made for, or that isn't answered.
-use Rattle.std.proofs.Common.{◌≡◌, ℕ, List, [], Option, Some, Ok, inl, inr, refl, subst, sym}
-use Rattle.std.specs.Prelude.{IfSome}
+use Rattle.std.proofs.Common.{◌≡◌, ℕ, List, [], Option, Some, Result, Ok, Err, inl, inr, refl, subst, sym}
+use Rattle.std.specs.Prelude.{IfSome, IfErr, OnOk}
+use Rattle.std.specs.Io.KnownBytes.{Appends}
 use Rattle.std.specs.Borrow.{Bor}
 use Rattle.std.proofs.KnownBytes.{Keeps-refl}
 use Rattle.ipmd_command_line.specs.declared.task.ReplayOptions.{ReplayOptions}
@@ -12,8 +13,11 @@ use Rattle.mediator_state.specs.declared.fault.Fault.TheVariants as fault
 use Rattle.mediator_calls.specs.Limited.{RefusesLimits}
 use Rattle.replay_text.specs.declared.call_list.CallList.{CallList}
 use Rattle.replay_text.specs.Lists.{asked_calls, list_of}
+use Rattle.replay_text.specs.Answers.{answers_text}
+use Rattle.mediator_core.specs.declared.transcript.Transcript.{Transcript}
 use Rattle.ipmd_commands.specs.Status.{mediator_fault_of}
-use Rattle.ipmd.specs.Replays.{BeginsToAnswer, RefusesText, RefusesToReplay}
+use Rattle.ipmd_commands.specs.HexText.{WritesSomeOf}
+use Rattle.ipmd.specs.Replays.{BeginsToAnswer, RefusesText, RefusesToReplay, Replays, RunsText}
 
 -- its limits are at fault, or memory ran out
 pub no_run : (text : List ℕ) (list : CallList) (why : Fault) → list_of text ≡ Ok (asked_calls list) → RefusesLimits why list.limits → RefusesText (mediator_fault_of why) text
@@ -35,3 +39,14 @@ no_journal options path e held asked_calls (inr (text, same, (why, is))) = subst
 -- the output failed
 pub no_answer : (options : ReplayOptions) (e : ProgramFault) (held holds : Option (List ℕ)) → FailedAt Output e → BeginsToAnswer held holds → RefusesToReplay options e held holds
 no_answer options e held holds (why, is) begins = subst (λ x. RefusesToReplay options x held holds) (sym is) (inr ((why, refl), begins))
+
+-- the answers were written
+pub answered : {X : Type 0} (r : Result X ProgramFault) (held holds : Option (List ℕ)) (text written : List ℕ) (t : Transcript) → RunsText text t → written ≡ answers_text t.replies.items → OnOk r (Appends held holds written) → OnOk r (Replays held holds)
+answered (Ok x) held holds text written t runs is appends = record { text = text; transcript = t; runs = runs; written = subst (λ w. Appends held holds w) is appends }
+answered (Err e) held holds text written t runs is appends = tt
+
+-- or the output failed behind a front of them
+pub unanswered : {X : Type 0} (r : Result X ProgramFault) (options : ReplayOptions) (held holds : Option (List ℕ)) (text written : List ℕ) (t : Transcript) → RunsText text t → written ≡ answers_text t.replies.items → IfErr r (λ e. FailedAt Output e × WritesSomeOf written held holds) → IfErr r (λ e. RefusesToReplay options e held holds)
+unanswered (Ok x) options held holds text written t runs is fails = tt
+unanswered (Err e) options held holds text written t runs is fails =
+    no_answer options e held holds fails.0 (record { text = text; transcript = t; runs = runs; written = subst (λ w. WritesSomeOf w held holds) is fails.1 })

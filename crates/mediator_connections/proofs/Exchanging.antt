@@ -11,8 +11,9 @@ use Rattle.ipfix_reader.specs.declared.fault.FramingFault.TheVariants as framing
 use Rattle.shared_mediator.specs.declared.kept.KeptEntry.{KeptEntry}
 use Rattle.mediator_history.proofs.HistoryLaws.{flat_map-push}
 use Rattle.mediator_state.specs.declared.fault.Fault.TheVariants as fault
-use Rattle.admin_text.specs.Sayings.{AdminSaying}
-use Rattle.admin_text.specs.Sayings.Saying.{to_edit, to_subscribe, to_unsubscribe, to_advance, to_tell_status, to_drain_audit, to_tell, to_stop}
+use Rattle.admin_text.specs.declared.command.Command.{Command}
+use Rattle.admin_text.specs.Sayings.{AdminSaying, saying}
+use Rattle.admin_text.specs.Sayings.AdminSaying.{to_edit, to_subscribe, to_unsubscribe, to_advance, to_tell_status, to_drain_audit, to_tell, to_stop}
 use Rattle.admin_text.specs.Grammar.{longest_line, IsNamingLine}
 use Rattle.admin_text.specs.Reading.{command_of}
 use Rattle.replay_text.specs.Answers.{refusal_text}
@@ -43,6 +44,15 @@ bad_line (Some to_stop) text old new so = absurd (other so.1)
   where
     other : answer.BadLine ≡ answer.Done → ⊥
     other e = cc
+
+-- a command without a text was answered: nothing is read behind its line
+pub performed : (command : Command) (said : AdminSaying) (reply : Answer) (i : InputState) (given : Option (List ℕ)) (before after : List KeptEntry) → saying command ≡ said → AnswersLine (Some said) [] reply before after
+    → Performs (Some (saying command)) reply i (reader_of given given) i (handle_of before after)
+performed command said reply i given before after is so = record {
+  text = [];
+  handed = hands_out_none i given;
+  answers = subst (λ (s : AdminSaying). AnswersLine (Some s) [] reply before after) (sym is) so;
+}
 
 pub good_line : (read : Option AdminSaying) (text : List ℕ) (reply : Answer) (old new : List KeptEntry) → (reply ≡ answer.BadLine → ⊥) → AnswersLine read text reply old new → IsSome read
 good_line None text reply old new good so = absurd (good so.1)

@@ -10,7 +10,7 @@ use Rattle.ipfix_reader.specs.declared.fault.FramingFault.TheVariants as framing
 use Rattle.mediator_state.specs.declared.fault.Fault.TheVariants as fault
 use Rattle.shared_mediator.specs.Handles.{KeepsEntry}
 use Rattle.admin_text.specs.Sayings.{AdminSaying}
-use Rattle.admin_text.specs.Sayings.Saying.{to_edit, to_subscribe, to_unsubscribe, to_advance, to_tell_status, to_drain_audit, to_tell, to_stop}
+use Rattle.admin_text.specs.Sayings.AdminSaying.{to_edit, to_subscribe, to_unsubscribe, to_advance, to_tell_status, to_drain_audit, to_tell, to_stop}
 use Rattle.admin_text.specs.Reading.{command_of}
 use Rattle.admin_text.specs.Answers.{IsAnswerText}
 use Rattle.admin_text.specs.declared.answer.Answer.{Answer}

@@ -2,7 +2,7 @@
 ghost use Rattle.std.specs.Prelude.{◌≡◌, ◌↔◌, IsTrue, ℕ, List, [], Some, false, IfOk, IfErr, OnOk, OnErr, MatchOption};
 ghost use Rattle.octet_io.specs.Moments.{reader_of, writer_of};
 ghost use Rattle.admin_text.specs.Sayings.{saying};
-ghost use Rattle.admin_text.specs.Sayings.Saying.{to_stop};
+ghost use Rattle.admin_text.specs.Sayings.AdminSaying.{to_stop};
 ghost use Rattle.admin_text.specs.Reading.{command_of};
 ghost use Rattle.admin_text.specs.Answers.{WritesAnswer};
 ghost use Rattle.mediator_connections.specs.Faults.{reader_after, writer_after};

@@ -22,7 +22,7 @@ use Rattle.policy_text.specs.Printing.{version_word, header}
 use Rattle.policy_text.specs.Spelling.{AddsRule, AddsAggregate, AfterLine, AreLines}
 use Rattle.policy_text.specs.LineParts.{IsKindOf, rule_parts, aggregate_parts}
 use Rattle.policy_text.specs.FirstFault.{MayStand, AwaitsAggregate, IsFaultyLine, IsLineFault, SpellSoFar, IsFirstFault}
-use Rattle.policy_text.specs.LineParts.Part.{first_word}
+use Rattle.policy_text.specs.LineParts.LinePart.{first_word}
 use Rattle.policy_text.proofs.ParsingLaws.{read_lines-cons, read_lines-done, read_lines-empty}
 use Rattle.policy_text.proofs.KeptLaws.{IsPolicy-without_lines, with_rule-kept, with_aggregate-kept}
 use Rattle.policy_text.proofs.SpellLaws.{rule_line-found, rule_line-only, line_of-found, line_of-only, line_step-found, numbered-is, header-found}

@@ -22,7 +22,7 @@ use Rattle.policy_text.specs.Lines.{next_of, next, end_of_words, truncate_of, de
 use Rattle.policy_text.specs.Grammar.{IsAggregate, AreAggregates}
 use Rattle.policy_text.specs.Printing.{key_text}
 use Rattle.policy_text.specs.LineParts.{LinePart, parts_after, rule_parts, aggregate_parts}
-use Rattle.policy_text.specs.LineParts.Part.{keyword, who, domain, network, action, known_name, element_or_star, treatment, bits, unused_name, key_list, seconds}
+use Rattle.policy_text.specs.LineParts.LinePart.{keyword, who, domain, network, action, known_name, element_or_star, treatment, bits, unused_name, key_list, seconds}
 use Rattle.policy_text.proofs.KeyStepLaws.{as_key}
 use Rattle.policy_text.proofs.PrintedClassLaws.{or_star-star, new_name-printed, number-printed, interval-printed, bits-printed, key-printed}
 use Rattle.policy_text.proofs.SoundLaws.{rule_action, rule_to, rule_behind_from, rule_from, rule_behind_domain, rule_domain, rule_behind_who, rule_who, aggregate_end, aggregate_grace, aggregate_behind_interval, aggregate_interval, aggregate_behind_key, aggregate_key, aggregate_behind_name}

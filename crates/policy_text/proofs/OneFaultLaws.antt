@@ -21,7 +21,7 @@ use Rattle.policy_text.specs.Printing.{header}
 use Rattle.policy_text.specs.Spelling.{AreLines, AreAllLines, Spells}
 use Rattle.policy_text.specs.LineParts.{LinePart, part_behind, IsKeyFault, IsKindOf}
 use Rattle.policy_text.specs.FirstFault.{MayStand, AwaitsAggregate, Begins, IsKind, IsFaultyLine, IsLineFault, SpellSoFar, IsFaultAt, IsFirstFault, FirstFault, PolicyOrFault}
-use Rattle.policy_text.specs.LineParts.Part.{first_word, keyword, who, domain, network, action, known_name, element_or_star, treatment, bits, unused_name, key_list, seconds, line_end}
+use Rattle.policy_text.specs.LineParts.LinePart.{first_word, keyword, who, domain, network, action, known_name, element_or_star, treatment, bits, unused_name, key_list, seconds, line_end}
 use Rattle.policy_text.proofs.ParsingLaws.{read_lines-cons, read_lines-empty}
 use Rattle.policy_text.proofs.KeptLaws.{IsPolicy-without_lines}
 use Rattle.policy_text.proofs.KeyStepLaws.{IsKeyAfter, as_key, step_by_step}

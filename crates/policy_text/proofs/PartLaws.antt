@@ -2,7 +2,7 @@
 use Rattle.std.proofs.Common.{◌≡◌, List, [], ◌∷◌, refl}
 use Rattle.policy_text.specs.Words.{Word}
 use Rattle.policy_text.specs.LineParts.{LinePart, parts_after, part_behind}
-use Rattle.policy_text.specs.LineParts.Part.{line_end}
+use Rattle.policy_text.specs.LineParts.LinePart.{line_end}
 
 abbrev walked : List LinePart → List Word → LinePart
 walked [] front = line_end

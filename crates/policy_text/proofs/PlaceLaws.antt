@@ -11,7 +11,7 @@ use Rattle.policy_text.specs.Policies.{Aggregate as Definition}
 use Rattle.policy_text.specs.Lines.{next_of, next, after, end_of_words}
 use Rattle.policy_text.specs.Grammar.{IsAggregate}
 use Rattle.policy_text.specs.LineParts.{LinePart, parts_after, IsKindOf, IsKindBehind}
-use Rattle.policy_text.specs.LineParts.Part.{keyword, line_end}
+use Rattle.policy_text.specs.LineParts.LinePart.{keyword, line_end}
 use Rattle.std.proofs.lemmas.Slice.Eq.{bytes_eq-Decides}
 
 -- what reads the words of a line where these aggregates are defined

@@ -12,7 +12,7 @@ use Rattle.policy_text.specs.Printing.{header}
 use Rattle.policy_text.specs.Spelling.{AddsRule, AddsAggregate, AreAllLines, Spells}
 use Rattle.policy_text.specs.Parsing.{policy_of}
 use Rattle.policy_text.specs.LineParts.{IsKindBehind}
-use Rattle.policy_text.specs.LineParts.Part.{first_word}
+use Rattle.policy_text.specs.LineParts.LinePart.{first_word}
 
 -- a line that may stand after the policy so far; before the header it is the header
 abbrev pub MayStand : Option PolicyMeaning → List Word → Type 0
