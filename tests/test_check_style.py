@@ -1,8 +1,13 @@
 """`tools/check_style`: what it finds in sources, definitions and pages that are made up."""
+import pathlib
+import shutil
 import subprocess
+import tempfile
 import unittest
 
-from tool_copies import repository_with
+import program
+
+TOOLS = program.TOP / "tools"
 
 KINDS = ("clause", "arguments", "function", "head", "prose", "number")
 
@@ -71,7 +76,12 @@ class CheckStyle(unittest.TestCase):
 
     def set_up(self):
         """A repository in which nothing is found."""
-        self.top = repository_with(self, "check_style", "check_pages")
+        folder = tempfile.TemporaryDirectory(prefix="ipmd-test-")
+        self.addCleanup(folder.cleanup)
+        self.top = pathlib.Path(folder.name)
+        (self.top / "tools").mkdir()
+        for name in ("check_style", "check_pages"):
+            shutil.copy(TOOLS / name, self.top / "tools")
         (self.top / "crates.txt").write_text("high: low  # above\nlow:\ntests_high: high\n")
         for path, text in RIGHT.items():
             self.write(path, text)

@@ -16,13 +16,13 @@ IsSpecifierOf None octets number len =
 IsSpecifierOf (Some pen) octets number len =
     (a b c : List ℕ) × (octets ≡ a ++ (b ++ c)) × IsNumber 2 a (number + 32768) × IsNumber 2 b len × IsNumber 4 c pen
 
-abbrev pub IsSpecifier : List ℕ → FieldSpec → Type 0
-IsSpecifier octets f = IsSpecifierOf f.element.pen octets f.element.number f.length
+abbrev pub SpellsSpecifier : List ℕ → FieldSpec → Type 0
+SpellsSpecifier octets f = IsSpecifierOf f.element.pen octets f.element.number f.length
 
 -- Field Specifiers, one after another
 abbrev pub AreSpecifiers : List ℕ → List FieldSpec → Type 0
 AreSpecifiers octets [] = octets ≡ []
-AreSpecifiers octets (f ∷ fs) = (text rest : List ℕ) × (octets ≡ text ++ rest) × IsSpecifier text f × AreSpecifiers rest fs
+AreSpecifiers octets (f ∷ fs) = (text rest : List ℕ) × (octets ≡ text ++ rest) × SpellsSpecifier text f × AreSpecifiers rest fs
 
 -- what follows ID and Field Count: for an options template its Scope Field Count, and the Field Specifiers
 abbrev pub IsBody : Bool → List ℕ → Template → Type 0

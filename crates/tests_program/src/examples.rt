@@ -39,7 +39,7 @@ fn stream_for_one_subscriber(rt: HostRuntime) -> Result<(), Fail> {
 fn history_of_a_file(rt: HostRuntime) -> Result<(), Fail> {
     let alloc = rt.alloc();
     // Example of history_verify::verify.
-    use history_verify::{VerifyFault, verify};
+    use history_verify::{Fault as VerifyFault, verify};
     use journal_files::decode;
 
     let file: &[u8] =

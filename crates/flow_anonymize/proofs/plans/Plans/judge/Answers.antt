@@ -1,8 +1,7 @@
 use Rattle.std.proofs.Common.{◌≡◌, ◌∙◌, ◌++◌, Some, ap, sym, subst, List, IfOk, OnOk, slice_get}
 use Rattle.ipfix_template.specs.DataRecord.{DataRecord}
-use Rattle.flow_anonymize.specs.declared.decision.Decision.{Decision}
 use Rattle.flow_anonymize.specs.declared.slot.Slot.{Slot}
-use Rattle.flow_anonymize.specs.Outcome.{Outcome, passed, decision_of}
+use Rattle.flow_anonymize.specs.Outcome.{Outcome, Decision, passed, decision_of}
 use Rattle.flow_anonymize.specs.Planning.{planned}
 use Rattle.flow_anonymize.specs.Plans.{PlansOf, Discloses}
 use Rattle.flow_anonymize.proofs.PlanLaws.{found_in_cache, there_is}

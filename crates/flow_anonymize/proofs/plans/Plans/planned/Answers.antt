@@ -4,16 +4,15 @@ use Rattle.ipfix_template.specs.DataRecord.{DataRecord}
 use Rattle.policy_text.specs.declared.rule.Rule.{Rule}
 use Rattle.rule_table.specs.OfPolicy.{AreOfPolicy}
 use Rattle.policy_judge.specs.Verdicts.{record_verdict_of}
-use Rattle.flow_anonymize.specs.declared.plan.Plan.{Plan}
 use Rattle.flow_anonymize.specs.Remaining.{verdicts_of}
-use Rattle.flow_anonymize.specs.Planning.{IsPlan}
+use Rattle.flow_anonymize.specs.Planning.{Plan, IsPlanFrom}
 use Rattle.flow_anonymize.specs.Plans.{PlansOf}
 use Rattle.flow_anonymize.proofs.PlanLaws.{planned_slot}
 use Rattle.flow_anonymize.proofs.plans.Plans.planned.Goals as goal
 
 -- the plan, by the name, the rules and the record that were handed on
 abbrev IsPlanBy : Plan → ℕ → List ℕ → DataRecord → List Rule → Type 0
-IsPlanBy plan domain name r rules = IsPlan r.template (record_verdict_of name domain r rules) (verdicts_of name domain r rules) plan
+IsPlanBy plan domain name r rules = IsPlanFrom r.template (record_verdict_of name domain r rules) (verdicts_of name domain r rules) plan
 
 pub returns : goal.returns
 returns c = (
