@@ -1,12 +1,10 @@
 """`tools/check_examples`: which examples it takes, in sources and tests that are made up."""
-import pathlib
 import re
-import shutil
 import subprocess
-import tempfile
 import unittest
 
 import program
+from tool_copies import repository_with
 
 TOOL = program.TOP / "tools" / "check_examples"
 
@@ -55,11 +53,7 @@ class CheckExamples(unittest.TestCase):
 
     def set_up(self):
         """A repository in which each entry point has its example and its test."""
-        folder = tempfile.TemporaryDirectory(prefix="ipmd-test-")
-        self.addCleanup(folder.cleanup)
-        self.top = pathlib.Path(folder.name)
-        (self.top / "tools").mkdir()
-        shutil.copy(TOOL, self.top / "tools")
+        self.top = repository_with(self, "check_examples")
         self.names = entry_points()
         for name in self.names:
             self.write(DOC.format(crate=name.split("::")[0], file="lib"), "//! A crate.\n\n" + item(name))

@@ -1,13 +1,8 @@
 """`tools/check_style`: what it finds in sources, definitions and pages that are made up."""
-import pathlib
-import shutil
 import subprocess
-import tempfile
 import unittest
 
-import program
-
-TOOLS = program.TOP / "tools"
+from tool_copies import repository_with
 
 KINDS = ("clause", "arguments", "function", "head", "prose", "number")
 
@@ -76,12 +71,7 @@ class CheckStyle(unittest.TestCase):
 
     def set_up(self):
         """A repository in which nothing is found."""
-        folder = tempfile.TemporaryDirectory(prefix="ipmd-test-")
-        self.addCleanup(folder.cleanup)
-        self.top = pathlib.Path(folder.name)
-        (self.top / "tools").mkdir()
-        for name in ("check_style", "check_pages"):
-            shutil.copy(TOOLS / name, self.top / "tools")
+        self.top = repository_with(self, "check_style", "check_pages")
         (self.top / "crates.txt").write_text("high: low  # above\nlow:\ntests_high: high\n")
         for path, text in RIGHT.items():
             self.write(path, text)
