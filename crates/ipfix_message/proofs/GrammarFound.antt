@@ -5,7 +5,7 @@ use Rattle.std.proofs.Math.Seq.{take-add}
 use Rattle.std.proofs.lemmas.Bool.{ltb-true, ltb-false, eqb-true, or_parts}
 use Rattle.std.proofs.lemmas.List.{take-append-drop, length-take-le, drop-drop, nil_from_length}
 use Rattle.sequences.proofs.SequenceLaws.{read_all-step}
-use Rattle.ipfix_template.specs.Octets.{number_at, IsNumber}
+use Rattle.ipfix_template.specs.Octets.{number_at, IsNumberIn}
 use Rattle.ipfix_template.specs.Sequence.{Front, End, Fault, Next, with_front, read_on, read_all}
 use Rattle.ipfix_template.specs.declared.field.FieldSpec.{FieldSpec}
 use Rattle.ipfix_template.specs.declared.template.Template.{Template}
@@ -32,7 +32,7 @@ chosen false x y z e = inr (refl, e)
 -- ---- numbers
 
 -- the octets of a number that is there
-number_here : (place width : ℕ) (octets : List ℕ) → place + width ≤ length octets → IsNumber width (take width (drop place octets)) (number_at place width octets)
+number_here : (place width : ℕ) (octets : List ℕ) → place + width ≤ length octets → IsNumberIn width (take width (drop place octets)) (number_at place width octets)
 number_here place width octets fits = record { wide = length-take-le width (drop place octets) (omega (arith, length-drop place octets)); value = refl }
 
 -- ---- Field Specifiers

@@ -4,7 +4,7 @@ use Rattle.std.specs.Prelude.{MatchBool}
 use Rattle.std.proofs.lemmas.Bool.{lt-ltb, le-ltb, eq-eqb, ne_eqb}
 use Rattle.std.proofs.lemmas.List.{take_at, drop_at}
 use Rattle.sequences.proofs.SequenceLaws.{read_all-step}
-use Rattle.ipfix_template.specs.Octets.{be_value, number_at, IsNumber}
+use Rattle.ipfix_template.specs.Octets.{be_value, number_at, IsNumberIn}
 use Rattle.ipfix_template.specs.Sequence.{Front, End, Next, with_front, read_on, read_all}
 use Rattle.ipfix_template.specs.declared.field.FieldSpec.{FieldSpec}
 use Rattle.ipfix_template.specs.declared.template.Template.{Template}
@@ -23,11 +23,11 @@ use Rattle.ipfix_message.proofs.Shrinks.{template_takes, set_takes}
 -- ---- numbers
 
 -- the number at the front
-pub first_number : (width n : ℕ) (a rest : List ℕ) → IsNumber width a n → number_at 0 width (a ++ rest) ≡ n
+pub first_number : (width n : ℕ) (a rest : List ℕ) → IsNumberIn width a n → number_at 0 width (a ++ rest) ≡ n
 first_number width n a rest is = ap be_value (take_at a rest width is.wide) ∙ is.value
 
 -- the number behind so many octets
-pub next_number : (place width n : ℕ) (before a rest : List ℕ) → length before ≡ place → IsNumber width a n → number_at place width (before ++ (a ++ rest)) ≡ n
+pub next_number : (place width n : ℕ) (before a rest : List ℕ) → length before ≡ place → IsNumberIn width a n → number_at place width (before ++ (a ++ rest)) ≡ n
 next_number place width n before a rest wide is =
     ap (λ (t : List ℕ). be_value (take width t)) (drop_at before (a ++ rest) place wide) ∙ first_number width n a rest is
 
