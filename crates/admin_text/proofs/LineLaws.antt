@@ -18,11 +18,11 @@ use Rattle.flow_prefix.proofs.CutLaws.{cut_at-middle, cut_at-text}
 use Rattle.replay_text.specs.Grammar.{IsNumberLine}
 use Rattle.replay_text.specs.Lines.{greatest}
 use Rattle.admin_text.specs.declared.command.Command.{Command}
-use Rattle.admin_text.specs.Sayings.{Saying, saying}
-use Rattle.admin_text.specs.Sayings.Saying.{to_edit, to_subscribe, to_unsubscribe, to_advance, to_tell_status, to_drain_audit, to_tell, to_stop}
+use Rattle.admin_text.specs.Sayings.{AdminSaying, saying}
+use Rattle.admin_text.specs.Sayings.AdminSaying.{to_edit, to_subscribe, to_unsubscribe, to_advance, to_tell_status, to_drain_audit, to_tell, to_stop}
 use Rattle.admin_text.specs.declared.command.Topic.{Topic}
 use Rattle.admin_text.specs.declared.command.Topic.TheVariants as topic
-use Rattle.admin_text.specs.Grammar.{longest_line, longest_policy, most_audit_entries, topic_word, IsSubscribeLine, AsksFor, IsCommandLine, IsSubscription}
+use Rattle.admin_text.specs.Grammar.{longest_line, longest_policy, most_audit_entries, topic_word, IsSubscribeLine, AsksFor, IsCommandLine, IsNamingLine}
 use Rattle.admin_text.specs.Reading.{is_one_word, edit_of, subscribe_of, unsubscribe_of, advance_of, status_of, audit_of, some_entries, command_alone, command_in, command_by, command_of, NamesSubscriber}
 use Rattle.admin_text.proofs.ArgumentLaws.{lacks_from_test, test_from_lacks}
 
@@ -38,26 +38,26 @@ number_line name most n argument small e =
     record { bound = number.bound; text = ap (line_of name) number.text }
 
 -- a command with one number
-by_number : (name : List ℕ) (most : ℕ) (argument : List ℕ) (f : ℕ → Saying) (said : Saying) → most < 2 ^ 64 → ((n : ℕ) (line : List ℕ) → IsNumberLine name most n line → AsksFor (f n) line)
+by_number : (name : List ℕ) (most : ℕ) (argument : List ℕ) (f : ℕ → AdminSaying) (said : AdminSaying) → most < 2 ^ 64 → ((n : ℕ) (line : List ℕ) → IsNumberLine name most n line → AsksFor (f n) line)
     → (number_of most argument >>= λ n. Some (f n)) ≡ Some said → AsksFor said (line_of name argument)
 by_number name most argument f said small asks e =
     let n = bind_some (number_of most argument) _ said e in
-    let P : Saying → Type 0 = λ s. AsksFor s (line_of name argument) in
+    let P : AdminSaying → Type 0 = λ s. AsksFor s (line_of name argument) in
     subst P (same_Some (f n.0) said n.2) (asks n.0 (line_of name argument) (number_line name most n.0 argument small n.1))
 
-edit_found : (argument : List ℕ) (said : Saying) → edit_of argument ≡ Some said → AsksFor said (line_of (codes "edit") argument)
+edit_found : (argument : List ℕ) (said : AdminSaying) → edit_of argument ≡ Some said → AsksFor said (line_of (codes "edit") argument)
 unfolding edit_of
 edit_found argument said e = by_number (codes "edit") longest_policy argument (λ n. to_edit n) said (omega arith) (λ n line is. is) e
 
-unsubscribe_found : (argument : List ℕ) (said : Saying) → unsubscribe_of argument ≡ Some said → AsksFor said (line_of (codes "unsubscribe") argument)
+unsubscribe_found : (argument : List ℕ) (said : AdminSaying) → unsubscribe_of argument ≡ Some said → AsksFor said (line_of (codes "unsubscribe") argument)
 unfolding unsubscribe_of
 unsubscribe_found argument said e = by_number (codes "unsubscribe") (greatest 64) argument (λ n. to_unsubscribe n) said (omega arith) (λ n line is. is) e
 
-advance_found : (argument : List ℕ) (said : Saying) → advance_of argument ≡ Some said → AsksFor said (line_of (codes "advance") argument)
+advance_found : (argument : List ℕ) (said : AdminSaying) → advance_of argument ≡ Some said → AsksFor said (line_of (codes "advance") argument)
 unfolding advance_of
 advance_found argument said e = by_number (codes "advance") (greatest 64) argument (λ n. to_advance n) said (omega arith) (λ n line is. is) e
 
-status_found : (argument : List ℕ) (said : Saying) → status_of argument ≡ Some said → AsksFor said (line_of (codes "status") argument)
+status_found : (argument : List ℕ) (said : AdminSaying) → status_of argument ≡ Some said → AsksFor said (line_of (codes "status") argument)
 unfolding status_of
 status_found argument said e = by_number (codes "status") (greatest 64) argument (λ n. to_tell_status n) said (omega arith) (λ n line is. is) e
 
@@ -66,39 +66,39 @@ subscribe_line argument h =
     let both = and_parts (ltb 0 (length argument)) (list_all (λ c. not (eqb c 32)) argument) h in
     record { begun = ltb-true 0 (length argument) both.0; word = lacks_from_test argument both.1; text = refl }
 
-subscribe_found : (argument : List ℕ) (said : Saying) → subscribe_of argument ≡ Some said → AsksFor said (line_of (codes "subscribe") argument)
+subscribe_found : (argument : List ℕ) (said : AdminSaying) → subscribe_of argument ≡ Some said → AsksFor said (line_of (codes "subscribe") argument)
 unfolding subscribe_of
 subscribe_found argument said e =
     let found = cond_some (is_one_word argument) (to_subscribe argument) said e in
-    let P : Saying → Type 0 = λ s. AsksFor s (line_of (codes "subscribe") argument) in
+    let P : AdminSaying → Type 0 = λ s. AsksFor s (line_of (codes "subscribe") argument) in
     subst P found.1 (subscribe_line argument found.0)
 
-audit_line : (argument : List ℕ) (max : ℕ) (said : Saying) (none : Bool) → number_of most_audit_entries argument ≡ Some max → eqb max 0 ≡ none
-    → cond none None (Some (to_drain_audit max)) ≡ Some said → AsksFor said (line_of (codes "audit") argument)
-audit_line argument max said true read none e = absurd (none-some said e)
-audit_line argument max said false read none e =
-    let other = eqb-false max 0 none in
-    let P : Saying → Type 0 = λ s. AsksFor s (line_of (codes "audit") argument) in
-    subst P (same_Some (to_drain_audit max) said e)
-    (record { begun = omega (arith, other); number = number_line (codes "audit") most_audit_entries max argument (omega arith) read })
+audit_line : (argument : List ℕ) (most : ℕ) (said : AdminSaying) (none : Bool) → number_of most_audit_entries argument ≡ Some most → eqb most 0 ≡ none
+    → cond none None (Some (to_drain_audit most)) ≡ Some said → AsksFor said (line_of (codes "audit") argument)
+audit_line argument most said true read none e = absurd (none-some said e)
+audit_line argument most said false read none e =
+    let other = eqb-false most 0 none in
+    let P : AdminSaying → Type 0 = λ s. AsksFor s (line_of (codes "audit") argument) in
+    subst P (same_Some (to_drain_audit most) said e)
+    (record { begun = omega (arith, other); number = number_line (codes "audit") most_audit_entries most argument (omega arith) read })
 
-audit_found : (argument : List ℕ) (said : Saying) → audit_of argument ≡ Some said → AsksFor said (line_of (codes "audit") argument)
+audit_found : (argument : List ℕ) (said : AdminSaying) → audit_of argument ≡ Some said → AsksFor said (line_of (codes "audit") argument)
 unfolding audit_of
 audit_found argument said e =
-    let max = bind_some (number_of most_audit_entries argument) some_entries said e in
-    audit_line argument max.0 said (eqb max.0 0) max.1 refl max.2
+    let most = bind_some (number_of most_audit_entries argument) some_entries said e in
+    audit_line argument most.0 said (eqb most.0 0) most.1 refl most.2
 
 -- the word is the name that is looked for first, or it is found among the others
-named : (word name : List ℕ) (read others : Option Saying) (said : Saying) (b : Bool) → bytes_eq word name ≡ b → cond b read others ≡ Some said → ((word ≡ name) × (read ≡ Some said)) ⊎ (others ≡ Some said)
+named : (word name : List ℕ) (read others : Option AdminSaying) (said : AdminSaying) (b : Bool) → bytes_eq word name ≡ b → cond b read others ≡ Some said → ((word ≡ name) × (read ≡ Some said)) ⊎ (others ≡ Some said)
 named word name read others said true is e = inl ((bytes_eq-Decides word name).0 is, e)
 named word name read others said false is e = inr e
 
-asked : (word name argument : List ℕ) (read : Option Saying) (said : Saying) → (read ≡ Some said → AsksFor said (line_of name argument)) → (word ≡ name) × (read ≡ Some said) → AsksFor said (line_of word argument)
+asked : (word name argument : List ℕ) (read : Option AdminSaying) (said : AdminSaying) → (read ≡ Some said → AsksFor said (line_of name argument)) → (word ≡ name) × (read ≡ Some said) → AsksFor said (line_of word argument)
 asked word name argument read said found is =
     let P : List ℕ → Type 0 = λ w. AsksFor said (line_of w argument) in
     subst P (sym is.0) (found is.1)
 
-command_by-found : (word argument : List ℕ) (said : Saying) → command_by word argument ≡ Some said → AsksFor said (line_of word argument)
+command_by-found : (word argument : List ℕ) (said : AdminSaying) → command_by word argument ≡ Some said → AsksFor said (line_of word argument)
 unfolding command_by
 command_by-found word argument said e =
     ⊎_elim (asked word (codes "edit") argument (edit_of argument) said (edit_found argument said)) (λ e1.
@@ -114,12 +114,12 @@ command_by-found word argument said e =
     (named word (codes "subscribe") (subscribe_of argument) _ said (bytes_eq word (codes "subscribe")) refl e1))
     (named word (codes "edit") (edit_of argument) _ said (bytes_eq word (codes "edit")) refl e)
 
-words_found : (line : List ℕ) (said : Saying) (words : List ℕ × List ℕ) → cut_at 32 line ≡ Some words → command_by words.0 words.1 ≡ Some said → AsksFor said line
+words_found : (line : List ℕ) (said : AdminSaying) (words : List ℕ × List ℕ) → cut_at 32 line ≡ Some words → command_by words.0 words.1 ≡ Some said → AsksFor said line
 words_found line said words cut e =
     let P : List ℕ → Type 0 = λ l. AsksFor said l in
     subst P (sym (cut_at-text 32 line words.0 words.1 cut)) (command_by-found words.0 words.1 said e)
 
-alone_found : (line : List ℕ) (said : Saying) → command_alone line ≡ Some said → AsksFor said line
+alone_found : (line : List ℕ) (said : AdminSaying) → command_alone line ≡ Some said → AsksFor said line
 unfolding command_alone
 alone_found line said e = by_word (codes "status") (to_tell topic.Subscriptions) (λ is. is)
     (λ e. by_word (codes "run") (to_tell topic.Run) (λ is. is)
@@ -127,27 +127,27 @@ alone_found line said e = by_word (codes "status") (to_tell topic.Subscriptions)
     (λ e. by_word (codes "help") (to_tell topic.Help) (λ is. is)
     (λ e. by_word (codes "stop") to_stop (λ is. is) (λ e. absurd (none-some said e)) e) e) e) e) e
   where
-    chosen : (word : List ℕ) (read : Saying) (rest : Option Saying) (b : Bool) → bytes_eq line word ≡ b → (line ≡ word → AsksFor read line) → (rest ≡ Some said → AsksFor said line)
+    chosen : (word : List ℕ) (read : AdminSaying) (rest : Option AdminSaying) (b : Bool) → bytes_eq line word ≡ b → (line ≡ word → AsksFor read line) → (rest ≡ Some said → AsksFor said line)
         → cond b (Some read) rest ≡ Some said → AsksFor said line
     chosen word read rest true is asks other e =
-        let P : Saying → Type 0 = λ s. AsksFor s line in
+        let P : AdminSaying → Type 0 = λ s. AsksFor s line in
         subst P (same_Some read said e) (asks ((bytes_eq-Decides line word).0 is))
     chosen word read rest false is asks other e = other e
 
-    by_word : (word : List ℕ) (read : Saying) {rest : Option Saying} → (line ≡ word → AsksFor read line) → (rest ≡ Some said → AsksFor said line) → cond (bytes_eq line word) (Some read) rest ≡ Some said → AsksFor said line
+    by_word : (word : List ℕ) (read : AdminSaying) {rest : Option AdminSaying} → (line ≡ word → AsksFor read line) → (rest ≡ Some said → AsksFor said line) → cond (bytes_eq line word) (Some read) rest ≡ Some said → AsksFor said line
     by_word word read {rest} asks other e = chosen word read rest (bytes_eq line word) refl asks other e
 
-found_in : (line : List ℕ) (said : Saying) (words : Option (List ℕ × List ℕ)) → cut_at 32 line ≡ words → command_in line words ≡ Some said → AsksFor said line
+found_in : (line : List ℕ) (said : AdminSaying) (words : Option (List ℕ × List ℕ)) → cut_at 32 line ≡ words → command_in line words ≡ Some said → AsksFor said line
 found_in line said None cut e = alone_found line said e
 found_in line said (Some words) cut e = words_found line said words cut e
 
-line_found : (line : List ℕ) (said : Saying) (long : Bool) → ltb longest_line (length line) ≡ long → cond long None (command_in line (cut_at 32 line)) ≡ Some said → IsCommandLine said line
+line_found : (line : List ℕ) (said : AdminSaying) (long : Bool) → ltb longest_line (length line) ≡ long → cond long None (command_in line (cut_at 32 line)) ≡ Some said → IsCommandLine said line
 line_found line said true is e = absurd (none-some said e)
 line_found line said false is e =
     let within = ltb-false longest_line (length line) is in
     record { fits = omega (arith, within); asks = found_in line said (cut_at 32 line) refl e }
 
-pub command_of-found : (line : List ℕ) (said : Saying) → command_of line ≡ Some said → IsCommandLine said line
+pub command_of-found : (line : List ℕ) (said : AdminSaying) → command_of line ≡ Some said → IsCommandLine said line
 unfolding command_of
 command_of-found line said e = line_found line said (ltb longest_line (length line)) refl e
 
@@ -161,7 +161,7 @@ line_by name argument line lacks is fits =
     let words = ap (cut_at 32) is ∙ cut_at-middle 32 name argument lacks in
     rw (within, words) refl
 
-number_read : (most n : ℕ) (f : ℕ → Saying) → most < 2 ^ 64 → n ≤ most → (number_of most (decimal n) >>= λ m. Some (f m)) ≡ Some (f n)
+number_read : (most n : ℕ) (f : ℕ → AdminSaying) → most < 2 ^ 64 → n ≤ most → (number_of most (decimal n) >>= λ m. Some (f m)) ≡ Some (f n)
 number_read most n f small bound =
     let value = number_of-only most (decimal n) n small (record { bound = bound; text = refl }) in
     rw value refl
@@ -208,10 +208,10 @@ topic_read topic.Policy line is = rw is refl
 topic_read topic.Help line is = rw is refl
 
 -- a line of a name and an argument, which is read by the name
-named_read : (name argument line : List ℕ) (said : Saying) → Lacks 32 name → line ≡ line_of name argument → length line ≤ longest_line → command_by name argument ≡ Some said → command_of line ≡ Some said
+named_read : (name argument line : List ℕ) (said : AdminSaying) → Lacks 32 name → line ≡ line_of name argument → length line ≤ longest_line → command_by name argument ≡ Some said → command_of line ≡ Some said
 named_read name argument line said lacks is fits read = line_by name argument line lacks is fits ∙ read
 
-asked_read : (said : Saying) (line : List ℕ) → length line ≤ longest_line → AsksFor said line → command_of line ≡ Some said
+asked_read : (said : AdminSaying) (line : List ℕ) → length line ≤ longest_line → AsksFor said line → command_of line ≡ Some said
 asked_read (to_edit octets) line fits is =
     named_read (codes "edit") (decimal octets) line (to_edit octets) (refl, (refl, (refl, (refl, tt)))) is.text fits (edit_read octets is.bound)
 asked_read (to_subscribe name) line fits is =
@@ -222,20 +222,20 @@ asked_read (to_advance t) line fits is =
     named_read (codes "advance") (decimal t) line (to_advance t) (refl, (refl, (refl, (refl, (refl, (refl, (refl, tt))))))) is.text fits (advance_read t is.bound)
 asked_read (to_tell_status sub) line fits is =
     named_read (codes "status") (decimal sub) line (to_tell_status sub) (refl, (refl, (refl, (refl, (refl, (refl, tt)))))) is.text fits (status_read sub is.bound)
-asked_read (to_drain_audit max) line fits is =
-    named_read (codes "audit") (decimal max) line (to_drain_audit max) (refl, (refl, (refl, (refl, (refl, tt))))) is.number.text fits (audit_read max is.begun is.number.bound)
+asked_read (to_drain_audit most) line fits is =
+    named_read (codes "audit") (decimal most) line (to_drain_audit most) (refl, (refl, (refl, (refl, (refl, tt))))) is.number.text fits (audit_read most is.begun is.number.bound)
 asked_read (to_tell about) line fits is = topic_read about line is
 asked_read to_stop line fits is = stop_read line is
 
-pub command_of-only : (line : List ℕ) (said : Saying) → IsCommandLine said line → command_of line ≡ Some said
+pub command_of-only : (line : List ℕ) (said : AdminSaying) → IsCommandLine said line → command_of line ≡ Some said
 command_of-only line said is = asked_read said line is.fits is.asks
 
 -- ---- laws
 
-pub one_meaning : (a b : Saying) (line : List ℕ) → IsCommandLine a line → IsCommandLine b line → a ≡ b
+pub one_meaning : (a b : AdminSaying) (line : List ℕ) → IsCommandLine a line → IsCommandLine b line → a ≡ b
 one_meaning a b line x y = same_Some a b (sym (command_of-only line a x) ∙ command_of-only line b y)
 
-pub subscription_found : (line : List ℕ) → NamesSubscriber (command_of line) → IsSubscription line
+pub subscription_found : (line : List ℕ) → NamesSubscriber (command_of line) → IsNamingLine line
 subscription_found line names = (names.0, command_of-found line (to_subscribe names.0) names.1)
 
 -- ---- what a reader answered
@@ -245,11 +245,11 @@ if_found line (Ok None) e = tt
 if_found line (Ok (Some command)) e = command_of-found line (saying command) (sym e)
 if_found line (Err x) e = tt
 
-pub if_only : {E : Type 0} (line : List ℕ) (r : Result (Option Command) E) → IfOk r (λ command. option_map saying command ≡ command_of line) → (said : Saying) → IsCommandLine said line → IfOk r (λ command. option_map saying command ≡ Some said)
+pub if_only : {E : Type 0} (line : List ℕ) (r : Result (Option Command) E) → IfOk r (λ command. option_map saying command ≡ command_of line) → (said : AdminSaying) → IsCommandLine said line → IfOk r (λ command. option_map saying command ≡ Some said)
 if_only line (Ok command) e said is = e ∙ command_of-only line said is
 if_only line (Err x) e said is = tt
 
-pub if_memory : {A E : Type 0} (line : List ℕ) (r : Result A E) → IfErr r (λ _. NamesSubscriber (command_of line)) → IfErr r (λ _. IsSubscription line)
+pub if_memory : {A E : Type 0} (line : List ℕ) (r : Result A E) → IfErr r (λ _. NamesSubscriber (command_of line)) → IfErr r (λ _. IsNamingLine line)
 if_memory line (Ok x) names = tt
 if_memory line (Err e) names = subscription_found line names
 

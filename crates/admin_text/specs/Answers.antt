@@ -32,18 +32,18 @@ abbrev pub refused_for_memory : Answer
 refused_for_memory = answer.Refused OutOfMemory
 
 -- the text of the answer; or where a call was refused and there was no memory to say why, that it was refused for want of memory
-abbrev pub IsTextOf : Answer → List ℕ → Type 0
-IsTextOf (answer.Refused why) text = (text ≡ answer_text (answer.Refused why)) ⊎ (text ≡ answer_text refused_for_memory)
-IsTextOf reply text = text ≡ answer_text reply
+abbrev pub IsAnswerText : Answer → List ℕ → Type 0
+IsAnswerText (answer.Refused why) text = (text ≡ answer_text (answer.Refused why)) ⊎ (text ≡ answer_text refused_for_memory)
+IsAnswerText reply text = text ≡ answer_text reply
 
 -- the answer was written whole behind so many octets, and its octets were counted
 pub record WritesAnswer (reply : Answer) (sent count : ℕ) (held holds : Option (List ℕ)) : Type 0 where
   pub text : List ℕ
-  pub is : IsTextOf reply text
+  pub is : IsAnswerText reply text
   pub writes : WritesAll text sent count held holds
 
 -- the sink failed inside the answer; or its octets can't be counted, and none was written
 pub record StopsAnswering (e : Stopped) (reply : Answer) (sent : ℕ) (held holds : Option (List ℕ)) (had_failed has_failed : Bool) : Type 0 where
   pub text : List ℕ
-  pub is : IsTextOf reply text
+  pub is : IsAnswerText reply text
   pub stops : StopsWriting e text sent held holds had_failed has_failed

@@ -7,8 +7,8 @@ use Rattle.numerals.specs.Numerals.{number_of}
 use Rattle.flow_prefix.specs.Reading.{cut_at}
 use Rattle.replay_text.specs.Lines.{greatest}
 use Rattle.admin_text.specs.Grammar.{longest_line, longest_policy, most_audit_entries}
-use Rattle.admin_text.specs.Sayings.{Saying}
-use Rattle.admin_text.specs.Sayings.Saying.{to_edit, to_subscribe, to_unsubscribe, to_advance, to_tell_status, to_drain_audit, to_tell, to_stop}
+use Rattle.admin_text.specs.Sayings.{AdminSaying}
+use Rattle.admin_text.specs.Sayings.AdminSaying.{to_edit, to_subscribe, to_unsubscribe, to_advance, to_tell_status, to_drain_audit, to_tell, to_stop}
 use Rattle.admin_text.specs.declared.command.Topic.TheVariants as topic
 
 -- some octets, none of them a space
@@ -17,32 +17,32 @@ is_one_word argument = nat_lt 0 (length argument) && list_all (λ c. not (c == 3
 
 -- ---- by the argument of each command
 
-unfoldable pub edit_of : List ℕ → Option Saying
+unfoldable pub edit_of : List ℕ → Option AdminSaying
 edit_of argument = number_of longest_policy argument >>= λ octets. Some (to_edit octets)
 
-unfoldable pub subscribe_of : List ℕ → Option Saying
+unfoldable pub subscribe_of : List ℕ → Option AdminSaying
 subscribe_of argument = if is_one_word argument then Some (to_subscribe argument) else None
 
-unfoldable pub unsubscribe_of : List ℕ → Option Saying
+unfoldable pub unsubscribe_of : List ℕ → Option AdminSaying
 unsubscribe_of argument = number_of (greatest 64) argument >>= λ sub. Some (to_unsubscribe sub)
 
-unfoldable pub advance_of : List ℕ → Option Saying
+unfoldable pub advance_of : List ℕ → Option AdminSaying
 advance_of argument = number_of (greatest 64) argument >>= λ t. Some (to_advance t)
 
-unfoldable pub status_of : List ℕ → Option Saying
+unfoldable pub status_of : List ℕ → Option AdminSaying
 status_of argument = number_of (greatest 64) argument >>= λ sub. Some (to_tell_status sub)
 
 -- none is not asked for
-abbrev pub some_entries : ℕ → Option Saying
-some_entries max = if max == 0 then None else Some (to_drain_audit max)
+abbrev pub some_entries : ℕ → Option AdminSaying
+some_entries most = if most == 0 then None else Some (to_drain_audit most)
 
-unfoldable pub audit_of : List ℕ → Option Saying
-audit_of argument = number_of most_audit_entries argument >>= λ max. some_entries max
+unfoldable pub audit_of : List ℕ → Option AdminSaying
+audit_of argument = number_of most_audit_entries argument >>= λ most. some_entries most
 
 -- ---- a line
 
 -- by the name of the command
-unfoldable pub command_by : List ℕ → List ℕ → Option Saying
+unfoldable pub command_by : List ℕ → List ℕ → Option AdminSaying
 command_by word argument =
     if bytes_eq word (codes "edit") then edit_of argument
     else if bytes_eq word (codes "subscribe") then subscribe_of argument
@@ -53,7 +53,7 @@ command_by word argument =
     else None
 
 -- by the one word of a line that has no space
-unfoldable pub command_alone : List ℕ → Option Saying
+unfoldable pub command_alone : List ℕ → Option AdminSaying
 command_alone word =
     if bytes_eq word (codes "status") then Some (to_tell topic.Subscriptions)
     else if bytes_eq word (codes "run") then Some (to_tell topic.Run)
@@ -63,13 +63,13 @@ command_alone word =
     else None
 
 -- by what the first space parts, if there is one
-abbrev pub command_in : List ℕ → Option (List ℕ × List ℕ) → Option Saying
+abbrev pub command_in : List ℕ → Option (List ℕ × List ℕ) → Option AdminSaying
 command_in line None = command_alone line
 command_in line (Some words) = command_by words.0 words.1
 
-unfoldable pub command_of : List ℕ → Option Saying
+unfoldable pub command_of : List ℕ → Option AdminSaying
 command_of line = if nat_lt longest_line (length line) then None else command_in line (cut_at 32 line)
 
 -- what is asked for has a name
-abbrev pub NamesSubscriber : Option Saying → Type 0
+abbrev pub NamesSubscriber : Option AdminSaying → Type 0
 NamesSubscriber read = (name : List ℕ) × (read ≡ Some (to_subscribe name))

@@ -1,9 +1,9 @@
 //! The command that a line asks for.
 ghost use Rattle.std.specs.Prelude.{◌≡◌, Some, IfErr, IfOk, IfSome};
 ghost use Rattle.std.specs.Option.{option_map};
-ghost use Rattle.admin_text.specs.Sayings.{Saying, saying};
-ghost use Rattle.admin_text.specs.Sayings.Saying.{to_tell};
-ghost use Rattle.admin_text.specs.Grammar.{IsCommandLine, IsSubscription};
+ghost use Rattle.admin_text.specs.Sayings.{AdminSaying, saying};
+ghost use Rattle.admin_text.specs.Sayings.AdminSaying.{to_tell};
+ghost use Rattle.admin_text.specs.Grammar.{IsCommandLine, IsNamingLine};
 ghost use Rattle.admin_text.specs.Reading.{command_of, command_alone, command_by, edit_of, subscribe_of, unsubscribe_of, advance_of, status_of, audit_of, NamesSubscriber};
 
 use crate::argument::{is_one_word, read_number};
@@ -48,7 +48,7 @@ pub enum Command {
     /// `status SUB`: how does a subscription stand?
     Status { sub: u64 },
     /// `audit MAX`: the oldest audit entries are handed out, from 1 to 10,000 of them.
-    Audit { max: u32 },
+    Audit { most: u32 },
     /// `status`, `run`, `policy` or `help` alone: a page of lines.
     Tell { topic: Topic },
     /// `stop`: the run is to end.
@@ -65,10 +65,10 @@ pub fn read_command(alloc: Global, line: &[u8]) -> Result<Option<Command>, Alloc
     ensures found { IfOk result (λ command.
         IfSome command (λ command. IsCommandLine (saying command) line.now)) }
     // What stands there is read, unless memory runs out.
-    ensures only { (said : Saying) → IsCommandLine said line.now
+    ensures only { (said : AdminSaying) → IsCommandLine said line.now
         → IfOk result (λ command. option_map saying command ≡ Some said) }
     // Memory is wanted for a name alone.
-    ensures memory { IfErr result (λ _. IsSubscription line.now) }
+    ensures memory { IfErr result (λ _. IsNamingLine line.now) }
     // Which command it is.
     ensures exact { IfOk result (λ command. option_map saying command ≡ command_of line.now) }
 {
@@ -197,9 +197,9 @@ fn read_status(argument: &[u8]) -> Option<Command>
 fn read_audit(argument: &[u8]) -> Option<Command>
     ensures { option_map saying result ≡ audit_of argument.now }
 {
-    let max = read_number(argument, u64::from(MOST_AUDIT_ENTRIES))?;
-    if max == 0 {
+    let most = read_number(argument, u64::from(MOST_AUDIT_ENTRIES))?;
+    if most == 0 {
         return None;
     }
-    Some(Command::Audit { max: max as u32 })
+    Some(Command::Audit { most: most as u32 })
 }

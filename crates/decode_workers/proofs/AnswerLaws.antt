@@ -1,7 +1,7 @@
 -- Answers to messages, put together.
 use Rattle.std.specs.Prelude.{◌≡◌, ℕ, List, [], ◌∷◌, ◌++◌, Result}
 use Rattle.std.proofs.Common.{refl, sym, ap, ◌∙◌, append_assoc, append-nil}
-use Rattle.prepared_message.specs.declared.fault.PrepareFault.{PrepareFault}
+use Rattle.prepared_message.specs.declared.fault.Fault.{Fault as PrepareFault}
 use Rattle.prepared_message.specs.Preparation.{Preparation}
 use Rattle.decode_workers.specs.Workers.{Tables, IsAnswer, AreAnswers}
 

@@ -7,7 +7,7 @@ use Rattle.decode_workers.specs.declared.run.Owed.{Owed}
 use Rattle.decode_workers.specs.Owing.{owed_by, KnowAll}
 use Rattle.decode_workers.specs.Workers.{Tables, AreAnswers}
 use Rattle.decode_workers.proofs.AnswerLaws.{answers_join}
-use Rattle.prepared_message.specs.declared.fault.PrepareFault.{PrepareFault}
+use Rattle.prepared_message.specs.declared.fault.Fault.{Fault as PrepareFault}
 use Rattle.prepared_message.specs.Preparation.{Preparation}
 
 module _ {T : Type 0} where

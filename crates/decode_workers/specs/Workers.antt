@@ -2,7 +2,7 @@
 use Rattle.std.specs.Prelude.{◌≡◌, ◌↔◌, ℕ, Bool, List, [], ◌∷◌, Result, IfOk, nat_lt, ◌&&◌}
 use Rattle.ipfix_template.specs.declared.template.Template.{Template}
 use Rattle.ipfix_session.specs.Standing.{Knows}
-use Rattle.prepared_message.specs.declared.fault.PrepareFault.{PrepareFault}
+use Rattle.prepared_message.specs.declared.fault.Fault.{Fault as PrepareFault}
 use Rattle.prepared_message.specs.Faults.{Gives, prepared_from}
 use Rattle.prepared_message.specs.Preparation.{Preparation, AgreesWith}
 use Rattle.prepared_message.specs.Uses.{TablesAgree}

@@ -5,7 +5,7 @@ use thiserror::Error;
 
 /// Why a list of messages is not prepared. A message of the list that can't be prepared is no such fault: it has its own answer.
 #[derive(Clone, Copy, Debug, PartialEq, Eq, Error)]
-pub enum WorkersFault {
+pub enum Fault {
     /// The number of workers is not 1 to 64.
     #[error("BadWorkers")]
     BadWorkers,
@@ -17,13 +17,13 @@ pub enum WorkersFault {
     OutOfMemory,
 }
 
-impl From<AllocError> for WorkersFault {
+impl From<AllocError> for Fault {
     ghost use Rattle.std.specs.Prelude.{◌≡◌};
-    ghost use Rattle.decode_workers.specs.declared.fault.WorkersFault.TheVariants.{OutOfMemory};
+    ghost use Rattle.decode_workers.specs.declared.fault.Fault.TheVariants.{OutOfMemory};
 
     ghost from_gives = { λ _ e. e ≡ OutOfMemory };
 
-    fn from(_e: AllocError) -> WorkersFault {
-        WorkersFault::OutOfMemory
+    fn from(_e: AllocError) -> Fault {
+        Fault::OutOfMemory
     }
 }

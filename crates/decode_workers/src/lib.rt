@@ -5,7 +5,7 @@
 //! - [`workers`]: `Workers`, which prepare lists of messages and answer them in their order, and keep what they worked out for
 //!   the next list; `prepare_all`, which does so once.
 //! - [`gate`]: `Gate`, which is told what each thread is at, and `NoGate`, which does nothing.
-//! - [`fault`]: `WorkersFault`, why a list is not prepared.
+//! - [`fault`]: `Fault`, why a list is not prepared.
 //! - `run`: the part of the list that one thread prepares, and what the thread promises.
 //!
 //! Each thread prepares a run, messages that stand one after another. The runs are as long as each other, or one longer. So a
@@ -22,6 +22,6 @@ pub mod gate;
 mod run;
 pub mod workers;
 
-pub use fault::WorkersFault;
+pub use fault::Fault;
 pub use gate::{Gate, NoGate};
 pub use workers::{MOST_WORKERS, Workers, prepare_all};

@@ -5,7 +5,7 @@ ghost use Rattle.decode_workers.specs.Workers.{IsAnswer, AreAnswers};
 use crate::gate::Gate;
 use bytes::Bytes;
 use mediator_shares::Workspace;
-use prepared_message::{PrepareFault, Prepared, Snapshot};
+use prepared_message::{Fault as PrepareFault, Prepared, Snapshot};
 use std::alloc::{AllocError, Global};
 use std::snapshot::Snapshot as Remembered;
 use std::thread::Promise;

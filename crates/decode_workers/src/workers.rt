@@ -1,15 +1,15 @@
 //! Workers: lists of messages are prepared by several threads at once, and answered in their order.
 ghost use Rattle.std.specs.Prelude.{◌≡◌, ◌≢◌, ◌+◌, ◌<◌, ◌^◌, ◌++◌, ℕ, List, IfOk, IfErr, IsOk, OnOk, Err, MatchBool, vec_len};
-ghost use Rattle.decode_workers.specs.declared.fault.WorkersFault.TheVariants.{BadWorkers};
+ghost use Rattle.decode_workers.specs.declared.fault.Fault.TheVariants.{BadWorkers};
 ghost use Rattle.decode_workers.specs.Workers.{Tables, AreAnswers, may_work};
 ghost use Rattle.decode_workers.specs.Owing.{owed_by, KnowAll};
 
-use crate::fault::WorkersFault;
+use crate::fault::Fault;
 use crate::gate::Gate;
 use crate::run::{Owed, Ran, prepare_run};
 use bytes::Bytes;
 use mediator_shares::Workspace;
-use prepared_message::{PrepareFault, Prepared, Snapshot};
+use prepared_message::{Fault as PrepareFault, Prepared, Snapshot};
 use std::alloc::{AllocError, Global};
 use std::snapshot::Snapshot as Remembered;
 use std::sync::Wait;
@@ -33,14 +33,14 @@ pub struct Workers {
 /// [`Workers::prepare_all`] does. `rt` gives the threads, and `gate` is told of each message.
 ///
 /// # Errors
-/// [`WorkersFault::BadWorkers`] where the number of workers is not 1 to 64, and those of [`Workers::prepare_all`].
+/// [`Fault::BadWorkers`] where the number of workers is not 1 to 64, and those of [`Workers::prepare_all`].
 pub fn prepare_all<R: Threads + Wait + Sync, G: Gate + Sync>(
     rt: &R,
     snapshot: &Snapshot,
     messages: Vec<Bytes>,
     workers: u64,
     gate: &G,
-) -> Result<Vec<Result<Prepared, PrepareFault>>, WorkersFault>
+) -> Result<Vec<Result<Prepared, PrepareFault>>, Fault>
     // Each message has the answer that `Prepared::prepare` gives it, in the order of the messages.
     ensures answers { IfOk result (λ v. AreAnswers snapshot.now messages.items v.items) }
     ensures workers { MatchBool (may_work workers) (IfErr result (λ why. why ≢ BadWorkers))
@@ -55,12 +55,12 @@ impl Workers {
     /// `alloc`; this call takes none.
     ///
     /// # Errors
-    /// [`WorkersFault::BadWorkers`] where `count` is not 1 to 64.
-    pub fn new(alloc: Global, count: u64) -> Result<Workers, WorkersFault>
+    /// [`Fault::BadWorkers`] where `count` is not 1 to 64.
+    pub fn new(alloc: Global, count: u64) -> Result<Workers, Fault>
         ensures { MatchBool (may_work count) (IsOk result) (result ≡ Err BadWorkers) }
     {
         if count < 1 || count > MOST_WORKERS {
-            return Err(WorkersFault::BadWorkers);
+            return Err(Fault::BadWorkers);
         }
         Ok(Workers {
             count,
@@ -75,7 +75,7 @@ impl Workers {
     /// have ended, whatever it answers. The lists are in memory from where that of the messages is.
     ///
     /// # Errors
-    /// [`WorkersFault::NoThread`] where a thread was refused, or [`WorkersFault::OutOfMemory`] for the lists. A message
+    /// [`Fault::NoThread`] where a thread was refused, or [`Fault::OutOfMemory`] for the lists. A message
     /// that can't be prepared, also for want of memory, is no error: that is its answer in the list.
     pub fn prepare_all<R: Threads + Wait + Sync, G: Gate + Sync>(
         &mut self,
@@ -83,7 +83,7 @@ impl Workers {
         snapshot: &Snapshot,
         messages: Vec<Bytes>,
         gate: &G,
-    ) -> Result<Vec<Result<Prepared, PrepareFault>>, WorkersFault>
+    ) -> Result<Vec<Result<Prepared, PrepareFault>>, Fault>
         // Each message has the answer that `Prepared::prepare` gives it, in the order of the messages.
         ensures answers { IfOk result (λ v. AreAnswers snapshot.now messages.items v.items) }
         ensures err { IfErr result (λ why. why ≢ BadWorkers) }
@@ -135,7 +135,7 @@ fn prepare_in_runs<'s, 't: 's, 'g: 's, X: 's, R: Threads, G: Gate + Sync>(
     mut messages: Vec<Bytes>,
     runs: usize,
     idle: &mut Vec<Workspace>,
-) -> Result<Vec<Result<Prepared, PrepareFault>>, WorkersFault>
+) -> Result<Vec<Result<Prepared, PrepareFault>>, Fault>
     ensures answers { IfOk result (λ v. AreAnswers snapshot.now messages.items v.items) }
     ensures err { IfErr result (λ why. why ≢ BadWorkers) }
 {
@@ -159,7 +159,7 @@ fn start_all<'s, 't: 's, 'g: 's, X: 's, G: Gate + Sync>(
     messages: &mut Vec<Bytes>,
     runs: usize,
     idle: &mut Vec<Workspace>,
-) -> Result<Vec<Worker>, WorkersFault>
+) -> Result<Vec<Worker>, Fault>
     ensures all { IfOk result (λ v. messages.new.items ++ owed_by v.items ≡ messages.old.items) }
     ensures known { IfOk result (λ v. KnowAll snapshot.now v.items) }
     ensures err { IfErr result (λ why. why ≢ BadWorkers) }
@@ -189,7 +189,7 @@ fn start<'s, 't: 's, 'g: 's, X: 's, G: Gate + Sync>(
     first: u64,
     run: Vec<Bytes>,
     workspace: Workspace,
-) -> Result<Worker, WorkersFault>
+) -> Result<Worker, Fault>
     requires places { first + vec_len run < 2 ^ 64 }
     ensures owed { IfOk result (λ h. (h.promise.snapshot.value ≡ snapshot.now)
         × (h.promise.messages.value ≡ run)) }
@@ -203,7 +203,7 @@ fn start<'s, 't: 's, 'g: 's, X: 's, G: Gate + Sync>(
         prepare_run(alloc, snapshot, gate, first, run, workspace)
     }) {
         Ok(worker) => Ok(worker),
-        Err(_refused) => Err(WorkersFault::NoThread),
+        Err(_refused) => Err(Fault::NoThread),
     }
 }
 

@@ -13,7 +13,7 @@ use Rattle.disclosure_audit.specs.declared.entry.What.{What}
 use Rattle.disclosure_audit.specs.declared.entry.What.TheVariants.{Withheld, Aggregated, Removed, Cut}
 use Rattle.disclosure_audit.specs.declared.entry.AuditEntry.{AuditEntry}
 use Rattle.disclosure_audit.specs.Lines.{reason_word, field_text, fields_text, what_words, entry_words}
-use Rattle.disclosure_audit.specs.Laws.{IsField, IsWhat, IsEntry, OneEntry}
+use Rattle.disclosure_audit.specs.Laws.{IsField, IsWhat, IsAuditEntry, OneEntry}
 use Rattle.disclosure_audit.proofs.SplitLaws.{lacks, all_lack, joined_same, lacks-append, lacks-joined, lacks-decimal}
 
 abbrev word_at : ℕ → List (List ℕ) → List ℕ
@@ -128,7 +128,7 @@ what_same Cut (Removed gs) here there e = absurd (let n : 99 ≡ 114 = ap first_
 
 -- ---- entries
 
-entry_plain : (a : AuditEntry) → IsEntry a → all_lack 32 (entry_words a) ≡ true
+entry_plain : (a : AuditEntry) → IsAuditEntry a → all_lack 32 (entry_words a) ≡ true
 entry_plain a ok =
     and_from (lacks 32 (decimal a.position)) (all_lack 32 (decimal a.index ∷ decimal a.sub ∷ what_words a.what)) (lacks-decimal 32 a.position (omega arith) ok.position)
     (and_from (lacks 32 (decimal a.index)) (all_lack 32 (decimal a.sub ∷ what_words a.what)) (lacks-decimal 32 a.index (omega arith) (omega (arith, ok.index)))

@@ -18,7 +18,7 @@ IsWhat (Aggregated rule) = rule < 2 ^ 32
 IsWhat (Removed fields) = AllByRecursion IsField fields
 IsWhat Cut = Unit {0}
 
-pub record IsEntry (entry : AuditEntry) : Type 0 where
+pub record IsAuditEntry (entry : AuditEntry) : Type 0 where
   pub position : entry.position < 2 ^ 64
   pub index : entry.index < 2 ^ 32
   pub sub : entry.sub < 2 ^ 64
@@ -26,4 +26,4 @@ pub record IsEntry (entry : AuditEntry) : Type 0 where
 
 -- no line is that of two entries
 abbrev pub OneEntry : Type 0
-OneEntry = (a b : AuditEntry) → IsEntry a → IsEntry b → line_of a ≡ line_of b → a ≡ b
+OneEntry = (a b : AuditEntry) → IsAuditEntry a → IsAuditEntry b → line_of a ≡ line_of b → a ≡ b

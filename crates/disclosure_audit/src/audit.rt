@@ -43,20 +43,20 @@ impl Drop for Audit {
 
 impl Model for Audit {
     ghost use Rattle.std.specs.VecDeque.{deque_capacity};
-    ghost use Rattle.disclosure_audit.specs.Queue.{Kept};
-    ghost use Rattle.disclosure_audit.specs.Kept.{IsConsistent};
+    ghost use Rattle.disclosure_audit.specs.Queue.{KeptAudit};
+    ghost use Rattle.disclosure_audit.specs.Kept.{IsConsistentAudit};
     ghost use Rattle.disclosure_audit.specs.Chunks.{entries_of};
 
-    ghost Value = { Kept };
+    ghost Value = { KeptAudit };
 
     ghost view = { λ a. record { standing = record { drained = a.drained; entries = entries_of a.queue.items }; limit = a.limit; spare = a.spare } };
 
-    ghost invariant = { λ a. IsConsistent a.queue.items
+    ghost invariant = { λ a. IsConsistentAudit a.queue.items
         (deque_capacity a.queue) a.waiting a.limit a.drained a.spare };
 }
 
 impl Audit {
-    ghost use Rattle.disclosure_audit.specs.Queue.{stamp, at_start, with_entry, with_entries, oldest, without_oldest, StandsIn, Takes, Drains};
+    ghost use Rattle.disclosure_audit.specs.Queue.{stamp, at_start, with_entry, with_entries, oldest, without_oldest, StandsIn, TakesEntries, DrainsOldest};
 
     /// An audit that was given no entry and may hold `limit` of them, 1 to [`MOST_ENTRIES`]. What it comes
     /// to keep is taken from `alloc`.
@@ -131,7 +131,7 @@ impl Audit {
           spare = self.old.spare - 1;
         } }
         // The list of all entries goes on with this one.
-        ensures stands { Takes self.old.standing (entry ∷ []) self.new.standing }
+        ensures stands { TakesEntries self.old.standing (entry ∷ []) self.new.standing }
     {
         self.queue.push_back_reserved(Chunk::One(entry));
         self.waiting += 1;
@@ -152,7 +152,7 @@ impl Audit {
           spare = self.old.spare - 1;
         } }
         // The list of all entries goes on with these.
-        ensures stands { Takes self.old.standing
+        ensures stands { TakesEntries self.old.standing
             (map (stamp position) notes.items) self.new.standing }
     {
         self.spare -= 1;
@@ -176,7 +176,7 @@ impl Audit {
         }) }
         // They are the next entries of the list of all entries.
         ensures stands { IfOk result
-            (λ out. Drains self.old.standing most out.items self.new.standing) }
+            (λ out. DrainsOldest self.old.standing most out.items self.new.standing) }
         ensures err { OnErr result (self.new ≡ self.old) }
         // Nothing to hand out takes no memory.
         ensures none { oldest most self.old.standing ≡ [] → IsOk result }

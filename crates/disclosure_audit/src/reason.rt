@@ -4,11 +4,11 @@ ghost use Rattle.std.specs.Prelude.{◌≡◌};
 /// Why a whole record was withheld.
 #[derive(Clone, Copy, Debug, PartialEq, Eq)]
 pub enum Reason {
-    /// A rule withholds it, or no rule matches it.
+    /// The first matching rule on records withholds it, or none matches.
     Rule,
-    /// A scope field of it would be removed.
+    /// A scope field would be removed, without which the others say nothing (RFC 7011, section 3.4.2).
     ScopeLost,
-    /// Nothing of it would be left.
+    /// No octets would be left of its shortest record, so no template can announce it.
     Empty,
     /// It is to be counted in an aggregate and has no start time.
     NoTime,

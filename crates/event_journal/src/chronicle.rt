@@ -1,4 +1,4 @@
-//! What keeps a history, or its sizes alone: the trait of a [`Journal`](crate::Journal) and a [`Tally`](crate::Tally).
+//! What keeps a history, or its sizes alone: the trait of a [`Journal`](crate::Journal), and [`JournalSizes`](crate::JournalSizes).
 ghost use Rattle.std.specs.Prelude.{◌≡◌, ◌≤◌, ◌<◌, ◌+◌, ◌-◌, ◌↔◌, ℕ, List, [], ◌∷◌, ◌++◌, length, IsTrue, IsOk, OnOk, OnErr};
 ghost use Rattle.std.proofs.Common.{ap};
 ghost use Rattle.event_journal.specs.declared.entry.Entry.{Entry};
@@ -8,13 +8,13 @@ ghost use Rattle.event_journal.specs.Counted.{AreLimits};
 
 use crate::entry::Entry;
 use crate::journal::Journal;
-use crate::tally::Tally;
+use crate::sizes::JournalSizes;
 use std::alloc::AllocError;
 
 /// What keeps a history, or its sizes alone. What holds one is generic over it, and its contract speaks of each history
 /// that the chronicle tells.
 pub trait Chronicle {
-    // The histories that it may stand for: a journal's is its entries, and a tally tells each one that has its sizes.
+    // The histories that it may stand for: a journal's is its entries, and sizes tell each one that has them.
     ghost tells: { Self → List Entry → Type 0 };
 
     // The number of the entries, and the octets that they count for.
@@ -116,7 +116,7 @@ impl Chronicle for Journal {
     }
 }
 
-impl Chronicle for Tally {
+impl Chronicle for JournalSizes {
     ghost tells = { λ t h. IsCountOf h t.count t.octets };
 
     ghost count = { λ t. t.count };
@@ -130,23 +130,23 @@ impl Chronicle for Tally {
     ghost counted = { λ t h told. told };
 
     fn room(&self, more: &[Entry]) -> bool {
-        Tally::room(self, more)
+        JournalSizes::room(self, more)
     }
 
     fn reserve(&mut self, more: u64) -> Result<(), AllocError> {
-        Tally::reserve(self, more);
+        JournalSizes::reserve(self, more);
         Ok(())
     }
 
     fn push_reserved(&mut self, entry: Entry) {
-        Tally::push_reserved(self, entry);
+        JournalSizes::push_reserved(self, entry);
     }
 
     fn len(&self) -> u64 {
-        Tally::len(self)
+        JournalSizes::len(self)
     }
 
     fn octets(&self) -> u64 {
-        Tally::octets(self)
+        JournalSizes::octets(self)
     }
 }

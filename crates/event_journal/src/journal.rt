@@ -5,7 +5,7 @@ ghost use Rattle.event_journal.specs.declared.limits.TheConstants.{MOST_ENTRIES,
 
 use crate::edits::text_of_last;
 use crate::entry::Entry;
-use crate::tally::Tally;
+use crate::sizes::JournalSizes;
 use std::alloc::{AllocError, Global};
 use std::marker::Model;
 
@@ -14,7 +14,7 @@ use std::marker::Model;
 pub struct Journal {
     entries: Vec<Entry>,
     /// The number of the entries, their octets, the limits and the reserved room.
-    tally: Tally,
+    sizes: JournalSizes,
 }
 
 impl Drop for Journal {
@@ -22,21 +22,21 @@ impl Drop for Journal {
     fn drop(self) {
         let Journal {
             entries: _,
-            tally: _,
+            sizes: _,
         } = self;
     }
 }
 
 impl Model for Journal {
     ghost use Rattle.std.specs.Prelude.{vec_capacity};
-    ghost use Rattle.event_journal.specs.Kept.{Kept};
-    ghost use Rattle.event_journal.specs.Counted.{IsCounted};
+    ghost use Rattle.event_journal.specs.Kept.{KeptJournal};
+    ghost use Rattle.event_journal.specs.Counted.{IsTallyOf};
 
-    ghost Value = { Kept };
+    ghost Value = { KeptJournal };
 
-    ghost view = { λ j. record { entries = j.entries.items; limits = j.tally.limits; spare = j.tally.spare } };
+    ghost view = { λ j. record { entries = j.entries.items; limits = j.sizes.limits; spare = j.sizes.spare } };
 
-    ghost invariant = { λ j. IsCounted j.entries.items (vec_capacity j.entries) j.tally };
+    ghost invariant = { λ j. IsTallyOf j.entries.items (vec_capacity j.entries) j.sizes };
 }
 
 impl Journal {
@@ -64,7 +64,7 @@ impl Journal {
     {
         Journal {
             entries: Vec::new(alloc),
-            tally: Tally::new(entries, octets),
+            sizes: JournalSizes::new(entries, octets),
         }
     }
 
@@ -73,7 +73,7 @@ impl Journal {
     pub fn room(&self, more: &[Entry]) -> bool
         ensures { IsTrue result ↔ HasRoomAfter self.now.limits self.now.entries more.now }
     {
-        self.tally.room(more)
+        self.sizes.room(more)
     }
 
     /// Reserves memory for `more` further entries, whatever the limits. Room that is reserved already counts as part of
@@ -94,7 +94,7 @@ impl Journal {
         ensures no_memory { more ≤ self.old.spare → IsOk result }
     {
         self.entries.reserve(more as usize)?;
-        self.tally.reserve(more);
+        self.sizes.reserve(more);
         Ok(())
     }
 
@@ -106,7 +106,7 @@ impl Journal {
         requires reserved { 0 < self.old.spare }
         ensures { self.new ≡ with_entry self.old entry }
     {
-        self.tally.count_reserved(&entry);
+        self.sizes.count_reserved(&entry);
         self.entries.push_reserved(entry);
     }
 
@@ -118,7 +118,7 @@ impl Journal {
         // What is kept of every journal: callers learn it here.
         ensures spelled { All IsSpelled self.now.entries }
     {
-        self.tally.len()
+        self.sizes.len()
     }
 
     /// Whether the journal has no entry.
@@ -149,6 +149,6 @@ impl Journal {
         ensures within { result ≤ self.now.limits.octets }
         ensures limits { AreLimits self.now.limits }
     {
-        self.tally.octets()
+        self.sizes.octets()
     }
 }

@@ -10,22 +10,22 @@ use Rattle.std.proofs.lemmas.Map.Made.{is_some-lookup}
 use Rattle.flow_aggregate.specs.declared.sums.Sums.{Sums}
 use Rattle.flow_aggregate.specs.declared.addition.Addition.{Addition}
 use Rattle.flow_aggregate.specs.Sums.{no_sums, totals, plus}
-use Rattle.flow_aggregate.specs.Groups.{Group, Counted, group_of}
+use Rattle.flow_aggregate.specs.Groups.{Group, Sample, group_of}
 use Rattle.flow_aggregate.specs.GroupOrder.{same_group, same_group-is}
-use Rattle.flow_aggregate.specs.Running.{Entries, held_of, of_group, flows_of, sums_over, StandsFor}
+use Rattle.flow_aggregate.specs.Running.{Entries, held_of, of_group, flows_of, sums_over, SumsStand}
 use Rattle.flow_aggregate.specs.Counts.{Count, count_of}
-use Rattle.flow_aggregate.specs.Additions.{is_among, groups_in, Adds, AreReady, sums_of, with_addition, with_additions}
+use Rattle.flow_aggregate.specs.Additions.{is_among, groups_in, AddsCount, AreReadyToAdd, sums_of, with_addition, with_additions}
 use Rattle.flow_aggregate.proofs.SumLaws.{totals_more, so_far}
 use Rattle.flow_aggregate.proofs.EntryLaws.{look_written, look_there, keys_written}
 use Rattle.flow_aggregate.proofs.RunningLaws.{more_of, none_of}
 
 -- ---- the sums of groups, where a group without records has none
 
-abbrev HaveSums : Entries → List Counted → Type 0
+abbrev HaveSums : Entries → List Sample → Type 0
 HaveSums es cs = (g : Group) → unwrap_or (lookup (same_group g) es) no_sums ≡ totals (flows_of (of_group g cs))
 
 -- one record more
-one_added : (es : Entries) (a : Addition) (c : Counted) (before : List Counted) → IsDistinct same_group (keys_of es) → Adds (keys_of es) a (count_of c)
+one_added : (es : Entries) (a : Addition) (c : Sample) (before : List Sample) → IsDistinct same_group (keys_of es) → AddsCount (keys_of es) a (count_of c)
     → HaveSums es before → HaveSums (with_addition es a) (before ++ c ∷ [])
 one_added es a c before distinct adds have g =
     by (same_group g (group_of c)) refl (look_written es a.place (group_of c) g (plus (sums_of es a.place) a.counters) distinct adds.0)
@@ -43,7 +43,7 @@ one_added es a c before distinct adds have g =
         ∙ ap (λ (s : Sums). plus s a.counters) then_sums
         ∙ ap (λ (s : Sums). plus (totals (flows_of (of_group g before))) s) adds.1
         ∙ sym (totals_more (flows_of (of_group g before)) c.flow)
-        ∙ ap totals (sym (map_push (λ (d : Counted). d.flow) (of_group g before) c))
+        ∙ ap totals (sym (map_push (λ (d : Sample). d.flow) (of_group g before) c))
         ∙ ap (λ cs. totals (flows_of cs)) (sym (more_of g before c is))
     by false is found =
         ap (λ (o : Option Sums). unwrap_or o no_sums) found ∙ have g ∙ ap (λ cs. totals (flows_of cs)) (sym (none_of g before c is))
@@ -53,16 +53,16 @@ keys_added [] es = refl
 keys_added (a ∷ xs) es = keys_added xs (with_addition es a) ∙ keys_written es a.place (plus (sums_of es a.place) a.counters)
 
 -- all of them
-all_added : (xs : List Addition) (cs : List Counted) (es : Entries) (before : List Counted) → IsDistinct same_group (keys_of es)
-    → AllZip (Adds (keys_of es)) xs (map count_of cs) → HaveSums es before → HaveSums (with_additions es xs) (before ++ cs)
-all_added [] [] es before distinct adds have = subst (λ (cs : List Counted). HaveSums es cs) (sym (append-nil before)) have
+all_added : (xs : List Addition) (cs : List Sample) (es : Entries) (before : List Sample) → IsDistinct same_group (keys_of es)
+    → AllZip (AddsCount (keys_of es)) xs (map count_of cs) → HaveSums es before → HaveSums (with_additions es xs) (before ++ cs)
+all_added [] [] es before distinct adds have = subst (λ (cs : List Sample). HaveSums es cs) (sym (append-nil before)) have
 all_added [] (c ∷ cs) es before distinct adds have = absurd adds
 all_added (a ∷ xs) [] es before distinct adds have = absurd adds
 all_added (a ∷ xs) (c ∷ cs) es before distinct adds have =
     let keys : keys_of (with_addition es a) ≡ keys_of es = keys_written es a.place (plus (sums_of es a.place) a.counters) in
-    subst (λ (ds : List Counted). HaveSums (with_additions (with_addition es a) xs) ds) (append_assoc before (c ∷ []) cs)
+    subst (λ (ds : List Sample). HaveSums (with_additions (with_addition es a) xs) ds) (append_assoc before (c ∷ []) cs)
     (all_added xs cs (with_addition es a) (before ++ c ∷ []) (subst (λ (gs : List Group). IsDistinct same_group gs) (sym keys) distinct)
-    (subst (λ (gs : List Group). AllZip (Adds gs) xs (map count_of cs)) (sym keys) adds.1) (one_added es a c before distinct adds.0 have))
+    (subst (λ (gs : List Group). AllZip (AddsCount gs) xs (map count_of cs)) (sym keys) adds.1) (one_added es a c before distinct adds.0 have))
 
 -- ---- groups that were made ready have none yet
 
@@ -84,7 +84,7 @@ sums_behind (e ∷ es) fs g empty = by (same_group g e.0) (sums_behind es fs g e
   by true rest = refl
   by false rest = rest
 
-have_sums : (es fs : Entries) (before : List Counted) → AreEmpty fs → StandsFor es before → HaveSums (es ++ fs) before
+have_sums : (es fs : Entries) (before : List Sample) → AreEmpty fs → SumsStand es before → HaveSums (es ++ fs) before
 have_sums es fs before empty stands g =
     sums_behind es fs g empty ∙ ap (λ (o : Option Sums). unwrap_or o no_sums) (stands g) ∙ so_far (of_group g before)
 
@@ -99,7 +99,7 @@ any_at p (h ∷ gs) (suc i) g at is = by (p h) (any_at p gs i g at is) where
   by false rest = rest
 
 -- those that are added to have places
-added_there : (gs : List Group) (xs : List Addition) (ks : List Count) (g : Group) → AllZip (Adds gs) xs ks → is_among (groups_in ks) g ≡ true → is_among gs g ≡ true
+added_there : (gs : List Group) (xs : List Addition) (ks : List Count) (g : Group) → AllZip (AddsCount gs) xs ks → is_among (groups_in ks) g ≡ true → is_among gs g ≡ true
 added_there gs [] [] g adds is = absurd cc
 added_there gs [] (k ∷ ks) g adds is = absurd adds
 added_there gs (a ∷ xs) [] g adds is = absurd adds
@@ -117,11 +117,11 @@ wanted_there (h ∷ gs) hs g wanted is = by (same_group g h) refl is (wanted_the
   by false same is rest = rest is
 
 -- records of a group are those that were counted, and those that are added
-some_over : (cs ds : List Counted) → is_some (sums_over (cs ++ ds)) ≡ (is_some (sums_over cs) || is_some (sums_over ds))
+some_over : (cs ds : List Sample) → is_some (sums_over (cs ++ ds)) ≡ (is_some (sums_over cs) || is_some (sums_over ds))
 some_over [] ds = refl
 some_over (c ∷ cs) ds = refl
 
-some_of : (g : Group) (cs : List Counted) → is_some (sums_over (of_group g cs)) ≡ is_among (groups_in (map count_of cs)) g
+some_of : (g : Group) (cs : List Sample) → is_some (sums_over (of_group g cs)) ≡ is_among (groups_in (map count_of cs)) g
 some_of g [] = refl
 some_of g (c ∷ cs) = by (same_group g (group_of c)) (some_of g cs) where
   by : (b : Bool) → is_some (sums_over (of_group g cs)) ≡ is_among (groups_in (map count_of cs)) g
@@ -135,8 +135,8 @@ either false true c there back = sym (there refl)
 either false false true there back = back refl
 either false false false there back = refl
 
-same_groups : (es fs : Entries) (xs : List Addition) (before more : List Counted) (g : Group) → StandsFor es before
-    → AreReady (record { groups = es; ready = keys_of fs }) xs (map count_of more)
+same_groups : (es fs : Entries) (xs : List Addition) (before more : List Sample) (g : Group) → SumsStand es before
+    → AreReadyToAdd (record { groups = es; ready = keys_of fs }) xs (map count_of more)
     → is_some (lookup (same_group g) (es ++ fs)) ≡ is_some (sums_over (of_group g (before ++ more)))
 same_groups es fs xs before more g stands ready =
     let gs : List Group = keys_of es in
@@ -152,34 +152,34 @@ same_groups es fs xs before more g stands ready =
     ∙ ap (λ b. b || is_among ks g) counted
     ∙ ap (λ b. is_some (sums_over (of_group g before)) || b) (sym (some_of g more))
     ∙ sym (some_over (of_group g before) (of_group g more))
-    ∙ ap (λ cs. is_some (sums_over cs)) (sym (filter-append (λ (d : Counted). same_group g (group_of d)) before more))
+    ∙ ap (λ cs. is_some (sums_over cs)) (sym (filter-append (λ (d : Sample). same_group g (group_of d)) before more))
   where
     is_among_of : Group → List Group → Bool
     is_among_of g gs = is_among gs g
 
 -- ---- so they stand for both
 
-sums_are : (o : Option Sums) (cs : List Counted) → is_some o ≡ is_some (sums_over cs) → unwrap_or o no_sums ≡ totals (flows_of cs) → o ≡ sums_over cs
+sums_are : (o : Option Sums) (cs : List Sample) → is_some o ≡ is_some (sums_over cs) → unwrap_or o no_sums ≡ totals (flows_of cs) → o ≡ sums_over cs
 sums_are None [] there are = refl
 sums_are None (c ∷ cs) there are = absurd (true≢false (sym there))
 sums_are (Some s) [] there are = absurd (true≢false there)
 sums_are (Some s) (c ∷ cs) there are = ap (λ (t : Sums). Some t) are
 
-both_stand : (es fs : Entries) (xs : List Addition) (before more : List Counted) → IsDistinct same_group (keys_of (es ++ fs)) → AreEmpty fs → StandsFor es before
-    → AreReady (record { groups = es; ready = keys_of fs }) xs (map count_of more) → StandsFor (with_additions (es ++ fs) xs) (before ++ more)
+both_stand : (es fs : Entries) (xs : List Addition) (before more : List Sample) → IsDistinct same_group (keys_of (es ++ fs)) → AreEmpty fs → SumsStand es before
+    → AreReadyToAdd (record { groups = es; ready = keys_of fs }) xs (map count_of more) → SumsStand (with_additions (es ++ fs) xs) (before ++ more)
 both_stand es fs xs before more distinct empty stands ready g =
     let all : Entries = es ++ fs in
     let keys : keys_of all ≡ keys_of es ++ keys_of fs = map-append (λ (e : Group × Sums). e.0) es fs in
-    let adds : AllZip (Adds (keys_of all)) xs (map count_of more) = subst (λ (gs : List Group). AllZip (Adds gs) xs (map count_of more)) (sym keys) ready.each in
+    let adds : AllZip (AddsCount (keys_of all)) xs (map count_of more) = subst (λ (gs : List Group). AllZip (AddsCount gs) xs (map count_of more)) (sym keys) ready.each in
     let have = all_added xs more all before distinct adds (have_sums es fs before empty stands) g in
     let kept : is_some (lookup (same_group g) (with_additions all xs)) ≡ is_some (lookup (same_group g) all) =
     is_some-lookup (same_group g) (with_additions all xs) ∙ ap (λ (gs : List Group). is_among gs g) (keys_added xs all) ∙ sym (is_some-lookup (same_group g) all) in
     sums_are (lookup (same_group g) (with_additions all xs)) (of_group g (before ++ more)) (kept ∙ same_groups es fs xs before more g stands ready) have
 
-pub additions_stand : (n : ℕ) (es : Entries) (xs : List Addition) (before more : List Counted) → IsDistinct same_group (keys_of es)
-    → AllByRecursion (λ e. e.1 ≡ no_sums) (drop n es) → StandsFor (take n es) before → AreReady (held_of n es) xs (map count_of more)
-    → StandsFor (with_additions es xs) (before ++ more)
+pub additions_stand : (n : ℕ) (es : Entries) (xs : List Addition) (before more : List Sample) → IsDistinct same_group (keys_of es)
+    → AllByRecursion (λ e. e.1 ≡ no_sums) (drop n es) → SumsStand (take n es) before → AreReadyToAdd (held_of n es) xs (map count_of more)
+    → SumsStand (with_additions es xs) (before ++ more)
 additions_stand n es xs before more distinct empty stands ready =
     let split : take n es ++ drop n es ≡ es = take-append-drop n es in
-    subst (λ (ds : Entries). StandsFor (with_additions ds xs) (before ++ more)) split
+    subst (λ (ds : Entries). SumsStand (with_additions ds xs) (before ++ more)) split
     (both_stand (take n es) (drop n es) xs before more (subst (λ (ds : Entries). IsDistinct same_group (keys_of ds)) (sym split) distinct) empty stands ready)

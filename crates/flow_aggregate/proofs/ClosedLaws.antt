@@ -16,7 +16,7 @@ use Rattle.ipfix_element.specs.Registry.{registry}
 use Rattle.ipfix_template.specs.declared.field.FieldSpec.{FieldSpec}
 use Rattle.ipfix_template.specs.declared.template.Template.{Template}
 use Rattle.ipfix_template.specs.declared.template.Refused.TheVariants.{BadLength, EmptyRecord}
-use Rattle.ipfix_template.specs.Template.{is_variable, least_octets, has_allowed_length, refusal_of, IsAccepted, specifier, specifier_of}
+use Rattle.ipfix_template.specs.Template.{is_variable, least_octets, has_allowed_length, refusal_of, IsAcceptable, specifier, specifier_of}
 use Rattle.ipfix_template.specs.Values.{fits_field, fit_fields, value_text, record_text}
 use Rattle.ipfix_template.specs.DataRecord.{IsSound}
 use Rattle.ipfix_template.proofs.Encoding.{octets_of_record}
@@ -152,7 +152,7 @@ some_octets key =
     let last : sum_by least_octets sum_fields ≡ 40 = refl in
     ne_eqb _ 0 (λ e. omega (arith, all, last, e))
 
-accepted : (a : Aggregate) → HaveWidths a.key → IsAccepted (closed_template a)
+accepted : (a : Aggregate) → HaveWidths a.key → IsAcceptable (closed_template a)
 unfolding refusal_of closed_template
 accepted a widths =
     accepts (list_all has_allowed_length (key_fields a.key ++ sum_fields)) (sum_by least_octets (key_fields a.key ++ sum_fields) == 0) (all_allowed a.key widths) (some_octets a.key)

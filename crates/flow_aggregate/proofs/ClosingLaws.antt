@@ -15,9 +15,9 @@ use Rattle.std.proofs.lemmas.Map.Keys.{IsDistinct-IsPermutation}
 use Rattle.indexmap.proofs.MapLemmas.{lookup_permutation}
 use Rattle.flow_aggregate.specs.declared.sums.Sums.{Sums}
 use Rattle.flow_aggregate.specs.declared.closed.ClosedAggregate.{ClosedAggregate}
-use Rattle.flow_aggregate.specs.Groups.{Group, Counted}
+use Rattle.flow_aggregate.specs.Groups.{Group, Sample}
 use Rattle.flow_aggregate.specs.GroupOrder.{same_group, group_cmp, group_total, same_group-is, same_group-whole}
-use Rattle.flow_aggregate.specs.Running.{Entries, Held, held_of, sums_at, StandsFor, is_due, pair_of, pairs_of, sums_in, AreClosed, closed_one, due_one, due_of}
+use Rattle.flow_aggregate.specs.Running.{Entries, HeldGroups, held_of, sums_at, SumsStand, is_due, pair_of, pairs_of, sums_in, AreClosed, closed_one, due_one, due_of}
 use Rattle.flow_aggregate.proofs.EntryLaws.{same_both}
 
 pub due_more : (t : ℕ) (es : Entries) (e : Group × Sums) → due_of t (es ++ e ∷ []) ≡ due_of t es ++ due_one t e.0 e.1
@@ -25,14 +25,14 @@ due_more t [] e = append-nil (due_one t e.0 e.1)
 due_more t (d ∷ es) e = ap (λ rest. due_one t d.0 d.1 ++ rest) (due_more t es e) ∙ sym (append_assoc (due_one t d.0 d.1) (due_of t es) (due_one t e.0 e.1))
 
 -- one more of the first so many groups
-pub due_step : (t n : ℕ) (es : Entries) (held : Held) (i : ℕ) (g : Group) (s : Sums) (done after : List ClosedAggregate) → held_of n es ≡ held → i < n → n ≤ length es
+pub due_step : (t n : ℕ) (es : Entries) (held : HeldGroups) (i : ℕ) (g : Group) (s : Sums) (done after : List ClosedAggregate) → held_of n es ≡ held → i < n → n ≤ length es
     → Some (g, s) ≡ slice_get es i → done ≡ due_of t (take i held.groups) → after ≡ done ++ due_one t g s → after ≡ due_of t (take (i + 1) held.groups)
 due_step t n es held i g s done after same within short there so_far is =
     let e : Group × Sums = (g, s) in
     let here : get_or es i e ≡ e = get_or_from_slice_get es i e e (sym there) in
     let more : take (i + 1) es ≡ take i es ++ e ∷ [] = take_more es i e (omega (arith, within, short)) ∙ ap (λ (d : Group × Sums). take i es ++ d ∷ []) here in
-    let front : take i held.groups ≡ take i es = ap (λ (h : Held). take i h.groups) (sym same) ∙ take-take i n es (omega (arith, within)) in
-    let front_more : take (i + 1) held.groups ≡ take (i + 1) es = ap (λ (h : Held). take (i + 1) h.groups) (sym same) ∙ take-take (i + 1) n es (omega (arith, within)) in
+    let front : take i held.groups ≡ take i es = ap (λ (h : HeldGroups). take i h.groups) (sym same) ∙ take-take i n es (omega (arith, within)) in
+    let front_more : take (i + 1) held.groups ≡ take (i + 1) es = ap (λ (h : HeldGroups). take (i + 1) h.groups) (sym same) ∙ take-take (i + 1) n es (omega (arith, within)) in
     is ∙ ap (λ (ds : List ClosedAggregate). ds ++ due_one t g s) (so_far ∙ ap (λ (ds : Entries). due_of t ds) front) ∙ sym (due_more t (take i es) e)
     ∙ ap (λ (ds : Entries). due_of t ds) (sym more ∙ sym front_more)
 
@@ -76,8 +76,8 @@ due_look t (e ∷ es) g distinct = by (is_due t e.0) (same_group g e.0) refl ref
 key_test : (g : Group) → IsKeyTest same_group (same_group g)
 key_test g x y same = ap (λ h. same_group h y) (same_group-is g x same)
 
-pub are_closed : (t : ℕ) (es : Entries) (due closed : List ClosedAggregate) (cs : List Counted) → IsDistinct same_group (keys_of es) → due ≡ due_of t es
-    → IsPermutation due closed → IsSortedByKey (λ c. c.group) group_cmp closed → StandsFor es cs → AreClosed t cs closed
+pub are_closed : (t : ℕ) (es : Entries) (due closed : List ClosedAggregate) (cs : List Sample) → IsDistinct same_group (keys_of es) → due ≡ due_of t es
+    → IsPermutation due closed → IsSortedByKey (λ c. c.group) group_cmp closed → SumsStand es cs → AreClosed t cs closed
 are_closed t es due closed cs distinct is moves ascend stands =
     let pairs = IsPermutation-map pair_of due closed moves in
     let keys = IsPermutation-map (λ (p : Group × Sums). p.0) (pairs_of due) (pairs_of closed) pairs in

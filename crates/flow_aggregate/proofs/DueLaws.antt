@@ -7,8 +7,8 @@ use Rattle.std.proofs.lemmas.List.{take_more}
 use Rattle.std.proofs.lemmas.Option.{get_or_from_slice_get, slice_get_within, slice_get-map}
 use Rattle.flow_aggregate.specs.declared.sums.Sums.{Sums}
 use Rattle.flow_aggregate.specs.Placing.{closes_at}
-use Rattle.flow_aggregate.specs.Groups.{Group, Counted}
-use Rattle.flow_aggregate.specs.Running.{Entries, Held, held_of, places, StandsFor, staying, is_due, NoneDueBefore, due_of, closed_one}
+use Rattle.flow_aggregate.specs.Groups.{Group, Sample}
+use Rattle.flow_aggregate.specs.Running.{Entries, HeldGroups, held_of, places, SumsStand, staying, is_due, NoneDueBefore, due_of, closed_one}
 use Rattle.flow_aggregate.proofs.RunningLaws.{stays}
 use Rattle.flow_aggregate.proofs.PlaceLaws.{places_kept}
 
@@ -28,9 +28,9 @@ all_stay t time (e ∷ es) before early =
     let stay : Entries = filter (λ d. not (is_due t d.0)) es in
     ap (λ b. cond (not b) (e ∷ stay) stay) (not_due t time e.0 before.0 early) ∙ ap (λ (ds : Entries). e ∷ ds) (all_stay t time es before.1 early)
 
-pub still_stands : (t time : ℕ) (es : Entries) (cs : List Counted) → NoneDueBefore time (keys_of es) → t < time → StandsFor es cs → StandsFor es (staying t cs)
+pub still_stands : (t time : ℕ) (es : Entries) (cs : List Sample) → NoneDueBefore time (keys_of es) → t < time → SumsStand es cs → SumsStand es (staying t cs)
 still_stands t time es cs before early stands =
-    subst (λ (ds : Entries). StandsFor ds (staying t cs)) (all_stay t time es before early) (stays t es cs stands)
+    subst (λ (ds : Entries). SumsStand ds (staying t cs)) (all_stay t time es before early) (stays t es cs stands)
 
 -- ---- such a time is kept
 
@@ -59,7 +59,7 @@ pub with_one : (time closes sooner : ℕ) (gs : List Group) (g : Group) → None
 with_one time closes sooner gs g before is least =
     one_more sooner gs g (lower time sooner gs (omega (arith, least)) before) (omega (arith, is, least))
 
-pub first_step : (time closes sooner n i : ℕ) (es : Entries) (held : Held) (g : Group) (s : Sums) → NoneDueBefore time (take i (places held)) → held_of n es ≡ held → i < length es
+pub first_step : (time closes sooner n i : ℕ) (es : Entries) (held : HeldGroups) (g : Group) (s : Sums) → NoneDueBefore time (take i (places held)) → held_of n es ≡ held → i < length es
     → Some (g, s) ≡ slice_get es i → closes ≡ closes_at g.definition g.start → sooner ≡ min time closes → NoneDueBefore sooner (take (i + 1) (places held))
 first_step time closes sooner n i es held g s before same within there is least =
     let keys : keys_of es ≡ places held = places_kept n es ∙ ap places same in

@@ -9,11 +9,11 @@ use Rattle.flow_aggregate.specs.declared.sums.Sums.{Sums}
 use Rattle.flow_aggregate.specs.declared.addition.Addition.{Addition}
 use Rattle.flow_aggregate.specs.Sums.{no_sums}
 use Rattle.flow_aggregate.specs.Placing.{closes_at}
-use Rattle.flow_aggregate.specs.Groups.{Group, Counted, group_of}
+use Rattle.flow_aggregate.specs.Groups.{Group, Sample, group_of}
 use Rattle.flow_aggregate.specs.GroupOrder.{same_group, same_group-whole}
-use Rattle.flow_aggregate.specs.Running.{Entries, Held, held_of, places, of_group, sums_over, StandsFor, NoneDueBefore, AreKept}
+use Rattle.flow_aggregate.specs.Running.{Entries, HeldGroups, held_of, places, of_group, sums_over, SumsStand, NoneDueBefore, AreGroupsKept}
 use Rattle.flow_aggregate.specs.Counts.{count_of}
-use Rattle.flow_aggregate.specs.Additions.{AreReady, with_additions}
+use Rattle.flow_aggregate.specs.Additions.{AreReadyToAdd, with_additions}
 use Rattle.flow_aggregate.proofs.DueLaws.{with_one, of_first, of_some}
 use Rattle.flow_aggregate.proofs.PlaceLaws.{places_kept, length_places}
 use Rattle.flow_aggregate.proofs.AdditionLaws.{keys_added, additions_stand}
@@ -25,14 +25,14 @@ empty_more : (es : Entries) (g : Group) → AreEmpty es → AreEmpty (es ++ (g, 
 empty_more [] g empty = (refl, tt)
 empty_more (e ∷ es) g empty = (empty.0, empty_more es g empty.1)
 
-pub kept_more : (n time closes sooner : ℕ) (es fs : Entries) (g : Group) (s : Sums) → AreKept n time es → IsDistinct same_group (keys_of fs) → fs ≡ es ++ (g, s) ∷ []
-    → s ≡ no_sums → closes ≡ closes_at g.definition g.start → sooner ≡ min time closes → AreKept n sooner fs
+pub kept_more : (n time closes sooner : ℕ) (es fs : Entries) (g : Group) (s : Sums) → AreGroupsKept n time es → IsDistinct same_group (keys_of fs) → fs ≡ es ++ (g, s) ∷ []
+    → s ≡ no_sums → closes ≡ closes_at g.definition g.start → sooner ≡ min time closes → AreGroupsKept n sooner fs
 kept_more n time closes sooner es fs g s kept once grown none is least =
     let one : Entries = (g, no_sums) ∷ [] in
     let all : fs ≡ es ++ one = grown ∙ ap (λ (t : Sums). es ++ (g, t) ∷ []) none in
     let keys : keys_of (es ++ one) ≡ keys_of es ++ g ∷ [] = map-append (λ (e : Group × Sums). e.0) es one in
     let behind : drop n (es ++ one) ≡ drop n es ++ one = drop-append-le n es one kept.within in
-    subst (λ (ds : Entries). AreKept n sooner ds) (sym all) (record {
+    subst (λ (ds : Entries). AreGroupsKept n sooner ds) (sym all) (record {
       within = omega (arith, kept.within, length-append es one);
       once = subst (λ (ds : Entries). IsDistinct same_group (keys_of ds)) all once;
       empty = subst AreEmpty (sym behind) (empty_more (drop n es) g kept.empty);
@@ -40,7 +40,7 @@ kept_more n time closes sooner es fs g s kept once grown none is least =
     })
 
 -- where all entries count
-whole : (n time : ℕ) (es : Entries) → n ≡ length es → IsDistinct same_group (keys_of es) → NoneDueBefore time (keys_of es) → AreKept n time es
+whole : (n time : ℕ) (es : Entries) → n ≡ length es → IsDistinct same_group (keys_of es) → NoneDueBefore time (keys_of es) → AreGroupsKept n time es
 whole n time es long once later = record {
   within = omega (arith, long);
   once = once;
@@ -48,13 +48,13 @@ whole n time es long once later = record {
   later = later;
 }
 
-pub kept_first : (n time : ℕ) (es fs : Entries) → AreKept n time es → IsDistinct same_group (keys_of fs) → fs ≡ take n es → AreKept n time fs
+pub kept_first : (n time : ℕ) (es fs : Entries) → AreGroupsKept n time es → IsDistinct same_group (keys_of fs) → fs ≡ take n es → AreGroupsKept n time fs
 kept_first n time es fs kept once is =
     whole n time fs (omega (arith, ap length is, length-take n es, kept.within)) once
     (subst (λ (ds : Entries). NoneDueBefore time (keys_of ds)) (sym is) (of_first time n es kept.later))
 
-pub kept_some : (n m time : ℕ) (p : Group × Sums → Bool) (es fs : Entries) → AreKept n time es → IsDistinct same_group (keys_of fs) → fs ≡ filter p es → m ≡ length fs
-    → AreKept m time fs
+pub kept_some : (n m time : ℕ) (p : Group × Sums → Bool) (es fs : Entries) → AreGroupsKept n time es → IsDistinct same_group (keys_of fs) → fs ≡ filter p es → m ≡ length fs
+    → AreGroupsKept m time fs
 kept_some n m time p es fs kept once is long =
     whole m time fs long once (subst (λ (ds : Entries). NoneDueBefore time (keys_of ds)) (sym is) (of_some time p es kept.later))
 
@@ -62,9 +62,9 @@ pub length_added : (es : Entries) (xs : List Addition) → length (with_addition
 length_added es xs =
     sym (length-map (with_additions es xs) (λ (e : Group × Sums). e.0)) ∙ ap length (keys_added xs es) ∙ length-map es (λ (e : Group × Sums). e.0)
 
-pub kept_added : (n m time : ℕ) (es fs : Entries) (xs : List Addition) → AreKept n time es → fs ≡ with_additions es xs → m ≡ length es → AreKept m time fs
+pub kept_added : (n m time : ℕ) (es fs : Entries) (xs : List Addition) → AreGroupsKept n time es → fs ≡ with_additions es xs → m ≡ length es → AreGroupsKept m time fs
 kept_added n m time es fs xs kept is long =
-    subst (λ (ds : Entries). AreKept m time ds) (sym is)
+    subst (λ (ds : Entries). AreGroupsKept m time ds) (sym is)
     (whole m time (with_additions es xs) (long ∙ sym (length_added es xs))
     (subst (λ (gs : List Group). IsDistinct same_group gs) (sym (keys_added xs es)) kept.once) (subst (λ (gs : List Group). NoneDueBefore time gs) (sym (keys_added xs es)) kept.later))
 
@@ -80,8 +80,8 @@ front_once zero es once = tt
 front_once (suc n) [] once = tt
 front_once (suc n) (e ∷ es) once = (all_front (λ y. same_group e.0 y ≡ false) n es once.0, front_once n es once.1)
 
-pub counted_once : (n : ℕ) (es : Entries) (held : Held) → held_of n es ≡ held → IsDistinct same_group (keys_of es) → IsDistinct same_group (keys_of held.groups)
-counted_once n es held same once = subst (λ (h : Held). IsDistinct same_group (keys_of h.groups)) same (front_once n es once)
+pub counted_once : (n : ℕ) (es : Entries) (held : HeldGroups) → held_of n es ≡ held → IsDistinct same_group (keys_of es) → IsDistinct same_group (keys_of held.groups)
+counted_once n es held same once = subst (λ (h : HeldGroups). IsDistinct same_group (keys_of h.groups)) same (front_once n es once)
 
 -- ---- the ends of calls
 
@@ -89,19 +89,19 @@ added_whole : (m : ℕ) (es fs : Entries) (xs : List Addition) → fs ≡ with_a
 added_whole m es fs xs is long = omega (arith, ap length is ∙ length_added es xs, long)
 
 -- once all was added, all groups count
-pub added_stand : (n m time : ℕ) (es fs : Entries) (held : Held) (xs : List Addition) (before more : List Counted) → AreKept n time es → held_of n es ≡ held → fs ≡ with_additions es xs
-    → m ≡ length es → StandsFor held.groups before → AreReady held xs (map count_of more) → StandsFor (take m fs) (before ++ more)
+pub added_stand : (n m time : ℕ) (es fs : Entries) (held : HeldGroups) (xs : List Addition) (before more : List Sample) → AreGroupsKept n time es → held_of n es ≡ held → fs ≡ with_additions es xs
+    → m ≡ length es → SumsStand held.groups before → AreReadyToAdd held xs (map count_of more) → SumsStand (take m fs) (before ++ more)
 added_stand n m time es fs held xs before more kept same is long stands ready =
-    let stood : StandsFor (take n es) before = subst (λ (h : Held). StandsFor h.groups before) (sym same) stands in
-    let made : AreReady (held_of n es) xs (map count_of more) = subst (λ (h : Held). AreReady h xs (map count_of more)) (sym same) ready in
-    subst (λ (ds : Entries). StandsFor ds (before ++ more)) (sym (take_all m fs (added_whole m es fs xs is long) ∙ is))
+    let stood : SumsStand (take n es) before = subst (λ (h : HeldGroups). SumsStand h.groups before) (sym same) stands in
+    let made : AreReadyToAdd (held_of n es) xs (map count_of more) = subst (λ (h : HeldGroups). AreReadyToAdd h xs (map count_of more)) (sym same) ready in
+    subst (λ (ds : Entries). SumsStand ds (before ++ more)) (sym (take_all m fs (added_whole m es fs xs is long) ∙ is))
     (additions_stand n es xs before more kept.once kept.empty stood made)
 
 pub none_ready : (m : ℕ) (es fs : Entries) (xs : List Addition) → fs ≡ with_additions es xs → m ≡ length es → keys_of (drop m fs) ≡ []
 none_ready m es fs xs is long = ap (λ (ds : Entries). keys_of ds) (drop_all m fs (added_whole m es fs xs is long))
 
 -- a later time may do
-pub kept_until : (n time later : ℕ) (es : Entries) (held : Held) → AreKept n time es → held_of n es ≡ held → NoneDueBefore later (places held) → AreKept n later es
+pub kept_until : (n time later : ℕ) (es : Entries) (held : HeldGroups) → AreGroupsKept n time es → held_of n es ≡ held → NoneDueBefore later (places held) → AreGroupsKept n later es
 kept_until n time later es held kept same before = record {
   within = kept.within;
   once = kept.once;
@@ -109,15 +109,15 @@ kept_until n time later es held kept same before = record {
   later = subst (λ (gs : List Group). NoneDueBefore later gs) (sym (places_kept n es ∙ ap places same)) before;
 }
 
-pub counted_later : (n time : ℕ) (es : Entries) (held : Held) → AreKept n time es → held_of n es ≡ held → NoneDueBefore time (keys_of held.groups)
-counted_later n time es held kept same = subst (λ (h : Held). NoneDueBefore time (keys_of h.groups)) same (of_first time n es kept.later)
+pub counted_later : (n time : ℕ) (es : Entries) (held : HeldGroups) → AreGroupsKept n time es → held_of n es ≡ held → NoneDueBefore time (keys_of held.groups)
+counted_later n time es held kept same = subst (λ (h : HeldGroups). NoneDueBefore time (keys_of h.groups)) same (of_first time n es kept.later)
 
 -- ---- how many are kept
 
-abbrev by_group : Counted → Group × Counted
+abbrev by_group : Sample → Group × Sample
 by_group c = (group_of c, c)
 
-some_there : (g : Group) (cs : List Counted) → is_some (sums_over (of_group g cs)) ≡ true → is_some (lookup (same_group g) (map by_group cs)) ≡ true
+some_there : (g : Group) (cs : List Sample) → is_some (sums_over (of_group g cs)) ≡ true → is_some (lookup (same_group g) (map by_group cs)) ≡ true
 some_there g [] is = absurd cc
 some_there g (c ∷ cs) is = by (same_group g (group_of c)) is (some_there g cs) where
   by : (b : Bool) → is_some (sums_over (cond b (c ∷ of_group g cs) (of_group g cs))) ≡ true
@@ -127,14 +127,14 @@ some_there g (c ∷ cs) is = by (same_group g (group_of c)) is (some_there g cs)
   by false is rest = rest is
 
 -- no more groups count than records do
-few_counted : (es : Entries) (cs : List Counted) → IsDistinct same_group (keys_of es) → StandsFor es cs → length es ≤ length cs
+few_counted : (es : Entries) (cs : List Sample) → IsDistinct same_group (keys_of es) → SumsStand es cs → length es ≤ length cs
 few_counted es cs once stands =
     let few : length (keys_of es) ≤ length (map by_group cs) =
     length-le_from_keys same_group-whole (keys_of es) (map by_group cs) once
     (λ g there. some_there g cs (ap is_some (sym (stands g)) ∙ is_some-lookup (same_group g) es ∙ there)) in
     omega (arith, few, length-map es (λ (e : Group × Sums). e.0), length-map cs by_group)
 
-pub few_kept : (n time : ℕ) (es : Entries) (held : Held) (cs : List Counted) → AreKept n time es → held_of n es ≡ held → StandsFor held.groups cs
+pub few_kept : (n time : ℕ) (es : Entries) (held : HeldGroups) (cs : List Sample) → AreGroupsKept n time es → held_of n es ≡ held → SumsStand held.groups cs
     → length es ≤ length cs + length held.ready
 few_kept n time es held cs kept same stands =
     let few = few_counted held.groups cs (counted_once n es held same kept.once) stands in

@@ -12,7 +12,7 @@ use Rattle.ipfix_template.specs.DataRecord.{DataRecord}
 use Rattle.flow_aggregate.specs.declared.sums.Sums.{Sums}
 use Rattle.flow_aggregate.specs.declared.closed.ClosedAggregate.{ClosedAggregate}
 use Rattle.flow_aggregate.specs.Sums.{totals}
-use Rattle.flow_aggregate.specs.Groups.{Group, Counted, group_of}
+use Rattle.flow_aggregate.specs.Groups.{Group, Sample, group_of}
 use Rattle.flow_aggregate.specs.GroupOrder.{same_group, group_cmp, same_group-is, group_total, group_ties}
 use Rattle.flow_aggregate.specs.Running.{of_group, flows_of, sums_over, is_due, closed_sums, pairs_of, AreClosed}
 use Rattle.flow_aggregate.specs.Closed.{closed_record}
@@ -51,11 +51,11 @@ in_order_rises v (g ∷ gs) =
     subst (λ (es : Valued). T (is_sorted group_cmp es)) (sym (put_valued v g (in_order gs))) (is_sorted-put group_cmp group_total g (v g) (valued v (in_order gs)) (in_order_rises v gs))
 
 -- a value where there are records
-abbrev if_any : List Counted → Sums → Option Sums
+abbrev if_any : List Sample → Sums → Option Sums
 if_any [] s = None
 if_any (c ∷ cs) s = Some s
 
-found_in_order : (v : Group → Sums) (cs : List Counted) (q : Group) → find group_cmp q (valued v (groups_of cs)) ≡ if_any (of_group q cs) (v q)
+found_in_order : (v : Group → Sums) (cs : List Sample) (q : Group) → find group_cmp q (valued v (groups_of cs)) ≡ if_any (of_group q cs) (v q)
 found_in_order v [] q = refl
 found_in_order v (c ∷ cs) q =
     ap (λ (es : Valued). find group_cmp q es) (put_valued v (group_of c) (groups_of cs))
@@ -69,10 +69,10 @@ found_in_order v (c ∷ cs) q =
 
 -- ---- the list of the definition
 
-abbrev summed : List Counted → Group → Sums
+abbrev summed : List Sample → Group → Sums
 summed counted g = totals (flows_of (of_group g counted))
 
-abbrev listed : ℕ → List Counted → Valued
+abbrev listed : ℕ → List Sample → Valued
 listed t counted = where_key group_cmp (is_due t) (valued (summed counted) (groups_of counted))
 
 due_valued : (v : Group → Sums) (t : ℕ) (gs : List Group) → where_key group_cmp (is_due t) (valued v gs) ≡ valued v (filter (is_due t) gs)
@@ -83,11 +83,11 @@ due_valued v t (g ∷ gs) = by (is_due t g) (due_valued v t gs) where
   by true rest = ap (λ (es : Valued). (g, v g) ∷ es) rest
   by false rest = rest
 
-any_sums : (cs : List Counted) → if_any cs (totals (flows_of cs)) ≡ sums_over cs
+any_sums : (cs : List Sample) → if_any cs (totals (flows_of cs)) ≡ sums_over cs
 any_sums [] = refl
 any_sums (c ∷ cs) = refl
 
-found_listed : (t : ℕ) (counted : List Counted) (q : Group) → find group_cmp q (listed t counted) ≡ closed_sums t counted q
+found_listed : (t : ℕ) (counted : List Sample) (q : Group) → find group_cmp q (listed t counted) ≡ closed_sums t counted q
 found_listed t counted q =
     find-where_key group_cmp (is_due t) q (λ x tied. ap (λ (g : Group). is_due t g) (sym (tied_one q x tied))) (valued (summed counted) (groups_of counted))
     ∙ ap (λ (o : Option Sums). cond (is_due t q) o None) (found_in_order (summed counted) counted q ∙ any_sums (of_group q counted))
@@ -152,11 +152,11 @@ by_pairs : (closed : List ClosedAggregate) → map record_of closed ≡ map reco
 by_pairs [] = refl
 by_pairs (c ∷ cs) = ap (λ (rs : List DataRecord). record_of c ∷ rs) (by_pairs cs)
 
-by_groups : (counted : List Counted) (gs : List Group) → map record_at (valued (summed counted) gs) ≡ map (closed_of counted) gs
+by_groups : (counted : List Sample) (gs : List Group) → map record_at (valued (summed counted) gs) ≡ map (closed_of counted) gs
 by_groups counted [] = refl
 by_groups counted (g ∷ gs) = ap (λ (rs : List DataRecord). closed_of counted g ∷ rs) (by_groups counted gs)
 
-pub are_those : (t : ℕ) (counted : List Counted) (closed : List ClosedAggregate) → AreClosed t counted closed → map record_of closed ≡ closed_by t counted
+pub are_those : (t : ℕ) (counted : List Sample) (closed : List ClosedAggregate) → AreClosed t counted closed → map record_of closed ≡ closed_by t counted
 unfolding closed_by
 are_those t counted closed are =
     let ordered = is_sorted-where_key group_cmp (is_due t) (valued (summed counted) (groups_of counted)) (in_order_rises (summed counted) (map group_of counted)) in

@@ -14,16 +14,16 @@ use Rattle.flow_aggregate.specs.declared.sums.Sums.{Sums}
 use Rattle.flow_aggregate.specs.declared.addition.Addition.{Addition}
 use Rattle.flow_aggregate.specs.Groups.{Group}
 use Rattle.flow_aggregate.specs.GroupOrder.{same_group, same_group-is, same_group-itself}
-use Rattle.flow_aggregate.specs.Running.{Entries, Held, held_of, places}
+use Rattle.flow_aggregate.specs.Running.{Entries, HeldGroups, held_of, places}
 use Rattle.flow_aggregate.specs.Counts.{Count}
-use Rattle.flow_aggregate.specs.Additions.{is_among, groups_in, Adds, MakesAtMost}
+use Rattle.flow_aggregate.specs.Additions.{is_among, groups_in, AddsCount, MakesAtMost}
 
 pub places_kept : (n : ℕ) (es : Entries) → keys_of es ≡ places (held_of n es)
 places_kept n es = ap (λ (ds : Entries). keys_of ds) (sym (take-append-drop n es)) ∙ map-append (λ (e : Group × Sums). e.0) (take n es) (drop n es)
 
-pub length_places : (n : ℕ) (es : Entries) (held : Held) → held_of n es ≡ held → length (places held) ≡ length es
+pub length_places : (n : ℕ) (es : Entries) (held : HeldGroups) → held_of n es ≡ held → length (places held) ≡ length es
 length_places n es held same =
-    ap (λ (h : Held). length (places h)) (sym same) ∙ ap length (sym (places_kept n es)) ∙ length-map es (λ (e : Group × Sums). e.0)
+    ap (λ (h : HeldGroups). length (places h)) (sym same) ∙ ap length (sym (places_kept n es)) ∙ length-map es (λ (e : Group × Sums). e.0)
 
 -- the place of a group that was found
 pub found_place : (gs : List Group) (g : Group) (i : ℕ) → position (same_group g) gs ≡ Some i → slice_get gs i ≡ Some g
@@ -42,24 +42,24 @@ place_stays (h ∷ gs) hs zero g at = at
 place_stays (h ∷ gs) hs (suc i) g at = place_stays gs hs i g at
 
 -- a group that was looked for in vain is wanting
-pub wanting : (n : ℕ) (es : Entries) (held : Held) (g k : Group) → held_of n es ≡ held → g ≡ k → is_among (places held) k ≡ false → lookup (same_group g) es ≡ None
+pub wanting : (n : ℕ) (es : Entries) (held : HeldGroups) (g k : Group) → held_of n es ≡ held → g ≡ k → is_among (places held) k ≡ false → lookup (same_group g) es ≡ None
 wanting n es held g k same is not_there =
     let keys : keys_of es ≡ places held = places_kept n es ∙ ap places same in
     none_from_is_some (lookup (same_group g) es)
     (is_some-lookup (same_group g) es ∙ ap (λ (gs : List Group). list_any (same_group g) gs) keys ∙ ap (λ h. is_among (places held) h) is ∙ not_there)
 
-pub not_found : (n : ℕ) (es : Entries) (held : Held) (k : Group) (found : Option ℕ) → held_of n es ≡ held → is_some found ≡ is_some (lookup (same_group k) es) → found ≡ None
+pub not_found : (n : ℕ) (es : Entries) (held : HeldGroups) (k : Group) (found : Option ℕ) → held_of n es ≡ held → is_some found ≡ is_some (lookup (same_group k) es) → found ≡ None
     → is_among (places held) k ≡ false
 not_found n es held k found same there none =
-    ap (λ (h : Held). is_among (places h) k) (sym same) ∙ ap (λ (gs : List Group). is_among gs k) (sym (places_kept n es)) ∙ sym (is_some-lookup (same_group k) es)
+    ap (λ (h : HeldGroups). is_among (places h) k) (sym same) ∙ ap (λ (gs : List Group). is_among gs k) (sym (places_kept n es)) ∙ sym (is_some-lookup (same_group k) es)
     ∙ sym there ∙ ap is_some none
 
-pub found_at : (n : ℕ) (es : Entries) (held : Held) (k : Group) (found : Option ℕ) (i : ℕ) → held_of n es ≡ held → found ≡ position (same_group k) (keys_of es) → found ≡ Some i
+pub found_at : (n : ℕ) (es : Entries) (held : HeldGroups) (k : Group) (found : Option ℕ) (i : ℕ) → held_of n es ≡ held → found ≡ position (same_group k) (keys_of es) → found ≡ Some i
     → slice_get (places held) i ≡ Some k
 found_at n es held k found i same is there =
-    ap (λ (h : Held). slice_get (places h) i) (sym same) ∙ ap (λ (gs : List Group). slice_get gs i) (sym (places_kept n es)) ∙ found_place (keys_of es) k i (sym is ∙ there)
+    ap (λ (h : HeldGroups). slice_get (places h) i) (sym same) ∙ ap (λ (gs : List Group). slice_get gs i) (sym (places_kept n es)) ∙ found_place (keys_of es) k i (sym is ∙ there)
 
-pub made_at : {E : Type 0} (made : Result ℕ E) (held held2 : Held) (k : Group)
+pub made_at : {E : Type 0} (made : Result ℕ E) (held held2 : HeldGroups) (k : Group)
     → IfOk made (λ place. (place ≡ length (places held)) × (held2 ≡ record { groups = held.groups; ready = held.ready ++ k ∷ [] })) → IfOk made (λ place. slice_get (places held2) place ≡ Some k)
 made_at (Err e) held held2 k is = tt
 made_at (Ok place) held held2 k is =
@@ -67,10 +67,10 @@ made_at (Ok place) held held2 k is =
     ap (λ (gs : List Group). slice_get gs place) more ∙ ap (λ (i : ℕ). slice_get (places held ++ k ∷ []) i) is.0 ∙ last_place (places held) k
 
 -- where nothing is ready, all entries count
-pub all_counted : (n : ℕ) (es : Entries) (held : Held) → held_of n es ≡ held → held.ready ≡ [] → es ≡ held.groups
+pub all_counted : (n : ℕ) (es : Entries) (held : HeldGroups) → held_of n es ≡ held → held.ready ≡ [] → es ≡ held.groups
 all_counted n es held same none =
-    sym (take-append-drop n es) ∙ ap (λ (ds : Entries). take n es ++ ds) (no_entries (drop n es) (ap (λ (h : Held). h.ready) same ∙ none)) ∙ append-nil (take n es)
-    ∙ ap (λ (h : Held). h.groups) same
+    sym (take-append-drop n es) ∙ ap (λ (ds : Entries). take n es ++ ds) (no_entries (drop n es) (ap (λ (h : HeldGroups). h.ready) same ∙ none)) ∙ append-nil (take n es)
+    ∙ ap (λ (h : HeldGroups). h.groups) same
   where
     no_entries : (ds : Entries) → keys_of ds ≡ [] → ds ≡ []
     no_entries [] is = refl
@@ -79,11 +79,11 @@ all_counted n es held same none =
 -- so many counted entries, and no others
 pub held_whole : (n : ℕ) (es : Entries) → length es ≤ n → held_of n es ≡ record { groups = es; ready = [] }
 held_whole n es past = ap (λ (ds : Entries). held_from ds (keys_of (drop n es))) (take_all n es past) ∙ ap (λ (ds : Entries). held_from es (keys_of ds)) (drop_all n es past) where
-  held_from : Entries → List Group → Held
+  held_from : Entries → List Group → HeldGroups
   held_from ds hs = record { groups = ds; ready = hs }
 
 -- a group is made
-pub held_more : (n : ℕ) (es fs : Entries) (held : Held) (g k : Group) (s : Sums) → n ≤ length es → held_of n es ≡ held → fs ≡ es ++ (g, s) ∷ [] → g ≡ k
+pub held_more : (n : ℕ) (es fs : Entries) (held : HeldGroups) (g k : Group) (s : Sums) → n ≤ length es → held_of n es ≡ held → fs ≡ es ++ (g, s) ∷ [] → g ≡ k
     → held_of n fs ≡ record { groups = held.groups; ready = held.ready ++ k ∷ [] }
 held_more n es fs held g k s within same grown is =
     let front : take n (es ++ (g, s) ∷ []) ≡ take n es = take-append-le n es ((g, s) ∷ []) within in
@@ -93,14 +93,14 @@ held_more n es fs held g k s within same grown is =
     ∙ ap (λ (ds : Entries). held_from ds (keys_of (drop n (es ++ (g, s) ∷ [])))) front
     ∙ ap (λ (hs : List Group). held_from (take n es) hs) (ap (λ (ds : Entries). keys_of ds) behind ∙ keys)
     ∙ ap (λ (h : Group). held_from (take n es) (keys_of (drop n es) ++ h ∷ [])) is
-    ∙ ap (λ (h : Held). held_from h.groups (h.ready ++ k ∷ [])) same
+    ∙ ap (λ (h : HeldGroups). held_from h.groups (h.ready ++ k ∷ [])) same
   where
-    held_from : Entries → List Group → Held
+    held_from : Entries → List Group → HeldGroups
     held_from ds hs = record { groups = ds; ready = hs }
 
 -- ---- one count more is ready
 
-adds_stays : (gs hs : List Group) (xs : List Addition) (ks : List Count) → AllZip (Adds gs) xs ks → AllZip (Adds (gs ++ hs)) xs ks
+adds_stays : (gs hs : List Group) (xs : List Addition) (ks : List Count) → AllZip (AddsCount gs) xs ks → AllZip (AddsCount (gs ++ hs)) xs ks
 adds_stays gs hs [] [] adds = tt
 adds_stays gs hs [] (k ∷ ks) adds = absurd adds
 adds_stays gs hs (a ∷ xs) [] adds = absurd adds
@@ -116,19 +116,19 @@ wanted_stays (g ∷ gs) hs is wanted =
     by false there = absurd cc
 
 -- so many counts are ready, in room for all
-pub record IsMakingReady (old held : Held) (xs : List Addition) (ks : List Count) (count capacity all : ℕ) : Type 0 where
+pub record IsMakingReady (old held : HeldGroups) (xs : List Addition) (ks : List Count) (count capacity all : ℕ) : Type 0 where
   pub same : held.groups ≡ old.groups
-  pub each : AllZip (Adds (places held)) xs ks
+  pub each : AllZip (AddsCount (places held)) xs ks
   pub wanted : AllByRecursion (λ g. is_among (groups_in ks) g ≡ true) held.ready
   pub few : length held.ready ≤ count
   pub long : length xs ≡ count
   pub room : all ≤ capacity
 
-pub making_start : (held : Held) (counts : List Count) (xs : List Addition) (capacity : ℕ) → held.ready ≡ [] → xs ≡ [] → length counts ≤ capacity
+pub making_start : (held : HeldGroups) (counts : List Count) (xs : List Addition) (capacity : ℕ) → held.ready ≡ [] → xs ≡ [] → length counts ≤ capacity
     → IsMakingReady held held xs (take 0 counts) 0 capacity (length counts)
 making_start held counts xs capacity none nothing room = record {
   same = refl;
-  each = subst (λ (ys : List Addition). AllZip (Adds (places held)) ys []) (sym nothing) tt;
+  each = subst (λ (ys : List Addition). AllZip (AddsCount (places held)) ys []) (sym nothing) tt;
   wanted = subst (λ (gs : List Group). AllByRecursion (λ g. is_among [] g ≡ true) gs) (sym none) tt;
   few = subst (λ (gs : List Group). length gs ≤ 0) (sym none) (omega arith);
   long = ap length nothing;
@@ -147,7 +147,7 @@ all_joined : (P : Group → Type 0) (gs hs : List Group) → AllByRecursion P gs
 all_joined P [] hs one two = two
 all_joined P (g ∷ gs) hs one two = (one.0, all_joined P gs hs one.1 two)
 
-pub making_next : (old held held2 : Held) (xs ys : List Addition) (counts : List Count) (i place capacity : ℕ) (c d : Count) (counters : Sums)
+pub making_next : (old held held2 : HeldGroups) (xs ys : List Addition) (counts : List Count) (i place capacity : ℕ) (c d : Count) (counters : Sums)
     → i < length counts → c ≡ get_or counts i d → held2.groups ≡ held.groups → MakesAtMost c.group held.ready held2.ready → slice_get (places held2) place ≡ Some c.group
     → counters ≡ c.counters → ys ≡ xs ++ record { place = place; counters = counters } ∷ []
     → IsMakingReady old held xs (take i counts) i capacity (length counts) → IsMakingReady old held2 ys (take (i + 1) counts) (i + 1) capacity (length counts)
@@ -174,9 +174,9 @@ making_next old held held2 xs ys counts i place capacity c d counters within is 
     by hs ready wanted few =
         let all : places held2 ≡ places held ++ hs =
         ap (λ (es : Entries). keys_of es ++ held2.ready) same ∙ ap (λ (gs : List Group). keys_of held.groups ++ gs) ready ∙ sym (append_assoc (keys_of held.groups) held.ready hs) in
-        let before : AllZip (Adds (places held2)) xs ks = subst (λ (gs : List Group). AllZip (Adds gs) xs ks) (sym all) (adds_stays (places held) hs xs ks so.each) in
-        let each : AllZip (Adds (places held2)) (xs ++ a ∷ []) (ks ++ c ∷ []) = all_zipped_more (Adds (places held2)) xs ks a c before (at, counted) in
-        let each_more : AllZip (Adds (places held2)) ys (ks ++ c ∷ []) = subst (λ (zs : List Addition). AllZip (Adds (places held2)) zs (ks ++ c ∷ [])) (sym pushed) each in
+        let before : AllZip (AddsCount (places held2)) xs ks = subst (λ (gs : List Group). AllZip (AddsCount gs) xs ks) (sym all) (adds_stays (places held) hs xs ks so.each) in
+        let each : AllZip (AddsCount (places held2)) (xs ++ a ∷ []) (ks ++ c ∷ []) = all_zipped_more (AddsCount (places held2)) xs ks a c before (at, counted) in
+        let each_more : AllZip (AddsCount (places held2)) ys (ks ++ c ∷ []) = subst (λ (zs : List Addition). AllZip (AddsCount (places held2)) zs (ks ++ c ∷ [])) (sym pushed) each in
         let both : AllByRecursion (λ g. is_among (groups_in ks ++ c.group ∷ []) g ≡ true) held2.ready =
         subst (λ (gs : List Group). AllByRecursion (λ g. is_among (groups_in ks ++ c.group ∷ []) g ≡ true) gs) (sym ready)
         (all_joined (λ g. is_among (groups_in ks ++ c.group ∷ []) g ≡ true) held.ready hs (wanted_stays held.ready (groups_in ks) (c.group ∷ []) so.wanted) wanted) in
@@ -186,13 +186,13 @@ making_next old held held2 xs ys counts i place capacity c d counters within is 
         let many : length held2.ready ≡ length held.ready + length hs = ap length ready ∙ length-append held.ready hs in
         record {
           same = same ∙ so.same;
-          each = subst (λ (ls : List Count). AllZip (Adds (places held2)) ys ls) (sym more) each_more;
+          each = subst (λ (ls : List Count). AllZip (AddsCount (places held2)) ys ls) (sym more) each_more;
           wanted = subst (λ (ls : List Count). AllByRecursion (λ g. is_among (groups_in ls) g ≡ true) held2.ready) (sym more) both_more;
           few = omega (arith, many, few, so.few);
           long = omega (arith, long, so.long);
           room = so.room;
         }
 
-pub making_room : (old held : Held) (xs : List Addition) (ks : List Count) (count capacity capacity2 all : ℕ) → IsMakingReady old held xs ks count capacity all → capacity2 ≡ capacity
+pub making_room : (old held : HeldGroups) (xs : List Addition) (ks : List Count) (count capacity capacity2 all : ℕ) → IsMakingReady old held xs ks count capacity all → capacity2 ≡ capacity
     → IsMakingReady old held xs ks count capacity2 all
 making_room old held xs ks count capacity capacity2 all so same = subst (λ (n : ℕ). IsMakingReady old held xs ks count n all) (sym same) so

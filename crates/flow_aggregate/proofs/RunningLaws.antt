@@ -2,26 +2,26 @@
 use Rattle.std.proofs.Common.{◌≡◌, ℕ, Bool, true, false, cond, not, List, [], ◌∷◌, ◌++◌, filter, None, refl, sym, ap, ◌∙◌, append-nil}
 use Rattle.std.specs.Map.{lookup}
 use Rattle.std.proofs.lemmas.List.Elements.{filter-append}
-use Rattle.flow_aggregate.specs.Groups.{Group, Counted, group_of}
+use Rattle.flow_aggregate.specs.Groups.{Group, Sample, group_of}
 use Rattle.flow_aggregate.specs.GroupOrder.{same_group, same_group-is}
-use Rattle.flow_aggregate.specs.Running.{Entries, of_group, sums_at, sums_over, StandsFor, is_due, staying}
+use Rattle.flow_aggregate.specs.Running.{Entries, of_group, sums_at, sums_over, SumsStand, is_due, staying}
 use Rattle.flow_aggregate.proofs.EntryLaws.{look_kept, same_both}
 
 -- ---- the records of a group, and one more
 
-pub more_of : (g : Group) (cs : List Counted) (c : Counted) → same_group g (group_of c) ≡ true → of_group g (cs ++ c ∷ []) ≡ of_group g cs ++ c ∷ []
+pub more_of : (g : Group) (cs : List Sample) (c : Sample) → same_group g (group_of c) ≡ true → of_group g (cs ++ c ∷ []) ≡ of_group g cs ++ c ∷ []
 more_of g cs c same =
-    let all = filter-append (λ (d : Counted). same_group g (group_of d)) cs (c ∷ []) in
+    let all = filter-append (λ (d : Sample). same_group g (group_of d)) cs (c ∷ []) in
     rw (all, same) refl
 
-pub none_of : (g : Group) (cs : List Counted) (c : Counted) → same_group g (group_of c) ≡ false → of_group g (cs ++ c ∷ []) ≡ of_group g cs
+pub none_of : (g : Group) (cs : List Sample) (c : Sample) → same_group g (group_of c) ≡ false → of_group g (cs ++ c ∷ []) ≡ of_group g cs
 none_of g cs c other =
-    let all = filter-append (λ (d : Counted). same_group g (group_of d)) cs (c ∷ []) in
+    let all = filter-append (λ (d : Sample). same_group g (group_of d)) cs (c ∷ []) in
     rw (all, other) (append-nil (of_group g cs))
 
 -- ---- closing
 
-stays_of : (t : ℕ) (cs : List Counted) (g : Group) → of_group g (staying t cs) ≡ cond (is_due t g) [] (of_group g cs)
+stays_of : (t : ℕ) (cs : List Sample) (g : Group) → of_group g (staying t cs) ≡ cond (is_due t g) [] (of_group g cs)
 stays_of t [] g = same_both (is_due t g) []
 stays_of t (c ∷ cs) g = by (is_due t (group_of c)) (same_group g (group_of c)) refl refl (stays_of t cs g) where
   by : (due same : Bool) → is_due t (group_of c) ≡ due → same_group g (group_of c) ≡ same → of_group g (staying t cs) ≡ cond (is_due t g) [] (of_group g cs)
@@ -36,10 +36,10 @@ stays_of t (c ∷ cs) g = by (is_due t (group_of c)) (same_group g (group_of c))
       let one = same_group-is g (group_of c) is-same in
       let due : is_due t g ≡ false = rw one is-due in
       let rest : of_group g (staying t cs) ≡ of_group g cs = rw due at after in
-      rw (is-same, due) (ap (λ (ds : List Counted). c ∷ ds) rest)
+      rw (is-same, due) (ap (λ (ds : List Sample). c ∷ ds) rest)
   by false false is-due is-same after = rw is-same after
 
-pub stays : (t : ℕ) (es : Entries) (cs : List Counted) → StandsFor es cs → StandsFor (filter (λ e. not (is_due t e.0)) es) (staying t cs)
+pub stays : (t : ℕ) (es : Entries) (cs : List Sample) → SumsStand es cs → SumsStand (filter (λ e. not (is_due t e.0)) es) (staying t cs)
 stays t es cs stands g = look_kept t es g ∙ by (is_due t g) (stands g) ∙ ap sums_over (sym (stays_of t cs g)) where
   by : (due : Bool) → sums_at es g ≡ sums_over (of_group g cs) → cond due None (lookup (same_group g) es) ≡ sums_over (cond due [] (of_group g cs))
   by true is = refl

@@ -6,7 +6,7 @@ use Rattle.std.proofs.lemmas.List.Sums.{sum_by-append, sum_by-cons}
 use Rattle.ipfix_template.specs.DataRecord.{DataRecord}
 use Rattle.flow_aggregate.specs.declared.sums.Sums.{Sums}
 use Rattle.flow_aggregate.specs.Sums.{capped, octets_in, packets_in, flows_in, no_sums, counters_of, totals, plus}
-use Rattle.flow_aggregate.specs.Groups.{Counted}
+use Rattle.flow_aggregate.specs.Groups.{Sample}
 use Rattle.flow_aggregate.specs.Running.{flows_of, sums_over}
 
 one_more : (f : DataRecord → ℕ) (rs : List DataRecord) (r : DataRecord) → capped (sum_by f (rs ++ r ∷ [])) ≡ capped (capped (sum_by f rs) + f r)
@@ -33,6 +33,6 @@ unfolding totals
 totals_none = refl
 
 -- the sums so far, as those of the records
-pub so_far : (cs : List Counted) → unwrap_or (sums_over cs) no_sums ≡ totals (flows_of cs)
+pub so_far : (cs : List Sample) → unwrap_or (sums_over cs) no_sums ≡ totals (flows_of cs)
 so_far [] = sym totals_none
 so_far (c ∷ cs) = refl

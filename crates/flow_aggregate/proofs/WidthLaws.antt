@@ -18,7 +18,7 @@ use Rattle.ipfix_template.specs.declared.template.Template.{Template}
 use Rattle.ipfix_template.specs.declared.template.Refused.TheVariants.{BadLength, BadScope, EmptyRecord}
 use Rattle.ipfix_template.specs.Equality.{same_pen}
 use Rattle.ipfix_template.specs.SameTemplate.{pen_is}
-use Rattle.ipfix_template.specs.Template.{is_variable, has_allowed_length, has_bad_scope, shortest_record, refusal_of, is_options, IsAccepted}
+use Rattle.ipfix_template.specs.Template.{is_variable, has_allowed_length, has_bad_scope, shortest_record, refusal_of, is_options, IsAcceptable}
 use Rattle.ipfix_template.specs.Values.{fits_field}
 use Rattle.ipfix_template.specs.DataRecord.{DataRecord, IsSound}
 use Rattle.ipfix_template.proofs.Encoding.{fit_fields-at, fit_fields-length}
@@ -81,7 +81,7 @@ allowed_by : (allowed scope empty : Bool) → cond allowed (cond scope (Some Bad
 allowed_by true scope empty e = refl
 allowed_by false scope empty e = absurd cc
 
-allowed_of : (t : Template) → IsAccepted t → list_all has_allowed_length t.fields ≡ true
+allowed_of : (t : Template) → IsAcceptable t → list_all has_allowed_length t.fields ≡ true
 unfolding refusal_of
 allowed_of t e = allowed_by (list_all has_allowed_length t.fields) (has_bad_scope (is_options t) t) (eqb (shortest_record t) 0) e
 

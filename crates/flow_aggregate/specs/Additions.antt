@@ -8,7 +8,7 @@ use Rattle.flow_aggregate.specs.declared.addition.Addition.{Addition}
 use Rattle.flow_aggregate.specs.Sums.{no_sums, plus}
 use Rattle.flow_aggregate.specs.Groups.{Group}
 use Rattle.flow_aggregate.specs.GroupOrder.{same_group}
-use Rattle.flow_aggregate.specs.Running.{Entries, Held, places}
+use Rattle.flow_aggregate.specs.Running.{Entries, HeldGroups, places}
 use Rattle.flow_aggregate.specs.Counts.{Count}
 
 -- the group is one of these
@@ -20,12 +20,12 @@ abbrev pub groups_in : List Count → List Group
 groups_in counts = map (λ c. c.group) counts
 
 -- at this place stands the group of the count, and these are its counters
-abbrev pub Adds : List Group → Addition → Count → Type 0
-Adds groups a c = (slice_get groups a.place ≡ Some c.group) × (a.counters ≡ c.counters)
+abbrev pub AddsCount : List Group → Addition → Count → Type 0
+AddsCount groups a c = (slice_get groups a.place ≡ Some c.group) × (a.counters ≡ c.counters)
 
 -- these additions were made ready for these counts, one for each, and no group was made for anything else
-pub record AreReady (held : Held) (additions : List Addition) (counts : List Count) : Type 0 where
-  pub each : AllZip (Adds (places held)) additions counts
+pub record AreReadyToAdd (held : HeldGroups) (additions : List Addition) (counts : List Count) : Type 0 where
+  pub each : AllZip (AddsCount (places held)) additions counts
   pub wanted : AllByRecursion (λ g. is_among (groups_in counts) g ≡ true) held.ready
 
 -- this group was made, or none

@@ -6,7 +6,7 @@ use Rattle.std.specs.declared.cmp.Ordering.TheVariants.{Less, Equal, Greater}
 use Rattle.ipfix_template.specs.DataRecord.{DataRecord}
 use Rattle.flow_aggregate.specs.declared.closed.ClosedAggregate.{ClosedAggregate}
 use Rattle.flow_aggregate.specs.Sums.{totals}
-use Rattle.flow_aggregate.specs.Groups.{Group, Counted, group_of}
+use Rattle.flow_aggregate.specs.Groups.{Group, Sample, group_of}
 use Rattle.flow_aggregate.specs.GroupOrder.{group_cmp}
 use Rattle.flow_aggregate.specs.Closed.{closed_record}
 use Rattle.flow_aggregate.specs.Running.{of_group, flows_of, is_due}
@@ -27,7 +27,7 @@ in_order [] = []
 in_order (g ∷ gs) = put_group g (in_order gs)
 
 -- the groups of these records in order, each once
-abbrev pub groups_of : List Counted → List Group
+abbrev pub groups_of : List Sample → List Group
 groups_of counted = in_order (map group_of counted)
 
 -- the record of a closed group
@@ -35,9 +35,9 @@ abbrev pub record_of : ClosedAggregate → DataRecord
 record_of c = closed_record c.group c.sums
 
 -- the record of one of these groups
-abbrev pub closed_of : List Counted → Group → DataRecord
+abbrev pub closed_of : List Sample → Group → DataRecord
 closed_of counted g = closed_record g (totals (flows_of (of_group g counted)))
 
 -- the records of the groups that an advance of the clock to t closes
-unfoldable pub closed_by : ℕ → List Counted → List DataRecord
+unfoldable pub closed_by : ℕ → List Sample → List DataRecord
 closed_by t counted = map (closed_of counted) (filter (is_due t) (groups_of counted))

@@ -15,25 +15,25 @@ pub record Group : Type 0 where
   pub key : List ℕ
 
 -- a record that counts in an aggregate
-pub record Counted : Type 0 where
+pub record Sample : Type 0 where
   pub definition : Aggregate
   pub flow : DataRecord
 
-abbrev pub counted_as : Aggregate → DataRecord → Counted
+abbrev pub counted_as : Aggregate → DataRecord → Sample
 counted_as a r = record { definition = a; flow = r }
 
 -- a value at full width: zeros before one of reduced size (RFC 7011, section 6.2)
-abbrev pub widened : ℕ → List ℕ → List ℕ
-widened width value = replicate (width - length value) 0 ++ value
+abbrev pub at_full_width : ℕ → List ℕ → List ℕ
+at_full_width width value = replicate (width - length value) 0 ++ value
 
 abbrev pub wide_value : DataRecord → Element → List ℕ
-wide_value r e = widened (full_width e) (unwrap_or (first_value e r) [])
+wide_value r e = at_full_width (full_width e) (unwrap_or (first_value e r) [])
 
 unfoldable pub key_octets : List Element → DataRecord → List ℕ
 key_octets key r = flat_map (wide_value r) key
 
 -- the group that a record counts in
-abbrev pub group_of : Counted → Group
+abbrev pub group_of : Sample → Group
 group_of c = record {
   start = interval_start c.definition (unwrap_or (start_of c.flow) 0);
   definition = c.definition;

@@ -11,7 +11,7 @@ use Rattle.flow_aggregate.specs.declared.sums.Sums.{Sums}
 use Rattle.flow_aggregate.specs.declared.closed.ClosedAggregate.{ClosedAggregate}
 use Rattle.flow_aggregate.specs.Placing.{timing_of, closes_at}
 use Rattle.flow_aggregate.specs.Sums.{no_sums, totals}
-use Rattle.flow_aggregate.specs.Groups.{Group, Counted, group_of}
+use Rattle.flow_aggregate.specs.Groups.{Group, Sample, group_of}
 use Rattle.flow_aggregate.specs.GroupOrder.{same_group, group_cmp}
 
 -- groups with their sums
@@ -23,34 +23,34 @@ abbrev pub sums_at : Entries → Group → Option Sums
 sums_at entries g = lookup (same_group g) entries
 
 -- the groups in which records count, with their sums; and those that were made for records that are yet to be added
-pub record Held : Type 0 where
+pub record HeldGroups : Type 0 where
   pub groups : Entries
   pub ready : List Group
 
-abbrev pub nothing_held : Held
+abbrev pub nothing_held : HeldGroups
 nothing_held = record { groups = []; ready = [] }
 
 -- all of them, by their places
-abbrev pub places : Held → List Group
+abbrev pub places : HeldGroups → List Group
 places held = keys_of held.groups ++ held.ready
 
 -- ---- the records that were counted
 
 -- those of one group
-abbrev pub of_group : Group → List Counted → List Counted
+abbrev pub of_group : Group → List Sample → List Sample
 of_group g counted = filter (λ c. same_group g (group_of c)) counted
 
-abbrev pub flows_of : List Counted → List DataRecord
+abbrev pub flows_of : List Sample → List DataRecord
 flows_of counted = map (λ c. c.flow) counted
 
 -- their sums, if there are any
-abbrev pub sums_over : List Counted → Option Sums
+abbrev pub sums_over : List Sample → Option Sums
 sums_over [] = None
 sums_over (c ∷ cs) = Some (totals (flows_of (c ∷ cs)))
 
 -- the groups are those of these records
-abbrev pub StandsFor : Entries → List Counted → Type 0
-StandsFor entries counted = (g : Group) → sums_at entries g ≡ sums_over (of_group g counted)
+abbrev pub SumsStand : Entries → List Sample → Type 0
+SumsStand entries counted = (g : Group) → sums_at entries g ≡ sums_over (of_group g counted)
 
 -- the record counts in some interval of the aggregate
 abbrev pub IsPlaced : Aggregate → DataRecord → Type 0
@@ -63,11 +63,11 @@ abbrev pub is_due : ℕ → Group → Bool
 is_due t g = nat_le (closes_at g.definition g.start) t
 
 -- the records whose groups stay
-abbrev pub staying : ℕ → List Counted → List Counted
+abbrev pub staying : ℕ → List Sample → List Sample
 staying t counted = filter (λ c. not (is_due t (group_of c))) counted
 
 -- what it closes of a group
-abbrev pub closed_sums : ℕ → List Counted → Group → Option Sums
+abbrev pub closed_sums : ℕ → List Sample → Group → Option Sums
 closed_sums t counted g = if is_due t g then sums_over (of_group g counted) else None
 
 -- a closed group with its sums
@@ -81,7 +81,7 @@ abbrev pub sums_in : List ClosedAggregate → Group → Option Sums
 sums_in closed g = lookup (same_group g) (pairs_of closed)
 
 -- the closed groups, each once, in their order, with the sums of their records
-pub record AreClosed (t : ℕ) (counted : List Counted) (closed : List ClosedAggregate) : Type 0 where
+pub record AreClosed (t : ℕ) (counted : List Sample) (closed : List ClosedAggregate) : Type 0 where
   pub ascend : IsSortedByKey (λ c. c.group) group_cmp closed
   pub once : IsDistinct same_group (keys_of (pairs_of closed))
   pub sums : (g : Group) → sums_in closed g ≡ closed_sums t counted g
@@ -105,11 +105,11 @@ due_of t (e ∷ entries) = due_one t e.0 e.1 ++ due_of t entries
 -- ---- how they are kept
 
 -- in the first so many entries records count
-abbrev pub held_of : ℕ → Entries → Held
+abbrev pub held_of : ℕ → Entries → HeldGroups
 held_of counted entries = record { groups = take counted entries; ready = keys_of (drop counted entries) }
 
 -- each group is kept once, the others have no sums yet, and no group is due before the time that is kept
-pub record AreKept (counted earliest : ℕ) (entries : Entries) : Type 0 where
+pub record AreGroupsKept (counted earliest : ℕ) (entries : Entries) : Type 0 where
   pub within : counted ≤ length entries
   pub once : IsDistinct same_group (keys_of entries)
   pub empty : AllByRecursion (λ e. e.1 ≡ no_sums) (drop counted entries)

@@ -8,28 +8,28 @@ use Rattle.ipfix_template.specs.DataRecord.{DataRecord}
 use Rattle.ipfix_template.specs.Equality.{same_pen}
 
 -- the element of this number in IANA's registry
-abbrev pub registered : ℕ → Element
-registered number = record { pen = None; number = number }
+abbrev pub of_iana : ℕ → Element
+of_iana number = record { pen = None; number = number }
 
 -- flowStartSeconds, flowStartMilliseconds, flowEndMilliseconds
 abbrev pub flow_start_seconds : Element
-flow_start_seconds = registered 150
+flow_start_seconds = of_iana 150
 
 abbrev pub flow_start_milliseconds : Element
-flow_start_milliseconds = registered 152
+flow_start_milliseconds = of_iana 152
 
 abbrev pub flow_end_milliseconds : Element
-flow_end_milliseconds = registered 153
+flow_end_milliseconds = of_iana 153
 
 -- octetDeltaCount, packetDeltaCount, deltaFlowCount
 abbrev pub octet_delta_count : Element
-octet_delta_count = registered 1
+octet_delta_count = of_iana 1
 
 abbrev pub packet_delta_count : Element
-packet_delta_count = registered 2
+packet_delta_count = of_iana 2
 
 abbrev pub delta_flow_count : Element
-delta_flow_count = registered 3
+delta_flow_count = of_iana 3
 
 abbrev pub is_same_element : Element → Element → Bool
 is_same_element e f = same_pen e.pen f.pen && e.number == f.number

@@ -1,7 +1,7 @@
 //! The templates of closed groups' records.
 ghost use Rattle.std.specs.Prelude.{◌≡◌, ◌≤◌, ◌<◌, ◌++◌, ◌∷◌, [], length, IfOk, OnOk};
 ghost use Rattle.std.specs.Arc.{arc_value};
-ghost use Rattle.flow_aggregate.specs.Values.{registered};
+ghost use Rattle.flow_aggregate.specs.Values.{of_iana};
 ghost use Rattle.flow_aggregate.specs.Closed.{HasTemplate, field, key_fields, sum_fields};
 
 use crate::group::width_of;
@@ -57,7 +57,7 @@ fn put_sum_fields(specs: &mut Vec<FieldSpec>) -> Result<(), AllocError>
 
 fn put_number_field(number: u16, specs: &mut Vec<FieldSpec>) -> Result<(), AllocError>
     requires { number < 32768 }
-    ensures { OnOk result (specs.new.items ≡ specs.old.items ++ field (registered number) 8 ∷ []) }
+    ensures { OnOk result (specs.new.items ≡ specs.old.items ++ field (of_iana number) 8 ∷ []) }
 {
     put_field(ElementId::registered(number), NUMBER_OCTETS, specs)
 }

@@ -53,7 +53,7 @@ impl Group {
         ensures { IfOk result (λ g. g ≡ group_of (counted_as definition.now flow_record.now)) }
     {
         // The values of a record have the lengths that their elements allow.
-        let _template = flow_record.template();
+        let _for_proof = flow_record.template();
         let key = key_octets(alloc, definition.key(), flow_record)?;
         let start = start_of(flow_record).unwrap_or(0);
         Ok(Group {

@@ -2,12 +2,12 @@
 ghost use Rattle.std.specs.Prelude.{◌≡◌, ◌≤◌, ◌+◌, ◌++◌, ◌∷◌, List, [], length, map, filter, not, slice_get, true, false, Some, IfOk, OnErr, OnOk};
 ghost use Rattle.std.specs.List.{IsDistinct};
 ghost use Rattle.std.specs.Map.{keys_of};
-ghost use Rattle.flow_aggregate.specs.Groups.{Group as OneGroup, Counted};
+ghost use Rattle.flow_aggregate.specs.Groups.{Group as OneGroup, Sample};
 ghost use Rattle.flow_aggregate.specs.GroupOrder.{same_group, group_cmp};
-ghost use Rattle.flow_aggregate.specs.Running.{Held, nothing_held, places, StandsFor, is_due, staying, NoneDueBefore, due_one, due_of};
+ghost use Rattle.flow_aggregate.specs.Running.{HeldGroups, nothing_held, places, SumsStand, is_due, staying, NoneDueBefore, due_one, due_of};
 ghost use Rattle.flow_aggregate.specs.Closing.{record_of, closed_by};
 ghost use Rattle.flow_aggregate.specs.Counts.{Count as OneCount, count_of};
-ghost use Rattle.flow_aggregate.specs.Additions.{AreReady, MakesAtMost, is_among};
+ghost use Rattle.flow_aggregate.specs.Additions.{AreReadyToAdd, MakesAtMost, is_among};
 
 #[cfg(test)]
 mod tests;
@@ -50,13 +50,13 @@ impl Drop for Running {
 }
 
 impl Model for Running {
-    ghost use Rattle.flow_aggregate.specs.Running.{Held, held_of, AreKept};
+    ghost use Rattle.flow_aggregate.specs.Running.{HeldGroups, held_of, AreGroupsKept};
 
-    ghost Value = { Held };
+    ghost Value = { HeldGroups };
 
     ghost view = { λ r. held_of r.counted r.groups.entries };
 
-    ghost invariant = { λ r. AreKept r.counted r.earliest r.groups.entries };
+    ghost invariant = { λ r. AreGroupsKept r.counted r.earliest r.groups.entries };
 }
 
 impl Running {
@@ -85,7 +85,7 @@ impl Running {
     /// count or are to be added.
     pub fn len(&self) -> usize
         ensures value { result ≡ length (places self.now) }
-        ensures few { (counted : List Counted) → StandsFor self.now.groups counted
+        ensures few { (counted : List Sample) → SumsStand self.now.groups counted
             → result ≤ length counted + length self.now.ready }
     {
         self.groups.len()
@@ -99,7 +99,7 @@ impl Running {
     /// Want of memory; then nothing is reserved.
     pub fn reserve(&mut self, counts: &[Count]) -> Result<Vec<Addition>, AllocError>
         ensures unchanged { self.new.groups ≡ self.old.groups }
-        ensures ok { IfOk result (λ additions. AreReady self.new additions.items counts.now) }
+        ensures ok { IfOk result (λ additions. AreReadyToAdd self.new additions.items counts.now) }
         ensures few { length self.new.ready ≤ length counts.now }
         ensures err { OnErr result (self.new.ready ≡ []) }
     {
@@ -121,10 +121,10 @@ impl Running {
     /// Adds `additions`, which the last [`reserve`](Running::reserve) made ready. It takes no
     /// memory and looks for no group.
     pub fn add_reserved(&mut self, additions: Vec<Addition>)
-        requires { (counts : List OneCount) × AreReady self.old additions.items counts }
-        ensures adds { (before more : List Counted) → StandsFor self.old.groups before
-            → AreReady self.old additions.items (map count_of more)
-            → StandsFor self.new.groups (before ++ more) }
+        requires { (counts : List OneCount) × AreReadyToAdd self.old additions.items counts }
+        ensures adds { (before more : List Sample) → SumsStand self.old.groups before
+            → AreReadyToAdd self.old additions.items (map count_of more)
+            → SumsStand self.new.groups (before ++ more) }
         ensures ready { self.new.ready ≡ [] }
     {
         self.counted = self.groups.len();
@@ -134,8 +134,8 @@ impl Running {
     /// Drops the groups that an advance of the clock to `t`, in milliseconds since 1970, closes. It
     /// takes no memory. What was reserved before is so no more.
     pub fn close(&mut self, t: u64)
-        ensures stays { (counted : List Counted) → StandsFor self.old.groups counted
-            → StandsFor self.new.groups (staying t counted) }
+        ensures stays { (counted : List Sample) → SumsStand self.old.groups counted
+            → SumsStand self.new.groups (staying t counted) }
         ensures ready { self.new.ready ≡ [] }
     {
         self.release();
@@ -153,7 +153,7 @@ impl Running {
     /// Want of memory.
     pub fn closing(&self, t: u64) -> Result<Vec<ClosedAggregate>, AllocError>
         ensures { IfOk result
-            (λ closed. (counted : List Counted) → StandsFor self.now.groups counted
+            (λ closed. (counted : List Sample) → SumsStand self.now.groups counted
             → map record_of closed.items ≡ closed_by t counted) }
     {
         let mut closed = self.due(t)?;
@@ -214,7 +214,7 @@ impl Running {
     fn make_ready(&mut self, counts: &[Count]) -> Result<Vec<Addition>, AllocError>
         requires { self.old.ready ≡ [] }
         ensures unchanged { self.new.groups ≡ self.old.groups }
-        ensures ok { IfOk result (λ additions. AreReady self.new additions.items counts.now) }
+        ensures ok { IfOk result (λ additions. AreReadyToAdd self.new additions.items counts.now) }
         ensures few { length self.new.ready ≤ length counts.now }
     {
         let mut additions = Vec::with_capacity(self.alloc, counts.len())?;

@@ -1,6 +1,6 @@
 //! The sums of a group's counters.
 ghost use Rattle.std.specs.Prelude.{◌≡◌, ◌<◌, ◌≤◌, ◌^◌, unwrap_or};
-ghost use Rattle.flow_aggregate.specs.Values.{registered, first_number, full_width};
+ghost use Rattle.flow_aggregate.specs.Values.{of_iana, first_number, full_width};
 ghost use Rattle.flow_aggregate.specs.Sums.{no_sums, counters_of, plus};
 
 use crate::values::{DELTA_FLOW_COUNT, OCTET_DELTA_COUNT, PACKET_DELTA_COUNT, first_number};
@@ -56,8 +56,8 @@ impl Sums {
 /// The first value of the element, or `default` where there is none.
 fn number_or(flow_record: &Record, number: u16, default: u64) -> u64
     requires below { number < 32768 }
-    requires wide { full_width (registered number) ≡ 8 }
-    ensures { result ≡ unwrap_or (first_number (registered number) flow_record.now) default }
+    requires wide { full_width (of_iana number) ≡ 8 }
+    ensures { result ≡ unwrap_or (first_number (of_iana number) flow_record.now) default }
 {
     first_number(flow_record, number).unwrap_or(default)
 }

@@ -1,6 +1,6 @@
 //! The values of a record that aggregates look at.
 ghost use Rattle.std.specs.Prelude.{◌≡◌, ◌<◌, ◌≤◌, ◌^◌, option_map, IfSome};
-ghost use Rattle.flow_aggregate.specs.Values.{registered, is_same_element, first_value, first_number, full_width};
+ghost use Rattle.flow_aggregate.specs.Values.{of_iana, is_same_element, first_value, first_number, full_width};
 ghost use Rattle.flow_aggregate.specs.Widths.{IsWide};
 
 use ipfix_element::ElementId;
@@ -55,11 +55,11 @@ fn is_same_element(element: ElementId, other: ElementId) -> bool
 /// one whose values are numbers.
 pub(crate) fn first_number(flow_record: &Record, number: u16) -> Option<u64>
     requires below { number < 32768 }
-    requires some { 1 ≤ full_width (registered number) }
-    requires few { full_width (registered number) ≤ 8 }
+    requires some { 1 ≤ full_width (of_iana number) }
+    requires few { full_width (of_iana number) ≤ 8 }
     // It is the value of the first such field, and one that the element can have.
-    ensures exact { result ≡ first_number (registered number) flow_record.now }
-    ensures below { IfSome result (λ n. n < 256 ^ full_width (registered number)) }
+    ensures exact { result ≡ first_number (of_iana number) flow_record.now }
+    ensures below { IfSome result (λ n. n < 256 ^ full_width (of_iana number)) }
 {
     let value = first_value(flow_record, ElementId::registered(number))?;
     Some(be_number(value))

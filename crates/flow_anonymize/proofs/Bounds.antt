@@ -11,7 +11,7 @@ use Rattle.ipfix_element.specs.Kinds.{kind_of, is_allowed_length}
 use Rattle.ipfix_template.specs.declared.field.FieldSpec.{FieldSpec}
 use Rattle.ipfix_template.specs.declared.template.Template.{Template}
 use Rattle.ipfix_template.specs.declared.template.Refused.TheVariants.{BadLength, BadScope, EmptyRecord}
-use Rattle.ipfix_template.specs.Template.{is_variable, has_allowed_length, has_bad_scope, shortest_record, refusal_of, is_options, IsAccepted}
+use Rattle.ipfix_template.specs.Template.{is_variable, has_allowed_length, has_bad_scope, shortest_record, refusal_of, is_options, IsAcceptable}
 use Rattle.ipfix_template.specs.Values.{fits_field}
 use Rattle.ipfix_template.specs.DataRecord.{DataRecord, IsSound}
 use Rattle.ipfix_template.proofs.Encoding.{fit_fields-at, fit_fields-length}
@@ -30,7 +30,7 @@ use Rattle.policy_judge.proofs.FirstRuleLaws.{element_there}
 use Rattle.ipfix_element.proofs.NameLaws.{same_element}
 use Rattle.ipfix_template.specs.SameTemplate.{pen_is}
 use Rattle.flow_anonymize.specs.Remaining.{verdicts_of}
-use Rattle.flow_anonymize.specs.Within.{IsWithin, AreWithin, AreJudged}
+use Rattle.flow_anonymize.specs.Within.{FitsAction, FitActions, AreJudged}
 
 -- the kinds whose values `truncate` may cut have one length
 sized : (kind : Kind) (len width : ℕ) → width_of_kind kind ≡ Some width → is_allowed_length kind len ≡ true → (width ≡ 8 * len) × (eqb len 65535 ≡ false)
@@ -58,7 +58,7 @@ fixed_length f value fixed fits = eqb-true _ _ (rw fixed at fits)
 -- what an action keeps of a value of its element
 one_action : (version : Version) (aggregates : List Definition) (element : Option Element) (action : Action) (f : FieldSpec) (value : List ℕ)
     → is_met (is_element (Some f.element)) element ≡ true → IsAction version aggregates element action → has_allowed_length f ≡ true → fits_field f value ≡ true
-    → IsWithin value (element_action action)
+    → FitsAction value (element_action action)
 unfolding width_at
 one_action version aggregates element Pass f value met is allowed fits = tt
 one_action version aggregates element Withhold f value met is allowed fits = tt
@@ -76,7 +76,7 @@ one_action version aggregates (Some e) (Truncate bits) f value met is allowed fi
 
 one_rule : (name : List ℕ) (domain : ℕ) (r : DataRecord) (version : Version) (aggregates : List Definition) (rule : Rule) (f : FieldSpec) (value : List ℕ)
     → matches_field name domain r (Some f.element) rule ≡ true → IsRule version aggregates rule → has_allowed_length f ≡ true → fits_field f value ≡ true
-    → IsWithin value (element_action rule.action)
+    → FitsAction value (element_action rule.action)
 one_rule name domain r version aggregates rule f value matches is allowed fits =
     let on_fields = and_parts (not (is_on_records rule.action)) (is_met (is_element (Some f.element)) rule.element && (is_for name domain rule && covers r rule)) matches in
     let met = and_parts (is_met (is_element (Some f.element)) rule.element) (is_for name domain rule && covers r rule) on_fields.1 in
@@ -84,11 +84,11 @@ one_rule name domain r version aggregates rule f value matches is allowed fits =
 
 first_rule_within : (name : List ℕ) (domain : ℕ) (r : DataRecord) (version : Version) (aggregates : List Definition) (n : ℕ) (rules : List Rule) (f : FieldSpec) (value : List ℕ)
     → AllByRecursion (λ rule. IsRule version aggregates rule) rules → has_allowed_length f ≡ true → fits_field f value ≡ true
-    → IsWithin value (element_verdict_by (find (λ x. matches_field name domain r (Some f.element) x.1) (enumerate_from n rules))).action
+    → FitsAction value (element_verdict_by (find (λ x. matches_field name domain r (Some f.element) x.1) (enumerate_from n rules))).action
 first_rule_within name domain r version aggregates n [] f value all allowed fits = tt
 first_rule_within name domain r version aggregates n (rule ∷ rules) f value all allowed fits =
     elim (matches_field name domain r (Some f.element) rule) as (λ b. matches_field name domain r (Some f.element) rule ≡ b
-    → IsWithin value (element_verdict_by (cond b (Some (n, rule)) (find (λ x. matches_field name domain r (Some f.element) x.1) (enumerate_from (n + 1) rules)))).action) [
+    → FitsAction value (element_verdict_by (cond b (Some (n, rule)) (find (λ x. matches_field name domain r (Some f.element) x.1) (enumerate_from (n + 1) rules)))).action) [
       | true ↦ λ matches. one_rule name domain r version aggregates rule f value matches all.0 allowed fits
       | false ↦ λ _. first_rule_within name domain r version aggregates (n + 1) rules f value all.1 allowed fits
     ] refl
@@ -105,7 +105,7 @@ passes_by true false empty e = (refl, refl)
 passes_by true true empty e = absurd cc
 passes_by false scope empty e = absurd cc
 
-pub passes_of : (t : Template) → IsAccepted t → Passes t
+pub passes_of : (t : Template) → IsAcceptable t → Passes t
 unfolding refusal_of
 passes_of t e =
     let parts = passes_by (list_all has_allowed_length t.fields) (has_bad_scope (is_options t) t) (eqb (shortest_record t) 0) e in
@@ -117,7 +117,7 @@ list_all-at test (x ∷ xs) zero d all lt = (and_parts (test x) (list_all test x
 list_all-at test (x ∷ xs) (suc i) d all lt = list_all-at test xs i d (and_parts (test x) (list_all test xs) all).1 (omega arith)
 
 within_from : (vs : List (List ℕ)) (ws : List ElementVerdict)
-    → ((i : ℕ) (v : List ℕ) (w : ElementVerdict) → i < length vs → i < length ws → IsWithin (get_or vs i v) (get_or ws i w).action) → AreWithin vs ws
+    → ((i : ℕ) (v : List ℕ) (w : ElementVerdict) → i < length vs → i < length ws → FitsAction (get_or vs i v) (get_or ws i w).action) → FitActions vs ws
 within_from [] ws each = tt
 within_from (v ∷ vs) [] each = tt
 within_from (v ∷ vs) (w ∷ ws) each =
@@ -127,7 +127,7 @@ no_field : FieldSpec
 no_field = record { element = record { pen = None; number = 0 }; length = 0 }
 
 verdict_within : (name : List ℕ) (domain : ℕ) (r : DataRecord) (version : Version) (aggregates : List Definition) (rules : List Rule) → IsSound r → AreRules version aggregates rules → (i : ℕ) (v : List ℕ)
-    → i < length r.template.fields → IsWithin (get_or r.values i v) (element_verdict_of name domain r i rules).action
+    → i < length r.template.fields → FitsAction (get_or r.values i v) (element_verdict_of name domain r i rules).action
 verdict_within name domain r version aggregates rules sound are i v lt =
     let there = element_there r r.template.fields i no_field refl lt in
     let f = get_or r.template.fields i no_field in
@@ -143,7 +143,7 @@ verdicts_are_judged name domain r version aggregates rules verdicts sound are fe
     let verdict = λ (place : ℕ). element_verdict_of name domain r place rules in
     let long = length-map-range_with_len verdict 0 (length r.template.fields) in
     let even = fit_fields-length r.template.fields r.values sound.fit in
-    let within : AreWithin r.values (verdicts_of name domain r rules) =
+    let within : FitActions r.values (verdicts_of name domain r rules) =
     within_from r.values (verdicts_of name domain r rules) (λ i v w lt le.
     let here : i < length r.template.fields = omega (arith, le, long) in
     let at : get_or (verdicts_of name domain r rules) i w ≡ verdict i = get_or-map-range_with_len verdict 0 (length r.template.fields) i i w here (omega arith) in

@@ -11,3 +11,4 @@ pub mod CacheLaws
 pub mod OutputLaws
 pub mod TextLaws
 pub mod StepLaws
+pub mod ReasonLaws

@@ -14,8 +14,9 @@ use Rattle.policy_judge.specs.Laws.{concerning}
 use Rattle.policy_judge.proofs.NeverLaws.{acts_alone}
 use Rattle.disclosure_audit.specs.declared.entry.RemovedField.{RemovedField}
 use Rattle.flow_anonymize.proofs.Sound.{removed_from}
-use Rattle.flow_anonymize.specs.declared.disclosure.Reason.TheVariants as because
-use Rattle.flow_anonymize.specs.Outcome.{Outcome, Passes, Withholds}
+use Rattle.disclosure_audit.specs.declared.reason.Reason.TheVariants as because
+use Rattle.flow_anonymize.specs.declared.disclosure.Disclosure.TheVariants.{Passed, Withheld}
+use Rattle.flow_anonymize.specs.Outcome.{Outcome}
 use Rattle.flow_anonymize.specs.Remaining.{verdicts_of, keeps, is_kept, shown_value, kept_fields, kept_values, removed_fields}
 use Rattle.flow_anonymize.specs.Disclosed.{remaining_template, remaining, first_lost, first_rule_of, unless_lost, transformed, by_action}
 use Rattle.flow_anonymize.specs.OtherRules.{unnumbered_field, unnumbered, OthersNeverMatter, LaterNeverMatter}
@@ -82,8 +83,8 @@ lost_acted (Some x) (Some y) left xs ys lost same = refl
 lost_acted (Some x) None left xs ys lost same = absurd cc
 lost_acted None (Some y) left xs ys lost same = absurd cc
 lost_acted None None left xs ys lost same =
-    elim (eqb (shortest_record left.template) 0) as (λ b. unnumbered (cond b (Withholds (first_rule_of xs) because.Empty) (Passes left xs)) ≡ unnumbered (cond b (Withholds (first_rule_of ys) because.Empty) (Passes left ys)))
-    [ true ↦ refl | false ↦ ap (Passes left) same ]
+    elim (eqb (shortest_record left.template) 0) as (λ b. unnumbered (cond b (Withheld (first_rule_of xs) because.Empty) (Passed left xs)) ≡ unnumbered (cond b (Withheld (first_rule_of ys) because.Empty) (Passed left ys)))
+    [ true ↦ refl | false ↦ ap (Passed left) same ]
 
 transformed_acted : (r : DataRecord) (ws us : List ElementVerdict) → AllZip ActAlike ws us → unnumbered (transformed r ws) ≡ unnumbered (transformed r us)
 unfolding removed_from

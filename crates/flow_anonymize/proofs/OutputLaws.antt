@@ -10,11 +10,10 @@ use Rattle.ipfix_template.specs.Values.{record_text}
 use Rattle.ipfix_template.proofs.TextLaws.{kept_from, kept_is}
 use Rattle.ipfix_records.specs.Pieces.{pieces, AreEnds}
 use Rattle.ipfix_records.proofs.PieceLaws.{ends_push, pieces_written}
-use Rattle.flow_anonymize.specs.declared.plan.Plan.{Plan}
-use Rattle.flow_anonymize.specs.declared.plan.Plan.TheVariants.{Pass, Aggregate, Withhold}
+use Rattle.flow_anonymize.specs.declared.disclosure.Disclosure.TheVariants.{Passed, Aggregated, Withheld}
 use Rattle.flow_anonymize.specs.Outcome.{passed, passed_text}
 use Rattle.flow_anonymize.specs.Remaining.{kept_values}
-use Rattle.flow_anonymize.specs.Planning.{planned, IsShowable, shown_template}
+use Rattle.flow_anonymize.specs.Planning.{Plan, planned, IsShowable, shown_template}
 use Rattle.flow_anonymize.specs.Output.{OutputOf, open_records, IsOutput}
 
 some_is : (t s : Template) → Some t ≡ Some s → t ≡ s
@@ -26,15 +25,15 @@ pub record IsPassed (p : Plan) (r : DataRecord) (t : Template) : Type 0 where
   pub is : passed (planned p r.values) ≡ kept_record t (passed_text (planned p r.values)) ∷ []
 
 pub passed_is : (p : Plan) (r : DataRecord) (t : Template) → IsShowable p r → Some t ≡ shown_template p → IsPassed p r t
-passed_is (Pass template removed by steps) r t shows same =
-    let values = kept_values r.values by.items in
-    let here : t ≡ arc_value template = some_is t (arc_value template) same in
-    subst (IsPassed (Pass template removed by steps) r) (sym here) (record {
-      kept = kept_from (arc_value template) values (record_text (arc_value template).fields values) shows.sound refl;
-      is = ap (λ (k : DataRecord). k ∷ []) (sym (kept_is (arc_value template) values (record_text (arc_value template).fields values) shows.sound.fit refl));
+passed_is (Passed passing removed) r t shows same =
+    let values = kept_values r.values passing.verdicts.items in
+    let here : t ≡ arc_value passing.template = some_is t (arc_value passing.template) same in
+    subst (IsPassed (Passed passing removed) r) (sym here) (record {
+      kept = kept_from (arc_value passing.template) values (record_text (arc_value passing.template).fields values) shows.sound refl;
+      is = ap (λ (k : DataRecord). k ∷ []) (sym (kept_is (arc_value passing.template) values (record_text (arc_value passing.template).fields values) shows.sound.fit refl));
     })
-passed_is (Aggregate rule definition) r t shows same = absurd cc
-passed_is (Withhold rule reason) r t shows same = absurd cc
+passed_is (Aggregated rule definition) r t shows same = absurd cc
+passed_is (Withheld rule reason) r t shows same = absurd cc
 
 -- ---- its text is written behind the others
 

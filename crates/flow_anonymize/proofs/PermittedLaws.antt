@@ -19,8 +19,8 @@ use Rattle.policy_judge.specs.Match.{matches_field}
 use Rattle.policy_judge.specs.Verdicts.{first_rule, element_verdict_by, record_verdict_of, element_verdict_of}
 use Rattle.disclosure_audit.specs.declared.entry.RemovedField.{RemovedField}
 use Rattle.std.proofs.lemmas.List.{length-map}
-use Rattle.flow_anonymize.specs.declared.disclosure.Reason.TheVariants as because
-use Rattle.flow_anonymize.specs.Outcome.{Passes, Withholds}
+use Rattle.disclosure_audit.specs.declared.reason.Reason.TheVariants as because
+use Rattle.flow_anonymize.specs.declared.disclosure.Disclosure.TheVariants as disclosed
 use Rattle.flow_anonymize.specs.Remaining.{verdicts_of, keeps, is_kept, shown_value, kept_fields, kept_values, removed_fields}
 use Rattle.flow_anonymize.specs.Disclosed.{remaining, first_lost, first_rule_of, unless_lost, by_action}
 use Rattle.flow_anonymize.specs.Times.{step_of_time}
@@ -133,12 +133,12 @@ pub record Passed (o : Option RemovedField) (left : DataRecord) (found : List Re
   pub removed_is : found ≡ removed
 
 pub passed_by : (a : RecordAction) (rule : ℕ) (o : Option RemovedField) (left : DataRecord) (found : List RemovedField) (kept : DataRecord) (removed : List RemovedField)
-    → by_action a rule (unless_lost o left found) ≡ Passes kept removed → Passed o left found kept removed
+    → by_action a rule (unless_lost o left found) ≡ disclosed.Passed kept removed → Passed o left found kept removed
 passed_by Withhold rule o left found kept removed e = absurd cc
 passed_by (Aggregate definition) rule o left found kept removed e = absurd cc
 passed_by Pass rule (Some field) left found kept removed e = absurd cc
 passed_by Pass rule None left found kept removed e = by (eqb (shortest_record left.template) 0) refl e where
-  by : (b : Bool) → eqb (shortest_record left.template) 0 ≡ b → cond b (Withholds (first_rule_of found) because.Empty) (Passes left found) ≡ Passes kept removed → Passed None left found kept removed
+  by : (b : Bool) → eqb (shortest_record left.template) 0 ≡ b → cond b (disclosed.Withheld (first_rule_of found) because.Empty) (disclosed.Passed left found) ≡ disclosed.Passed kept removed → Passed None left found kept removed
   by true is e = absurd cc
   by false is e = record { none_lost = refl; has_octets = is; record_is = cc; removed_is = cc }
 

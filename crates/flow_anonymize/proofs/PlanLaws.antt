@@ -28,14 +28,13 @@ use Rattle.rule_table.specs.Cuts.{HasCuts, HaveCuts, most_cuts}
 use Rattle.rule_table.specs.Classes.{key_of}
 use Rattle.rule_table.proofs.ClassLaws.{same_key}
 use Rattle.flow_anonymize.specs.declared.record_classes.RecordClasses.{RecordClasses}
-use Rattle.flow_anonymize.specs.declared.plan.Plan.{Plan}
 use Rattle.flow_anonymize.specs.declared.slot.Slot.{Slot}
 use Rattle.flow_anonymize.specs.Remaining.{verdicts_of}
 use Rattle.flow_anonymize.specs.Disclosed.{disclosure_of}
 use Rattle.flow_anonymize.specs.Secrecy.{AreInsideAlike, AreCoveredAlike}
 use Rattle.flow_anonymize.specs.Classes.{both, classes_of}
-use Rattle.flow_anonymize.specs.Planning.{planned, IsShowable, IsPlan}
-use Rattle.flow_anonymize.specs.Plans.{PlansFor, is_for, Discloses, IsSlot, AreKept}
+use Rattle.flow_anonymize.specs.Planning.{Plan, planned, IsShowable, IsPlanFrom}
+use Rattle.flow_anonymize.specs.Plans.{PlansFor, is_for, Discloses, IsSlot, ArePlansKept}
 use Rattle.flow_anonymize.specs.PlanCache.{IsPut}
 use Rattle.flow_anonymize.proofs.Bounds.{verdicts_are_judged}
 use Rattle.flow_anonymize.proofs.SecrecyLaws.{record_alike, verdicts_alike}
@@ -91,15 +90,15 @@ few_fields r sound = omega (arith, octets_of_record 256 r.template, fewer r.temp
 -- ---- the plan of one record is that of all that are alike
 
 discloses : (for : PlansFor) (version : Version) (aggregates : List Definition) (r s : DataRecord) (plan : Plan) → AreRules version aggregates for.rules
-    → IsPlan r.template (record_verdict_of for.name for.domain r for.rules) (verdicts_of for.name for.domain r for.rules) plan
+    → IsPlanFrom r.template (record_verdict_of for.name for.domain r for.rules) (verdicts_of for.name for.domain r for.rules) plan
     → IsSound s → s.template ≡ r.template → AllByRecursion (AreCoveredAlike s r) for.rules
     → (planned plan s.values ≡ disclosure_of for.name for.domain s for.rules) × IsShowable plan s
 discloses for version aggregates r s plan are is sound template alike =
     let on_record = record_alike for.name for.domain s r for.rules alike in
     let on_fields = verdicts_alike for.name for.domain s r for.rules template alike in
-    let P1 : List ElementVerdict → Type 0 = λ ws. IsPlan r.template (record_verdict_of for.name for.domain r for.rules) ws plan in
-    let P2 : RecordVerdict → Type 0 = λ v. IsPlan r.template v (verdicts_of for.name for.domain s for.rules) plan in
-    let P3 : Template → Type 0 = λ t. IsPlan t (record_verdict_of for.name for.domain s for.rules) (verdicts_of for.name for.domain s for.rules) plan in
+    let P1 : List ElementVerdict → Type 0 = λ ws. IsPlanFrom r.template (record_verdict_of for.name for.domain r for.rules) ws plan in
+    let P2 : RecordVerdict → Type 0 = λ v. IsPlanFrom r.template v (verdicts_of for.name for.domain s for.rules) plan in
+    let P3 : Template → Type 0 = λ t. IsPlanFrom t (record_verdict_of for.name for.domain s for.rules) (verdicts_of for.name for.domain s for.rules) plan in
     let is' = subst P3 (sym template) (subst P2 (sym on_record) (subst P1 (sym on_fields) is)) in
     let judged = verdicts_are_judged for.name for.domain s version aggregates for.rules (verdicts_of for.name for.domain s for.rules) sound are (few_fields s sound) refl in
     (is'.leaves s.values, showable s (record_verdict_of for.name for.domain s for.rules) (verdicts_of for.name for.domain s for.rules) plan judged is')
@@ -109,7 +108,7 @@ some_is x y e = cc
 
 pub slot_is : (for : PlansFor) (version : Version) (aggregates : List Definition) (r : DataRecord) (slot : Slot) → HaveCuts for.cuts for.rules → length for.cuts ≤ most_cuts → AreRules version aggregates for.rules
     → for.template ≡ Some r.template → Some slot.classes ≡ classes_of for.cuts r
-    → IsPlan r.template (record_verdict_of for.name for.domain r for.rules) (verdicts_of for.name for.domain r for.rules) slot.plan → IsSlot for slot
+    → IsPlanFrom r.template (record_verdict_of for.name for.domain r for.rules) (verdicts_of for.name for.domain r for.rules) slot.plan → IsSlot for slot
 slot_is for version aggregates r slot cut few are template classes is = λ s sound same keys.
     let alike = covered_alike for.cuts version aggregates for.rules s r slot.classes few are cut (keys_of for.cuts s slot.classes keys) (keys_of for.cuts r slot.classes (sym classes)) in
     let shown = discloses for version aggregates r s slot.plan are is sound (some_is s.template r.template (sym same ∙ template)) alike in
@@ -161,20 +160,20 @@ slot_at for slots classes r k slot all place at template sound keys =
 
 -- ---- for the calls
 
-pub kept_push : (for : PlansFor) (slots : List Slot) (slot : Slot) → AreKept for slots → IsSlot for slot → AreKept for (slots ++ slot ∷ [])
+pub kept_push : (for : PlansFor) (slots : List Slot) (slot : Slot) → ArePlansKept for slots → IsSlot for slot → ArePlansKept for (slots ++ slot ∷ [])
 kept_push for slots slot kept is = record { cut = kept.cut; few = kept.few; each = All-push (IsSlot for) slots slot kept.each is }
 
-pub kept_set : (for : PlansFor) (slots : List Slot) (k : ℕ) (slot : Slot) → AreKept for slots → IsSlot for slot → AreKept for (set slots k slot)
+pub kept_set : (for : PlansFor) (slots : List Slot) (k : ℕ) (slot : Slot) → ArePlansKept for slots → IsSlot for slot → ArePlansKept for (set slots k slot)
 kept_set for slots k slot kept is = record { cut = kept.cut; few = kept.few; each = All-set (IsSlot for) slots k slot is kept.each }
 
-pub kept_put : (for : PlansFor) (old : List Slot) (slot : Slot) (k : ℕ) (new : List Slot) → AreKept for old → IsSlot for slot → IsPut old slot k new → AreKept for new
+pub kept_put : (for : PlansFor) (old : List Slot) (slot : Slot) (k : ℕ) (new : List Slot) → ArePlansKept for old → IsSlot for slot → IsPut old slot k new → ArePlansKept for new
 kept_put for old slot k new kept is put = elim put.others [
-  | inl e ↦ subst (AreKept for) (sym e) (kept_push for old slot kept is)
-  | inr e ↦ subst (AreKept for) (sym e) (kept_set for old k slot kept is)
+  | inl e ↦ subst (ArePlansKept for) (sym e) (kept_push for old slot kept is)
+  | inr e ↦ subst (ArePlansKept for) (sym e) (kept_set for old k slot kept is)
 ]
 
 -- the plan that was found, or made anew
-pub found_in_cache : (for value : PlansFor) (slots : List Slot) (classes : RecordClasses) (asked : Option RecordClasses) (r : DataRecord) (k : ℕ) (slot : Slot) → AreKept for slots → for ≡ value
+pub found_in_cache : (for value : PlansFor) (slots : List Slot) (classes : RecordClasses) (asked : Option RecordClasses) (r : DataRecord) (k : ℕ) (slot : Slot) → ArePlansKept for slots → for ≡ value
     → Some k ≡ position (is_for classes) slots → slice_get slots k ≡ Some slot → value.template ≡ Some r.template → IsSound r → asked ≡ Some classes → asked ≡ classes_of value.cuts r → Discloses value r slot
 found_in_cache for value slots classes asked r k slot kept same place at template sound is keys =
     let P : PlansFor → Type 0 = λ f. All (IsSlot f) slots in
@@ -186,8 +185,8 @@ put_shelf for old new r k slot found put is at template sound keys =
     let same : slot ≡ found = some_is slot found (sym put.there ∙ at) in
     subst (λ (s : Slot). Discloses for r s) same (is r sound template (sym keys))
 
-pub planned_slot : (for value : PlansFor) (slots : List Slot) (r : DataRecord) (slot : Slot) → for ≡ value → AreKept for slots → AreOfPolicy for.rules → value.template ≡ Some r.template → Some slot.classes ≡ classes_of value.cuts r
-    → IsPlan r.template (record_verdict_of for.name for.domain r for.rules) (verdicts_of for.name for.domain r for.rules) slot.plan → IsSlot value slot
+pub planned_slot : (for value : PlansFor) (slots : List Slot) (r : DataRecord) (slot : Slot) → for ≡ value → ArePlansKept for slots → AreOfPolicy for.rules → value.template ≡ Some r.template → Some slot.classes ≡ classes_of value.cuts r
+    → IsPlanFrom r.template (record_verdict_of for.name for.domain r for.rules) (verdicts_of for.name for.domain r for.rules) slot.plan → IsSlot value slot
 planned_slot for value slots r slot same kept are template classes is =
     let P : PlansFor → Type 0 = λ f. IsSlot f slot in
     let keys : Some slot.classes ≡ classes_of for.cuts r = classes ∙ ap (λ (f : PlansFor). classes_of f.cuts r) (sym same) in

@@ -9,7 +9,7 @@ use Rattle.sequences.proofs.OctetLaws.{length-be_octets}
 use Rattle.ipfix_template.specs.declared.field.FieldSpec.{FieldSpec}
 use Rattle.ipfix_template.specs.declared.template.Template.{Template}
 use Rattle.ipfix_template.specs.declared.template.Refused.TheVariants.{BadLength, BadScope, EmptyRecord}
-use Rattle.ipfix_template.specs.Template.{is_variable, has_allowed_length, has_bad_scope, shortest_record, refusal_of, is_options, IsAccepted, specifier}
+use Rattle.ipfix_template.specs.Template.{is_variable, has_allowed_length, has_bad_scope, shortest_record, refusal_of, is_options, IsAcceptable, specifier}
 use Rattle.ipfix_template.specs.Values.{fits_field, fit_fields, value_text, record_text}
 use Rattle.ipfix_template.specs.DataRecord.{DataRecord, IsSound}
 use Rattle.ipfix_template.proofs.Encoding.{octets_of_record}
@@ -174,7 +174,7 @@ accepts true false true a s e = absurd cc
 accepts true true empty a s e = absurd cc
 accepts false scope empty a s e = absurd cc
 
-accepted_of : (t : Template) → list_all has_allowed_length t.fields ≡ true → t.scope ≤ length t.fields → (shortest_record t == 0) ≡ false → IsAccepted t
+accepted_of : (t : Template) → list_all has_allowed_length t.fields ≡ true → t.scope ≤ length t.fields → (shortest_record t == 0) ≡ false → IsAcceptable t
 unfolding refusal_of
 accepted_of t allowed within octets =
     accepts (list_all has_allowed_length t.fields) (has_bad_scope (is_options t) t) (shortest_record t == 0) allowed (no_bad_scope (is_options t) t refl within) octets

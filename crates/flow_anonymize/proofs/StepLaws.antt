@@ -20,28 +20,28 @@ use Rattle.policy_judge.specs.declared.verdict.ElementAction.TheVariants as on_f
 use Rattle.policy_judge.specs.declared.verdict.ElementVerdict.{ElementVerdict}
 use Rattle.flow_anonymize.specs.declared.change.Change.{Change}
 use Rattle.flow_anonymize.specs.declared.change.Change.TheVariants as on_value
-use Rattle.flow_anonymize.specs.Changes.{changed}
+use Rattle.flow_anonymize.specs.Changes.{changed_value}
 use Rattle.flow_anonymize.specs.declared.steps.Step.{Step}
 use Rattle.flow_anonymize.specs.declared.steps.Step.TheVariants.{Show, Skip, SkipVariable}
 use Rattle.flow_anonymize.specs.Texts.{shown_text, shown_texts}
-use Rattle.flow_anonymize.specs.Steps.{variable_span, variable_octets, changed_text, shown_at, behind, shown_by, step_of, AreAlike, AreSteps}
+use Rattle.flow_anonymize.specs.Steps.{variable_span, variable_octets, changed_text, shown_at, behind, shown_by, step_of, ShowAlike, AreSteps}
 use Rattle.flow_anonymize.proofs.TextLaws.{texts_are}
 
 -- ---- one step in place of two
 
-pub alike_behind : (front some others : List Step) → AreAlike some others → AreAlike (front ++ some) (front ++ others)
+pub alike_behind : (front some others : List Step) → ShowAlike some others → ShowAlike (front ++ some) (front ++ others)
 alike_behind [] some others same octets = same octets
 alike_behind (step ∷ front) some others same octets = ap (λ t. shown_at step octets ++ t) (alike_behind front some others same (behind step octets))
 
-pub show_nothing : (next : Step) (after : List Step) → AreAlike (next ∷ after) (Show 0 ∷ next ∷ after)
+pub show_nothing : (next : Step) (after : List Step) → ShowAlike (next ∷ after) (Show 0 ∷ next ∷ after)
 show_nothing next after octets = refl
 
-pub show_both : (front back : ℕ) (after : List Step) → AreAlike (Show (front + back) ∷ after) (Show front ∷ Show back ∷ after)
+pub show_both : (front back : ℕ) (after : List Step) → ShowAlike (Show (front + back) ∷ after) (Show front ∷ Show back ∷ after)
 show_both front back after octets =
     ap (λ t. t ++ shown_by after (drop (front + back) octets)) (take-add front back octets) ∙ append_assoc (take front octets) (take back (drop front octets)) (shown_by after (drop (front + back) octets))
     ∙ ap (λ o. take front octets ++ (take back (drop front octets) ++ shown_by after o)) (sym (drop-drop back front octets))
 
-pub skip_both : (front back : ℕ) (after : List Step) → AreAlike (Skip (front + back) ∷ after) (Skip front ∷ Skip back ∷ after)
+pub skip_both : (front back : ℕ) (after : List Step) → ShowAlike (Skip (front + back) ∷ after) (Skip front ∷ Skip back ∷ after)
 skip_both front back after octets = ap (shown_by after) (sym (drop-drop back front octets))
 
 -- ---- one field
@@ -87,15 +87,15 @@ stands f v rest variable fits =
       sum_of : ℕ × ℕ → ℕ
       sum_of span = span.0 + span.1
 
-changed_long : (change : Change) (v : List ℕ) → length (changed change v) ≡ length v
+changed_long : (change : Change) (v : List ℕ) → length (changed_value change v) ≡ length v
 changed_long (on_value.Truncate bits) v = length-be_octets (length v) _
 changed_long (on_value.Degrade seconds) v = length-be_octets (length v) _
 
-changed_front : (change : Change) (head v rest : List ℕ) → changed_text change (length head, length v) ((head ++ v) ++ rest) ≡ head ++ changed change v
+changed_front : (change : Change) (head v rest : List ℕ) → changed_text change (length head, length v) ((head ++ v) ++ rest) ≡ head ++ changed_value change v
 changed_front change head v rest = rw (append_assoc head v rest, take_at head (v ++ rest) (length head) refl, drop_at head (v ++ rest) (length head) refl, take_at v rest (length v) refl) refl
 
-text_of_changed : (change : Change) (v : List ℕ) → shortest_text (changed change v) ≡ head_of (length v) ++ changed change v
-text_of_changed change v = has_head (changed change v) ∙ ap (λ n. head_of n ++ changed change v) (changed_long change v)
+text_of_changed : (change : Change) (v : List ℕ) → shortest_text (changed_value change v) ≡ head_of (length v) ++ changed_value change v
+text_of_changed change v = has_head (changed_value change v) ∙ ap (λ n. head_of n ++ changed_value change v) (changed_long change v)
 
 -- the step for a field, at its value's text, shows what is to be shown of the value, and goes behind it
 record Writes (f : FieldSpec) (v : List ℕ) (a : ElementAction) (rest : List ℕ) : Type 0 where
@@ -105,8 +105,8 @@ record Writes (f : FieldSpec) (v : List ℕ) (a : ElementAction) (rest : List �
 fixed_writes : (f : FieldSpec) (v : List ℕ) (a : ElementAction) (rest : List ℕ) → is_variable f ≡ false → length v ≡ f.length → Writes f v a rest
 fixed_writes f v on_field.Keep rest is long = record { shown = rw is (take_at v rest f.length long); next = rw is (drop_at v rest f.length long) }
 fixed_writes f v on_field.Remove rest is long = record { shown = rw is refl; next = rw is (drop_at v rest f.length long) }
-fixed_writes f v (on_field.Truncate bits) rest is long = record { shown = rw is (ap (changed (on_value.Truncate bits)) (take_at v rest f.length long)); next = rw is (drop_at v rest f.length long) }
-fixed_writes f v (on_field.Degrade seconds) rest is long = record { shown = rw is (ap (changed (on_value.Degrade seconds)) (take_at v rest f.length long)); next = rw is (drop_at v rest f.length long) }
+fixed_writes f v (on_field.Truncate bits) rest is long = record { shown = rw is (ap (changed_value (on_value.Truncate bits)) (take_at v rest f.length long)); next = rw is (drop_at v rest f.length long) }
+fixed_writes f v (on_field.Degrade seconds) rest is long = record { shown = rw is (ap (changed_value (on_value.Degrade seconds)) (take_at v rest f.length long)); next = rw is (drop_at v rest f.length long) }
 
 variable_shown : (v : List ℕ) (rest : List ℕ) → Stands v rest → take (variable_octets (shortest_text v ++ rest)) (shortest_text v ++ rest) ≡ shortest_text v
 variable_shown v rest at = take_at (shortest_text v) rest _ (sym at.octets)
@@ -114,7 +114,7 @@ variable_shown v rest at = take_at (shortest_text v) rest _ (sym at.octets)
 variable_next : (v : List ℕ) (rest : List ℕ) → Stands v rest → drop (variable_octets (shortest_text v ++ rest)) (shortest_text v ++ rest) ≡ rest
 variable_next v rest at = drop_at (shortest_text v) rest _ (sym at.octets)
 
-variable_changed : (change : Change) (v : List ℕ) (rest : List ℕ) → Stands v rest → changed_text change (variable_span (shortest_text v ++ rest)) (shortest_text v ++ rest) ≡ shortest_text (changed change v)
+variable_changed : (change : Change) (v : List ℕ) (rest : List ℕ) → Stands v rest → changed_text change (variable_span (shortest_text v ++ rest)) (shortest_text v ++ rest) ≡ shortest_text (changed_value change v)
 variable_changed change v rest at =
     ap (λ s. changed_text change s (shortest_text v ++ rest)) at.span ∙ ap (λ t. changed_text change (length (head_of (length v)), length v) (t ++ rest)) (has_head v)
     ∙ changed_front change (head_of (length v)) v rest ∙ sym (text_of_changed change v)
@@ -151,20 +151,20 @@ shown_plain (f ∷ fs) (v ∷ vs) (w ∷ ws) fit =
     ap (λ t. t ++ shown_by (plain_steps fs ws) (behind (step_of f w.action) (value_text f v ++ record_text fs vs))) one.shown
     ∙ ap (λ o. shown_text f v w.action ++ shown_by (plain_steps fs ws) o) one.next ∙ ap (λ t. shown_text f v w.action ++ t) (shown_plain fs vs ws parts.1)
 
-pub are_steps : (fs : List FieldSpec) (ws : List ElementVerdict) (steps : List Step) → AreAlike steps (plain_steps fs ws) → AreSteps fs ws steps
+pub are_steps : (fs : List FieldSpec) (ws : List ElementVerdict) (steps : List Step) → ShowAlike steps (plain_steps fs ws) → AreSteps fs ws steps
 are_steps fs ws steps same = λ vs fit. same (record_text fs vs) ∙ shown_plain fs vs ws fit ∙ texts_are fs vs ws (fit_fields-length fs vs fit)
 
 -- ---- making them, one field after another
 
 -- the steps so far, the last one, and one for each field that is left
 abbrev pub AreMade : List FieldSpec → List ElementVerdict → ℕ → List Step → Step → Type 0
-AreMade fs ws n steps last = AreAlike (steps ++ last ∷ plain_steps (drop n fs) (drop n ws)) (plain_steps fs ws)
+AreMade fs ws n steps last = ShowAlike (steps ++ last ∷ plain_steps (drop n fs) (drop n ws)) (plain_steps fs ws)
 
 pub none_made : (fs : List FieldSpec) (ws : List ElementVerdict) → AreMade fs ws 0 [] (Show 0)
 none_made fs ws octets = refl
 
 pub one_made : (fs : List FieldSpec) (ws : List ElementVerdict) (n more : ℕ) (f : FieldSpec) (w : ElementVerdict) (steps new : List Step) (last next step : Step) → more ≡ n + 1 → n < length fs → n < length ws → f ≡ get_or fs n f → w ≡ get_or ws n w
-    → next ≡ step_of f w.action → ((after : List Step) → AreAlike (new ++ step ∷ after) (steps ++ last ∷ next ∷ after)) → AreMade fs ws n steps last → AreMade fs ws more new step
+    → next ≡ step_of f w.action → ((after : List Step) → ShowAlike (new ++ step ∷ after) (steps ++ last ∷ next ∷ after)) → AreMade fs ws n steps last → AreMade fs ws more new step
 unfolding plain_steps
 one_made fs ws n more f w steps new last next step one in_fs in_ws is_f is_w is_next joined made octets =
     let after = plain_steps (drop more fs) (drop more ws) in
@@ -188,25 +188,25 @@ none_left fs ws n end = by (leb (length fs) n) refl where
       ap (plain_steps (drop n fs)) (drop_all n ws (omega arith)) ∙ no_verdict_left (drop n fs)
 
 pub all_made : (fs : List FieldSpec) (ws : List ElementVerdict) (n : ℕ) (steps new : List Step) (last : Step) → n ≡ min (length fs) (length ws)
-    → AreAlike new (steps ++ last ∷ []) → AreMade fs ws n steps last → AreSteps fs ws new
+    → ShowAlike new (steps ++ last ∷ []) → AreMade fs ws n steps last → AreSteps fs ws new
 all_made fs ws n steps new last end ended made =
     are_steps fs ws new (λ octets. ended octets ∙ ap (λ ss. shown_by (steps ++ last ∷ ss) octets) (sym (none_left fs ws n end)) ∙ made octets)
 
 -- the last step shows nothing
-pub no_more : (last : Step) (steps : List Step) → ((octets : List ℕ) → shown_at last octets ≡ []) → AreAlike steps (steps ++ last ∷ [])
+pub no_more : (last : Step) (steps : List Step) → ((octets : List ℕ) → shown_at last octets ≡ []) → ShowAlike steps (steps ++ last ∷ [])
 no_more last [] none octets = sym (ap (λ t. t ++ []) (none octets))
 no_more last (step ∷ steps) none octets = ap (λ t. shown_at step octets ++ t) (no_more last steps none (behind step octets))
 
 -- ---- for the calls
 
-pub show_joined : (last next : Step) (front back sum : ℕ) → last ≡ Show front → next ≡ Show back → sum ≡ front + back → (after : List Step) → AreAlike (Show sum ∷ after) (last ∷ next ∷ after)
+pub show_joined : (last next : Step) (front back sum : ℕ) → last ≡ Show front → next ≡ Show back → sum ≡ front + back → (after : List Step) → ShowAlike (Show sum ∷ after) (last ∷ next ∷ after)
 show_joined last next front back sum is_last is_next is_sum = rw (is_last, is_next, is_sum) (show_both front back)
 
-pub shows_nothing : (last : Step) (n : ℕ) (steps : List Step) → last ≡ Show n → n ≡ 0 → AreAlike steps (steps ++ last ∷ [])
+pub shows_nothing : (last : Step) (n : ℕ) (steps : List Step) → last ≡ Show n → n ≡ 0 → ShowAlike steps (steps ++ last ∷ [])
 shows_nothing last n steps is none = no_more last steps (rw (is, none) (λ octets. refl))
 
-pub skips_last : (last : Step) (n : ℕ) (steps : List Step) → last ≡ Skip n → AreAlike steps (steps ++ last ∷ [])
+pub skips_last : (last : Step) (n : ℕ) (steps : List Step) → last ≡ Skip n → ShowAlike steps (steps ++ last ∷ [])
 skips_last last n steps is = no_more last steps (rw is (λ octets. refl))
 
-pub skips_variable : (last : Step) (steps : List Step) → last ≡ SkipVariable → AreAlike steps (steps ++ last ∷ [])
+pub skips_variable : (last : Step) (steps : List Step) → last ≡ SkipVariable → ShowAlike steps (steps ++ last ∷ [])
 skips_variable last steps is = no_more last steps (rw is (λ octets. refl))

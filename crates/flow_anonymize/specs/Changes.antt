@@ -5,6 +5,6 @@ use Rattle.flow_anonymize.specs.declared.change.Change.{Change}
 use Rattle.flow_anonymize.specs.declared.change.Change.TheVariants.{Truncate, Degrade}
 use Rattle.flow_anonymize.specs.Times.{degraded_octets}
 
-abbrev pub changed : Change → List ℕ → List ℕ
-changed (Truncate bits) value = kept_octets bits value
-changed (Degrade seconds) value = degraded_octets seconds value
+abbrev pub changed_value : Change → List ℕ → List ℕ
+changed_value (Truncate bits) value = kept_octets bits value
+changed_value (Degrade seconds) value = degraded_octets seconds value

@@ -10,9 +10,10 @@ use Rattle.policy_judge.specs.declared.verdict.RecordAction.TheVariants.{Pass, W
 use Rattle.policy_judge.specs.declared.verdict.RecordVerdict.{RecordVerdict}
 use Rattle.policy_judge.specs.declared.verdict.ElementVerdict.{ElementVerdict}
 use Rattle.policy_judge.specs.Verdicts.{record_verdict_of}
-use Rattle.flow_anonymize.specs.declared.disclosure.Reason.TheVariants as because
+use Rattle.disclosure_audit.specs.declared.reason.Reason.TheVariants as because
 use Rattle.disclosure_audit.specs.declared.entry.RemovedField.{RemovedField}
-use Rattle.flow_anonymize.specs.Outcome.{Outcome, Passes, Aggregates, Withholds}
+use Rattle.flow_anonymize.specs.declared.disclosure.Disclosure.TheVariants.{Passed, Aggregated, Withheld}
+use Rattle.flow_anonymize.specs.Outcome.{Outcome}
 use Rattle.flow_anonymize.specs.Remaining.{verdicts_of, kept_fields, kept_values, removed_fields}
 
 -- the fields that stay, and as many scope fields as there were
@@ -35,11 +36,11 @@ first_rule_of (field ∷ others) = field.rule
 -- what is left passes, if its shortest record has octets
 abbrev pub unless_empty : DataRecord → List RemovedField → Outcome
 unless_empty left removed =
-    if shortest_record left.template == 0 then Withholds (first_rule_of removed) because.Empty else Passes left removed
+    if shortest_record left.template == 0 then Withheld (first_rule_of removed) because.Empty else Passed left removed
 
 -- a record that has lost a scope field is withheld by the rule of that field
 abbrev pub unless_lost : Option RemovedField → DataRecord → List RemovedField → Outcome
-unless_lost (Some field) left removed = Withholds field.rule because.ScopeLost
+unless_lost (Some field) left removed = Withheld field.rule because.ScopeLost
 unless_lost None left removed = unless_empty left removed
 
 -- what the verdicts on its fields leave of a record that passes
@@ -50,8 +51,8 @@ transformed r verdicts =
 -- the verdict on the record comes first; its fields matter only where it passes
 abbrev pub by_action : RecordAction → ℕ → Outcome → Outcome
 by_action Pass rule passing = passing
-by_action Withhold rule passing = Withholds rule because.Rule
-by_action (Aggregate definition) rule passing = Aggregates rule definition
+by_action Withhold rule passing = Withheld rule because.Rule
+by_action (Aggregate definition) rule passing = Aggregated rule definition
 
 abbrev pub by_verdict : RecordVerdict → Outcome → Outcome
 by_verdict verdict passing = by_action verdict.action verdict.rule passing

@@ -22,6 +22,7 @@ pub mod Within
 pub mod Permitted
 pub mod Secrecy
 pub mod OtherRules
+pub mod Reasons
 pub mod Planning
 pub mod Classes
 pub mod Plans

@@ -8,7 +8,8 @@ use Rattle.policy_judge.specs.Match.{element_at, matches_record, matches_field}
 use Rattle.policy_judge.specs.Verdicts.{record_verdict_of}
 use Rattle.policy_judge.specs.Laws.{concerning}
 use Rattle.disclosure_audit.specs.declared.entry.RemovedField.{RemovedField}
-use Rattle.flow_anonymize.specs.Outcome.{Outcome, Passes, Aggregates, Withholds}
+use Rattle.flow_anonymize.specs.declared.disclosure.Disclosure.TheVariants.{Passed, Aggregated, Withheld}
+use Rattle.flow_anonymize.specs.Outcome.{Outcome}
 use Rattle.flow_anonymize.specs.Disclosed.{disclosure_of}
 
 -- all but the numbers of the rules, which are those of a list's places
@@ -16,9 +17,9 @@ abbrev pub unnumbered_field : RemovedField → RemovedField
 unnumbered_field field = record { place = field.place; rule = 0 }
 
 abbrev pub unnumbered : Outcome → Outcome
-unnumbered (Passes kept removed) = Passes kept (map unnumbered_field removed)
-unnumbered (Aggregates rule definition) = Aggregates 0 definition
-unnumbered (Withholds rule reason) = Withholds 0 reason
+unnumbered (Passed kept removed) = Passed kept (map unnumbered_field removed)
+unnumbered (Aggregated rule definition) = Aggregated 0 definition
+unnumbered (Withheld rule reason) = Withheld 0 reason
 
 -- without the rules that name another subscriber the same is disclosed, with other numbers at most
 abbrev pub OthersNeverMatter : Type 0

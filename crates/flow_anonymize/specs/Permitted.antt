@@ -12,7 +12,7 @@ use Rattle.policy_judge.specs.declared.verdict.ElementVerdict.{ElementVerdict}
 use Rattle.policy_judge.specs.Match.{matches_field}
 use Rattle.policy_judge.specs.Verdicts.{first_rule, element_verdict_by}
 use Rattle.disclosure_audit.specs.declared.entry.RemovedField.{RemovedField}
-use Rattle.flow_anonymize.specs.Outcome.{Passes}
+use Rattle.flow_anonymize.specs.declared.disclosure.Disclosure.TheVariants.{Passed}
 use Rattle.flow_anonymize.specs.Times.{step_of_time}
 use Rattle.flow_anonymize.specs.Remaining.{is_kept}
 use Rattle.flow_anonymize.specs.Disclosed.{disclosure_of}
@@ -45,9 +45,9 @@ pub record ShowsPermitted (name : List ℕ) (domain : ℕ) (r : DataRecord) (rul
 
 abbrev pub OnlyPermittedPasses : Type 0
 OnlyPermittedPasses = (name : List ℕ) (domain : ℕ) (r : DataRecord) (rules : List Rule) (kept : DataRecord) (removed : List RemovedField)
-    → AllByRecursion AreOctets r.values → disclosure_of name domain r rules ≡ Passes kept removed → ShowsPermitted name domain r rules kept removed
+    → AllByRecursion AreOctets r.values → disclosure_of name domain r rules ≡ Passed kept removed → ShowsPermitted name domain r rules kept removed
 
 -- what passes of a sound record is a sound record
 abbrev pub PassedIsSound : Type 0
 PassedIsSound = (name : List ℕ) (domain : ℕ) (r : DataRecord) (rules : List Rule) (kept : DataRecord) (removed : List RemovedField)
-    → IsSound r → disclosure_of name domain r rules ≡ Passes kept removed → IsSound kept
+    → IsSound r → disclosure_of name domain r rules ≡ Passed kept removed → IsSound kept

@@ -20,6 +20,6 @@ pub record IsPut (old : List Slot) (slot : Slot) (place : ℕ) (new : List Slot)
   pub others : (new ≡ old ++ slot ∷ []) ⊎ (new ≡ set old place slot)
 
 -- where something is shown, it is of the template that is written now; else nothing else is written than before
-abbrev pub WritesOn : Option Template → Option Template → Option Template → Type 0
-WritesOn None old new = new ≡ old
-WritesOn (Some t) old new = new ≡ Some t
+abbrev pub WritesForTemplate : Option Template → Option Template → Option Template → Type 0
+WritesForTemplate None old new = new ≡ old
+WritesForTemplate (Some t) old new = new ≡ Some t

@@ -7,49 +7,57 @@ use Rattle.ipfix_template.specs.DataRecord.{DataRecord, IsSound}
 use Rattle.policy_judge.specs.declared.verdict.RecordVerdict.{RecordVerdict}
 use Rattle.policy_judge.specs.declared.verdict.ElementVerdict.{ElementVerdict}
 use Rattle.flow_anonymize.specs.declared.steps.Step.{Step}
-use Rattle.flow_anonymize.specs.declared.plan.Plan.{Plan}
-use Rattle.flow_anonymize.specs.declared.plan.Plan.TheVariants.{Pass, Aggregate, Withhold}
-use Rattle.flow_anonymize.specs.Outcome.{Outcome, Passes, Aggregates, Withholds}
+use Rattle.flow_anonymize.specs.declared.disclosure.Disclosure.{Disclosure}
+use Rattle.flow_anonymize.specs.declared.disclosure.Disclosure.TheVariants.{Passed, Aggregated, Withheld}
+use Rattle.flow_anonymize.specs.declared.plan.Passing.{Passing}
+use Rattle.flow_anonymize.specs.Outcome.{Outcome}
 use Rattle.flow_anonymize.specs.Remaining.{kept_fields, kept_values}
-use Rattle.flow_anonymize.specs.Within.{AreWithin}
+use Rattle.flow_anonymize.specs.Within.{FitActions}
 use Rattle.flow_anonymize.specs.Steps.{AreSteps}
 use Rattle.flow_anonymize.specs.Disclosed.{transformed, by_verdict}
 
+abbrev pub Plan : Type 0
+Plan = Disclosure Passing
+
+-- what is shown of a record with these values
+abbrev pub passing_record : Passing → List (List ℕ) → DataRecord
+passing_record passing values = record { template = arc_value passing.template; values = kept_values values passing.verdicts.items }
+
 -- what a plan makes of a record with these values
 abbrev pub planned : Plan → List (List ℕ) → Outcome
-planned (Pass template removed verdicts steps) values = Passes (record { template = arc_value template; values = kept_values values verdicts.items }) removed
-planned (Aggregate rule definition) values = Aggregates rule definition
-planned (Withhold rule reason) values = Withholds rule reason
+planned (Passed passing removed) values = Passed (passing_record passing values) removed
+planned (Aggregated rule definition) values = Aggregated rule definition
+planned (Withheld rule reason) values = Withheld rule reason
 
 -- what is shown of a record has these fields of its, and is a record; no more bits are kept than its values have, and the
 -- steps show it of the record's text
 pub record ShowsRecord (r : DataRecord) (t : Template) (verdicts : List ElementVerdict) (steps : List Step) : Type 0 where
   pub each : length verdicts ≡ length r.template.fields
-  pub within : AreWithin r.values verdicts
+  pub within : FitActions r.values verdicts
   pub fields : t.fields ≡ kept_fields r.template.fields verdicts
   pub sound : IsSound (record { template = t; values = kept_values r.values verdicts })
   pub by_steps : AreSteps r.template.fields verdicts steps
 
 -- what a plan needs of a record, if something of it is shown
 abbrev pub IsShowable : Plan → DataRecord → Type 0
-IsShowable (Pass template removed verdicts steps) r = ShowsRecord r (arc_value template) verdicts.items steps.items
-IsShowable (Aggregate rule definition) r = Unit {0}
-IsShowable (Withhold rule reason) r = Unit {0}
+IsShowable (Passed passing removed) r = ShowsRecord r (arc_value passing.template) passing.verdicts.items passing.steps.items
+IsShowable (Aggregated rule definition) r = Unit {0}
+IsShowable (Withheld rule reason) r = Unit {0}
 
 -- nothing is shown of the record itself
 abbrev pub ShowsNone : Plan → Type 0
-ShowsNone (Pass template removed verdicts steps) = ⊥
-ShowsNone (Aggregate rule definition) = Unit {0}
-ShowsNone (Withhold rule reason) = Unit {0}
+ShowsNone (Passed passing removed) = ⊥
+ShowsNone (Aggregated rule definition) = Unit {0}
+ShowsNone (Withheld rule reason) = Unit {0}
 
 -- what is shown of records with these fields is shown by these verdicts, and by steps for them
 abbrev pub ShowsBy : List FieldSpec → List ElementVerdict → Plan → Type 0
-ShowsBy fields verdicts (Pass template removed by steps) = (by.items ≡ verdicts) × AreSteps fields verdicts steps.items
-ShowsBy fields verdicts (Aggregate rule definition) = Unit {0}
-ShowsBy fields verdicts (Withhold rule reason) = Unit {0}
+ShowsBy fields verdicts (Passed passing removed) = (passing.verdicts.items ≡ verdicts) × AreSteps fields verdicts passing.steps.items
+ShowsBy fields verdicts (Aggregated rule definition) = Unit {0}
+ShowsBy fields verdicts (Withheld rule reason) = Unit {0}
 
 -- the plan for records of a template, by the verdict on the record and those on its fields
-pub record IsPlan (t : Template) (on_record : RecordVerdict) (on_fields : List ElementVerdict) (plan : Plan) : Type 0 where
+pub record IsPlanFrom (t : Template) (on_record : RecordVerdict) (on_fields : List ElementVerdict) (plan : Plan) : Type 0 where
   pub leaves : (values : List (List ℕ)) → planned plan values ≡ by_verdict on_record (transformed (record { template = t; values = values }) on_fields)
   pub by : ShowsBy t.fields on_fields plan
 
@@ -60,6 +68,6 @@ pub record IsPassing (t : Template) (on_fields : List ElementVerdict) (plan : Pl
 
 -- the template of what is shown of records
 abbrev pub shown_template : Plan → Option Template
-shown_template (Pass template removed verdicts steps) = Some (arc_value template)
-shown_template (Aggregate rule definition) = None
-shown_template (Withhold rule reason) = None
+shown_template (Passed passing removed) = Some (arc_value passing.template)
+shown_template (Aggregated rule definition) = None
+shown_template (Withheld rule reason) = None

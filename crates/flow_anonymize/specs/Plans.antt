@@ -43,7 +43,7 @@ pub record Discloses (for : PlansFor) (r : DataRecord) (slot : Slot) : Type 0 wh
 abbrev pub IsSlot : PlansFor → Slot → Type 0
 IsSlot for slot = (r : DataRecord) → IsSound r → for.template ≡ Some r.template → classes_of for.cuts r ≡ Some slot.classes → Discloses for r slot
 
-pub record AreKept (for : PlansFor) (slots : List Slot) : Type 0 where
+pub record ArePlansKept (for : PlansFor) (slots : List Slot) : Type 0 where
   pub cut : HaveCuts for.cuts for.rules
   pub few : length for.cuts ≤ most_cuts
   pub each : All (IsSlot for) slots

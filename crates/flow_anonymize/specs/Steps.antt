@@ -11,7 +11,7 @@ use Rattle.flow_anonymize.specs.declared.change.Change.{Change}
 use Rattle.flow_anonymize.specs.declared.change.Change.TheVariants as on_value
 use Rattle.flow_anonymize.specs.declared.steps.Step.{Step}
 use Rattle.flow_anonymize.specs.declared.steps.Step.TheVariants.{Show, Skip, ShowVariable, SkipVariable, Changed, ChangedVariable}
-use Rattle.flow_anonymize.specs.Changes.{changed}
+use Rattle.flow_anonymize.specs.Changes.{changed_value}
 use Rattle.flow_anonymize.specs.Remaining.{kept_fields, kept_values}
 
 -- where the value of variable length at the front of octets starts, and its length; both are 0 where none stands there
@@ -24,7 +24,7 @@ variable_octets octets = (variable_span octets).0 + (variable_span octets).1
 
 -- a value of variable length with a change, behind the length that stands before it
 abbrev pub changed_text : Change → ℕ × ℕ → List ℕ → List ℕ
-changed_text change span octets = take span.0 octets ++ changed change (take span.1 (drop span.0 octets))
+changed_text change span octets = take span.0 octets ++ changed_value change (take span.1 (drop span.0 octets))
 
 -- what a step shows of octets; where they end before it, what is there
 abbrev pub shown_at : Step → List ℕ → List ℕ
@@ -32,7 +32,7 @@ shown_at (Show count) octets = take count octets
 shown_at (Skip count) octets = []
 shown_at ShowVariable octets = take (variable_octets octets) octets
 shown_at SkipVariable octets = []
-shown_at (Changed count change) octets = changed change (take count octets)
+shown_at (Changed count change) octets = changed_value change (take count octets)
 shown_at (ChangedVariable change) octets = changed_text change (variable_span octets) octets
 
 -- the octets behind a step
@@ -50,8 +50,8 @@ shown_by [] octets = []
 shown_by (step ∷ steps) octets = shown_at step octets ++ shown_by steps (behind step octets)
 
 -- steps that show the same of all octets
-abbrev pub AreAlike : List Step → List Step → Type 0
-AreAlike some others = (octets : List ℕ) → shown_by some octets ≡ shown_by others octets
+abbrev pub ShowAlike : List Step → List Step → Type 0
+ShowAlike some others = (octets : List ℕ) → shown_by some octets ≡ shown_by others octets
 
 -- the step for a field of which the values are changed
 abbrev pub changed_step : FieldSpec → Change → Step

@@ -1,6 +1,6 @@
 -- Times, and what is shown of one that is degraded (RFC 6235, section 4.3.1: precision degradation).
 use Rattle.std.specs.Prelude.{◌≡◌, ℕ, ◌*◌, ◌/◌, true, List, length, ◌==◌, if◌then◌else◌}
-use Rattle.sequences.specs.Octets.{be_value, be_octets, IsNumber, AreOctets}
+use Rattle.sequences.specs.Octets.{be_value, be_octets, IsNumberIn, AreOctets}
 use Rattle.ipfix_element.specs.declared.kind.Kind.{Kind}
 use Rattle.ipfix_element.specs.declared.kind.Kind.TheVariants.{Seconds, Millis}
 use Rattle.ipfix_element.specs.Kinds.{kind_of}
@@ -18,17 +18,17 @@ abbrev pub step_of_time : ℕ → ℕ → ℕ
 step_of_time octets seconds = units_in_second octets * seconds
 
 -- the greatest multiple of a step that is no greater than the number; 0 where the step is 0
-abbrev pub lowered : ℕ → ℕ → ℕ
-lowered step n = n / step * step
+abbrev pub multiple_below : ℕ → ℕ → ℕ
+multiple_below step n = n / step * step
 
 -- a time that is lowered to a multiple of so many seconds since 1970, in as many octets; zeros where the value is no time
 abbrev pub degraded_octets : ℕ → List ℕ → List ℕ
-degraded_octets seconds octets = be_octets (length octets) (lowered (step_of_time (length octets) seconds) (be_value octets))
+degraded_octets seconds octets = be_octets (length octets) (multiple_below (step_of_time (length octets) seconds) (be_value octets))
 
 -- what is shown of a field's value by the kind of its element, in as many octets: a law
 pub record IsDegraded (kind : Kind) (seconds : ℕ) (value shown : List ℕ) : Type 0 where
-  pub in_seconds : kind ≡ Seconds → IsNumber 4 shown (be_value value / seconds * seconds)
-  pub in_millis : kind ≡ Millis → IsNumber 8 shown (be_value value / (1000 * seconds) * (1000 * seconds))
+  pub in_seconds : kind ≡ Seconds → IsNumberIn 4 shown (be_value value / seconds * seconds)
+  pub in_millis : kind ≡ Millis → IsNumberIn 8 shown (be_value value / (1000 * seconds) * (1000 * seconds))
 
 -- of each field that a template may have, and each value that the field may have
 abbrev pub TimesAreDegraded : Type 0

@@ -7,14 +7,14 @@ use Rattle.policy_judge.specs.declared.verdict.ElementAction.{ElementAction}
 use Rattle.policy_judge.specs.declared.verdict.ElementAction.TheVariants.{Keep, Remove, Truncate, Degrade}
 use Rattle.policy_judge.specs.declared.verdict.ElementVerdict.{ElementVerdict}
 
-abbrev pub IsWithin : List ℕ → ElementAction → Type 0
-IsWithin value Keep = Unit {0}
-IsWithin value Remove = Unit {0}
-IsWithin value (Truncate bits) = bits ≤ 8 * length value
-IsWithin value (Degrade seconds) = Unit {0}
+abbrev pub FitsAction : List ℕ → ElementAction → Type 0
+FitsAction value Keep = Unit {0}
+FitsAction value Remove = Unit {0}
+FitsAction value (Truncate bits) = bits ≤ 8 * length value
+FitsAction value (Degrade seconds) = Unit {0}
 
-abbrev pub AreWithin : List (List ℕ) → List ElementVerdict → Type 0
-AreWithin values verdicts = AllByRecursion (λ p. IsWithin p.0 p.1.action) (zip values verdicts)
+abbrev pub FitActions : List (List ℕ) → List ElementVerdict → Type 0
+FitActions values verdicts = AllByRecursion (λ p. FitsAction p.0 p.1.action) (zip values verdicts)
 
 -- the field stays as it is
 abbrev pub stays_whole : ElementAction → Bool
@@ -30,4 +30,4 @@ pub record AreJudged (r : DataRecord) (verdicts : List ElementVerdict) : Type 0 
   pub sound : IsSound r
   pub few : length verdicts ≤ MOST_FIELDS
   pub each : length verdicts ≡ length r.template.fields
-  pub within : AreWithin r.values verdicts
+  pub within : FitActions r.values verdicts

@@ -2,7 +2,6 @@
 ghost use Rattle.std.specs.Prelude.{◌≡◌, ◌≢◌, IsOk, IfOk};
 ghost use Rattle.policy_judge.specs.declared.verdict.RecordAction.TheVariants as on_record;
 ghost use Rattle.policy_judge.specs.Verdicts.{record_verdict_of};
-ghost use Rattle.flow_anonymize.specs.Outcome.{shown};
 ghost use Rattle.flow_anonymize.specs.Disclosed.{disclosure_of};
 
 use crate::disclosure::Disclosure;
@@ -25,9 +24,9 @@ pub fn disclose_by(
     name: &str,
     domain: u32,
     flow_record: &Record,
-) -> Result<Disclosure, AllocError>
+) -> Result<Disclosure<Record>, AllocError>
     ensures exact { IfOk result
-        (λ d. shown d ≡ disclosure_of name.now domain flow_record.now table.now) }
+        (λ d. d ≡ disclosure_of name.now domain flow_record.now table.now) }
     // What is said of a record that doesn't pass takes no memory.
     ensures no_memory { (record_verdict_of name.now domain flow_record.now table.now).action
         ≢ on_record.Pass
@@ -38,7 +37,7 @@ pub fn disclose_by(
 }
 
 ghost use Rattle.flow_anonymize.specs.Remaining.{verdicts_of};
-ghost use Rattle.flow_anonymize.specs.Planning.{IsPlan, IsShowable};
+ghost use Rattle.flow_anonymize.specs.Planning.{IsPlanFrom, IsShowable};
 
 /// The plan for a record, by the rules of a table.
 ///
@@ -51,7 +50,7 @@ pub(crate) fn plan_by(
     domain: u32,
     flow_record: &Record,
 ) -> Result<Plan, AllocError>
-    ensures plan { IfOk result (λ plan. IsPlan flow_record.now.template
+    ensures plan { IfOk result (λ plan. IsPlanFrom flow_record.now.template
         (record_verdict_of name.now domain flow_record.now table.now)
         (verdicts_of name.now domain flow_record.now table.now) plan) }
     ensures showable { IfOk result (λ plan. IsShowable plan flow_record.now) }
@@ -67,7 +66,7 @@ pub(crate) fn plan_by(
         return Ok(plan);
     }
     // Each rule is one of the grammar, so it keeps no more bits than a value of its element has.
-    let _rules = table.rules();
+    let _for_proof = table.rules();
     let fields = flow_record.template().fields.len();
     let verdicts = judge_candidates(alloc, &candidates, fields)?;
     Plan::for_passing(alloc, flow_record, verdicts)

@@ -1,8 +1,8 @@
 //! What is shown of a value that is changed.
 ghost use Rattle.std.specs.Prelude.{◌≡◌, ◌≤◌, ◌++◌, OnOk, OnErr, IfSome, IfNone};
 ghost use Rattle.flow_prefix.specs.Bits.{truncated, kept_octets};
-ghost use Rattle.flow_anonymize.specs.Times.{step_of_time, lowered, degraded_octets};
-ghost use Rattle.flow_anonymize.specs.Changes.{changed};
+ghost use Rattle.flow_anonymize.specs.Times.{step_of_time, multiple_below, degraded_octets};
+ghost use Rattle.flow_anonymize.specs.Changes.{changed_value};
 
 use flow_prefix::keep_bits;
 use ipfix_octets::message_format::MILLISECONDS;
@@ -33,7 +33,7 @@ pub(crate) fn put_changed(
     change: Change,
     text: &mut Vec<u8>,
 ) -> Result<(), AllocError>
-    ensures ok { OnOk result (text.new.items ≡ text.old.items ++ changed change value.now) }
+    ensures ok { OnOk result (text.new.items ≡ text.old.items ++ changed_value change value.now) }
     ensures err { OnErr result (text.new.items ≡ text.old.items) }
 {
     match change {
@@ -106,7 +106,7 @@ fn step_of_time(octets: usize, seconds: u32) -> Option<u64>
 
 /// The greatest multiple of a step that is no greater than the number; 0 where the step is 0.
 fn lowered(number: u64, step: u64) -> u64
-    ensures value { result ≡ lowered step number }
+    ensures value { result ≡ multiple_below step number }
     ensures within { result ≤ number }
 {
     match number.checked_div(step) {

@@ -25,7 +25,7 @@ pub(crate) fn judge_fields(
     ensures judged { IfOk result (λ verdicts. AreJudged flow_record.now verdicts.items) }
 {
     // Each rule is one of the grammar, so it keeps no more bits than a value of its element has.
-    let _rules = policy.rules();
+    let _for_proof = policy.rules();
     let count = flow_record.template().fields.len();
     let mut verdicts = Vec::with_capacity(alloc, count)?;
     for field in 0..count {

@@ -2,6 +2,7 @@
 ghost use Rattle.flow_anonymize.specs.Permitted.{OnlyPermittedPasses, PassedIsSound};
 ghost use Rattle.flow_anonymize.specs.Secrecy.{DeniedIsSecret};
 ghost use Rattle.flow_anonymize.specs.OtherRules.{OthersNeverMatter, LaterNeverMatter};
+ghost use Rattle.flow_anonymize.specs.Reasons.{ReasonsAreOfRules};
 ghost use Rattle.flow_anonymize.specs.Times.{TimesAreDegraded};
 
 /// What passes is what the rules permit: at no place stands a field that its first matching rule removes, or
@@ -33,6 +34,12 @@ pub fn others_never_matter()
 /// Rules behind those that decide on a record and on its fields never matter.
 pub fn later_rules_never_matter()
     ensures { LaterNeverMatter }
+{}
+
+/// A record is withheld for a reason of rules: because a rule withholds it or none matches, a scope field is lost, or
+/// nothing is left. For the reasons of aggregates, as that it is late, the rules alone withhold none.
+pub fn reasons_are_of_rules()
+    ensures { ReasonsAreOfRules }
 {}
 
 /// What is shown of a time that is degraded, by the kind of its element (RFC 6235, section 4.3.1).

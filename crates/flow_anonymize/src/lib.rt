@@ -3,8 +3,7 @@
 //! of it, or its count in an aggregate (RFC 6235: truncation, in sections 4.1.1 and 4.2.1,
 //! precision degradation, in section 4.3.1, and black-marker anonymization, which removes a field).
 //!
-//! - `disclosure`: [`Disclosure`], with [`RemovedFields`] and [`Reason`]; `decision`: [`Decision`],
-//!   which has all of that but the record.
+//! - `disclosure`: [`Disclosure`], with [`RemovedFields`] and [`Reason`] of the audit.
 //! - `transform`: [`disclose`]; `by_table`: [`disclose_by`], by a table of the rules.
 //! - `fields`: the verdict on each field, and which fields stay; `plan`: what becomes of all
 //!   records for which the verdicts are equal; `steps`, `change`, `values`: what is shown of a
@@ -13,8 +12,8 @@
 //!   as long as it lives; `output`: the records that pass, as runs; `record_classes`:
 //!   [`RecordClasses`].
 //! - `laws`: [`only_permitted_passes`], [`passed_is_sound`], [`denied_is_secret`],
-//!   [`others_never_matter`], [`later_rules_never_matter`] and [`times_are_degraded`], proved over
-//!   the definitions.
+//!   [`others_never_matter`], [`later_rules_never_matter`], [`reasons_are_of_rules`] and
+//!   [`times_are_degraded`], proved over the definitions.
 //!
 //! Proved: `disclose` answers exactly the disclosure that the rules define: the kept fields in
 //! their order with truncated and degraded values and the scope count, the places and rules of the
@@ -25,13 +24,13 @@
 //! that its first rule removes, no bit that it cuts off, and no time that is finer than it
 //! permits), `passed_is_sound`, `denied_is_secret` (two records that differ only in what is removed
 //! or cut off, or within one step of times, with addresses inside the same prefixes, look alike in
-//! all that is disclosed), `others_never_matter`, `later_rules_never_matter`, `times_are_degraded`
+//! all that is disclosed), `others_never_matter`, `later_rules_never_matter`,
+//! `reasons_are_of_rules` (the reasons of aggregates withhold nothing here), `times_are_degraded`
 //! (what is shown of a time, by the kind of its element).
 #![tactic(auto)]
 
 mod by_table;
 mod change;
-mod decision;
 mod disclosure;
 mod fields;
 mod laws;
@@ -46,12 +45,11 @@ mod transform;
 mod values;
 
 pub use by_table::disclose_by;
-pub use decision::Decision;
-pub use disclosure::{Disclosure, Reason};
-pub use disclosure_audit::{RemovedField, RemovedFields};
+pub use disclosure::Disclosure;
+pub use disclosure_audit::{Reason, RemovedField, RemovedFields};
 pub use laws::{
     denied_is_secret, later_rules_never_matter, only_permitted_passes, others_never_matter,
-    passed_is_sound, times_are_degraded,
+    passed_is_sound, reasons_are_of_rules, times_are_degraded,
 };
 pub use plans::Plans;
 pub use record_classes::RecordClasses;

@@ -2,46 +2,33 @@
 ghost use Rattle.std.specs.Prelude.{◌≡◌, ◌≢◌, ◌<◌, ◌≤◌, ◌++◌, ℕ, List, length, IsOk, IfOk, OnOk, OnErr, MatchOption};
 ghost use Rattle.std.specs.Option.{option_map};
 ghost use Rattle.std.specs.Arc.{arc_value};
-ghost use Rattle.flow_anonymize.specs.Outcome.{Outcome, shown, passed_text, IsKeptAsText};
+ghost use Rattle.flow_anonymize.specs.Outcome.{Outcome, passed_text, IsKeptAsText};
 ghost use Rattle.flow_anonymize.specs.Remaining.{removed_fields};
 ghost use Rattle.flow_anonymize.specs.Within.{AreJudged};
 ghost use Rattle.flow_anonymize.specs.Disclosed.{remaining_template, first_lost, first_rule_of, by_verdict};
 
-use crate::decision::Decision;
-use crate::disclosure::{Disclosure, Reason};
+use crate::disclosure::Disclosure;
 use crate::fields::{kept_fields, removed_fields};
 use crate::steps::{Step, put_by_steps, steps_of};
 use crate::values::kept_text;
-use disclosure_audit::{RemovedField, RemovedFields};
+use disclosure_audit::{Reason, RemovedField, RemovedFields};
 use ipfix_template::{Fields, Record, RecordView, Template};
 use policy_judge::{ElementVerdict, RecordAction, RecordVerdict};
 use std::alloc::{AllocError, Global};
 use std::sync::Arc;
 
 /// What becomes of records, but for their values.
+pub(crate) type Plan = Disclosure<Passing>;
+
+/// How records pass: with this template, and each field by the verdict on it, which these steps over a record's octets do.
 #[derive(Drop)]
-pub(crate) enum Plan {
-    /// They pass: with this template, without these fields, and each field by the verdict on it, which these steps over a
-    /// record's octets do.
-    Pass {
-        template: Arc<Template>,
-        removed: RemovedFields,
-        verdicts: Vec<ElementVerdict>,
-        steps: Vec<Step>,
-    },
-    /// They count in the aggregate at this place of the policy's list, by the rule of this number.
-    Aggregate {
-        rule: u32,
-        definition: usize,
-    },
-    /// Nothing of them is handed on, by the rule of this number.
-    Withhold {
-        rule: u32,
-        reason: Reason,
-    },
+pub(crate) struct Passing {
+    template: Arc<Template>,
+    verdicts: Vec<ElementVerdict>,
+    steps: Vec<Step>,
 }
 
-impl Plan {
+impl Disclosure<Passing> {
     ghost use Rattle.flow_anonymize.specs.Planning.{planned, shown_template, IsShowable, ShowsNone, IsPassing};
     ghost use Rattle.flow_anonymize.specs.Outcome.{decision_of};
 
@@ -54,11 +41,14 @@ impl Plan {
         let rule = verdict.rule;
         match verdict.action {
             RecordAction::Pass => None,
-            RecordAction::Withhold => Some(Plan::Withhold {
+            RecordAction::Withhold => Some(Disclosure::Withheld {
                 rule,
                 reason: Reason::Rule,
             }),
-            RecordAction::Aggregate(definition) => Some(Plan::Aggregate { rule, definition }),
+            RecordAction::Aggregate(definition) => Some(Disclosure::Aggregated {
+                rule,
+                definition,
+            }),
         }
     }
 
@@ -79,24 +69,26 @@ impl Plan {
     {
         let removed = removed_fields(alloc, &verdicts)?;
         if let Some(field) = first_lost(&removed, flow_record.template().scope) {
-            return Ok(Plan::Withhold {
+            return Ok(Disclosure::Withheld {
                 rule: field.rule,
                 reason: Reason::ScopeLost,
             });
         }
         let template = remaining_template(alloc, flow_record, &verdicts, &removed)?;
         if template.shortest() == 0 {
-            return Ok(Plan::Withhold {
+            return Ok(Disclosure::Withheld {
                 rule: first_rule_of(&removed),
                 reason: Reason::Empty,
             });
         }
         let steps = steps_of(alloc, flow_record.template().fields.as_slice(), &verdicts)?;
-        Ok(Plan::Pass {
-            template,
+        Ok(Disclosure::Passed {
             removed: RemovedFields::from_vec(alloc, removed)?,
-            verdicts,
-            steps,
+            kept: Passing {
+                template,
+                verdicts,
+                steps,
+            },
         })
     }
 
@@ -108,24 +100,26 @@ impl Plan {
         &self,
         alloc: Global,
         flow_record: &Record,
-    ) -> Result<Disclosure, AllocError>
+    ) -> Result<Disclosure<Record>, AllocError>
         requires { IsShowable self.now flow_record.now }
-        ensures exact { IfOk result (λ d. shown d ≡ planned self.now flow_record.now.values) }
+        ensures exact { IfOk result (λ d. d ≡ planned self.now flow_record.now.values) }
         // What is said of a record that isn't shown takes no memory.
         ensures no_memory { ShowsNone self.now → IsOk result }
     {
         match self {
-            Plan::Pass {
-                template,
+            Disclosure::Passed { kept, removed } => pass(
+                alloc,
+                &kept.template,
                 removed,
-                verdicts,
-                steps,
-            } => pass(alloc, template, removed, verdicts, steps, flow_record),
-            Plan::Aggregate { rule, definition } => Ok(Disclosure::Aggregated {
+                &kept.verdicts,
+                &kept.steps,
+                flow_record,
+            ),
+            Disclosure::Aggregated { rule, definition } => Ok(Disclosure::Aggregated {
                 rule: *rule,
                 definition: *definition,
             }),
-            Plan::Withhold { rule, reason } => Ok(Disclosure::Withheld {
+            Disclosure::Withheld { rule, reason } => Ok(Disclosure::Withheld {
                 rule: *rule,
                 reason: *reason,
             }),
@@ -153,9 +147,11 @@ impl Plan {
         ensures no_memory { ShowsNone self.now → IsOk result }
     {
         match self {
-            Plan::Pass { steps, .. } => put_by_steps(steps, flow_record.as_octets(), text),
-            Plan::Aggregate { .. } => Ok(()),
-            Plan::Withhold { .. } => Ok(()),
+            Disclosure::Passed { kept, .. } => {
+                put_by_steps(&kept.steps, flow_record.as_octets(), text)
+            }
+            Disclosure::Aggregated { .. } => Ok(()),
+            Disclosure::Withheld { .. } => Ok(()),
         }
     }
 
@@ -164,8 +160,8 @@ impl Plan {
         ensures { option_map (λ t. arc_value t.now) result ≡ shown_template self.now }
     {
         match self {
-            Plan::Pass { template, .. } => Some(template),
-            Plan::Aggregate { .. } | Plan::Withhold { .. } => None,
+            Disclosure::Passed { kept, .. } => Some(&kept.template),
+            Disclosure::Aggregated { .. } | Disclosure::Withheld { .. } => None,
         }
     }
 
@@ -173,19 +169,20 @@ impl Plan {
     ///
     /// # Errors
     /// Want of memory.
-    pub(crate) fn decision(&self) -> Result<Decision, AllocError>
+    pub(crate) fn decision(&self) -> Result<Disclosure<()>, AllocError>
         ensures { (values : List (List ℕ))
             → IfOk result (λ d. d ≡ decision_of (planned self.now values)) }
     {
         Ok(match self {
-            Plan::Pass { removed, .. } => Decision::Passed {
+            Disclosure::Passed { removed, .. } => Disclosure::Passed {
+                kept: (),
                 removed: removed.clone()?,
             },
-            Plan::Aggregate { rule, definition } => Decision::Aggregated {
+            Disclosure::Aggregated { rule, definition } => Disclosure::Aggregated {
                 rule: *rule,
                 definition: *definition,
             },
-            Plan::Withhold { rule, reason } => Decision::Withheld {
+            Disclosure::Withheld { rule, reason } => Disclosure::Withheld {
                 rule: *rule,
                 reason: *reason,
             },
@@ -193,7 +190,7 @@ impl Plan {
     }
 }
 
-ghost use Rattle.flow_anonymize.specs.Outcome.{Passes};
+ghost use Rattle.flow_anonymize.specs.declared.disclosure.Disclosure.TheVariants.{Passed};
 ghost use Rattle.flow_anonymize.specs.Remaining.{kept_values};
 ghost use Rattle.flow_anonymize.specs.Planning.{ShowsRecord};
 
@@ -205,9 +202,9 @@ fn pass(
     verdicts: &[ElementVerdict],
     steps: &[Step],
     flow_record: &Record,
-) -> Result<Disclosure, AllocError>
+) -> Result<Disclosure<Record>, AllocError>
     requires { ShowsRecord flow_record.now (arc_value template.now) verdicts.now steps.now }
-    ensures { IfOk result (λ d. shown d ≡ Passes (record {
+    ensures { IfOk result (λ d. d ≡ Passed (record {
       template = arc_value template.now;
       values = kept_values flow_record.now.values verdicts.now;
     }) removed.now) }

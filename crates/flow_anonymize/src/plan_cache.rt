@@ -5,7 +5,7 @@ ghost use Rattle.flow_anonymize.specs.Planning.{planned, IsShowable};
 ghost use Rattle.flow_anonymize.specs.Plans.{is_for};
 ghost use Rattle.flow_anonymize.specs.PlanCache.{IsPut};
 
-use crate::decision::Decision;
+use crate::disclosure::Disclosure;
 use crate::output::Output;
 use crate::plan::Plan;
 use crate::record_classes::RecordClasses;
@@ -95,7 +95,7 @@ impl PlanCache {
         &mut self,
         place: usize,
         flow_record: &RecordView<'_>,
-    ) -> Result<Decision, AllocError>
+    ) -> Result<Disclosure<()>, AllocError>
         requires there { place < length self.old.slots }
         requires showable { (slot : Slot) → slice_get self.old.slots place ≡ Some slot
             → IsShowable slot.plan flow_record.now }
@@ -155,7 +155,7 @@ impl PlanCache {
 
 ghost use Rattle.std.specs.Prelude.{true};
 ghost use Rattle.flow_anonymize.specs.Planning.{shown_template};
-ghost use Rattle.flow_anonymize.specs.PlanCache.{WritesOn};
+ghost use Rattle.flow_anonymize.specs.PlanCache.{WritesForTemplate};
 
 /// Adds what passes of a record by a plan, to the run that is written by this plan already or to a new one.
 ///
@@ -172,7 +172,7 @@ fn pass(
     ensures given { OnOk result
         (output.new.given ≡ output.old.given ++ passed (planned plan.now flow_record.now.values)) }
     ensures writing { OnOk result
-        (WritesOn (shown_template plan.now) output.old.writing output.new.writing) }
+        (WritesForTemplate (shown_template plan.now) output.old.writing output.new.writing) }
 {
     let Some(template) = plan.template() else {
         return Ok(());

@@ -7,7 +7,6 @@ ghost use Rattle.flow_anonymize.specs.Classes.{classes_of};
 ghost use Rattle.flow_anonymize.specs.Plans.{outcome_for, IsSlot};
 
 use crate::by_table::{disclose_by, plan_by};
-use crate::decision::Decision;
 use crate::disclosure::Disclosure;
 use crate::plan_cache::PlanCache;
 use crate::record_classes::RecordClasses;
@@ -50,13 +49,13 @@ impl Model for Plans {
     ghost use Rattle.std.specs.Prelude.{string_bytes};
     ghost use Rattle.std.specs.Option.{option_map};
     ghost use Rattle.std.specs.Arc.{arc_value};
-    ghost use Rattle.flow_anonymize.specs.Plans.{PlansOf, AreKept};
+    ghost use Rattle.flow_anonymize.specs.Plans.{PlansOf, ArePlansKept};
 
     ghost Value = { PlansOf };
 
     ghost view = { λ p. record { for = record { rules = arc_value p.table; cuts = arc_value p.classes; name = string_bytes p.name; domain = p.domain; template = option_map arc_value p.template }; given = p.cache.given } };
 
-    ghost invariant = { λ p. AreKept (record {
+    ghost invariant = { λ p. ArePlansKept (record {
       rules = arc_value p.table;
       cuts = arc_value p.classes;
       name = string_bytes p.name;
@@ -92,7 +91,7 @@ impl Plans {
         }) }
     {
         // There are no more cuts than a key has room for.
-        let _cuts = classes.cuts();
+        let _for_proof = classes.cuts();
         let name = String::from_str(alloc, name)?;
         Ok(Plans {
             table,
@@ -165,7 +164,7 @@ impl Plans {
         alloc: Global,
         classes: Option<RecordClasses>,
         flow_record: &RecordView<'_>,
-    ) -> Result<Decision, AllocError>
+    ) -> Result<Disclosure<()>, AllocError>
         requires template { self.old.for.template ≡ Some flow_record.now.template }
         requires classes { classes ≡ classes_of self.old.for.cuts flow_record.now }
         // What passes comes behind the other records, and what is said of the record is so.
@@ -193,7 +192,7 @@ impl Plans {
         alloc: Global,
         classes: Option<RecordClasses>,
         flow_record: &RecordView<'_>,
-    ) -> Result<Decision, AllocError>
+    ) -> Result<Disclosure<()>, AllocError>
         requires template { self.old.for.template ≡ Some flow_record.now.template }
         requires classes { classes ≡ classes_of self.old.for.cuts flow_record.now }
         // What passes comes behind the other records, and what is said of the record is so.
@@ -207,7 +206,7 @@ impl Plans {
             return self.disclose_singly(alloc, &flow_record.to_record()?);
         };
         // A record keeps that it is sound.
-        let _template = flow_record.template();
+        let _for_proof = flow_record.template();
         match self.cache.place_of(classes) {
             Some(place) => self.cache.give(place, flow_record),
             None => self.disclose_anew(alloc, classes, flow_record),
@@ -223,7 +222,7 @@ impl Plans {
         alloc: Global,
         classes: RecordClasses,
         flow_record: &RecordView<'_>,
-    ) -> Result<Decision, AllocError>
+    ) -> Result<Disclosure<()>, AllocError>
         requires template { self.old.for.template ≡ Some flow_record.now.template }
         requires classes { Some classes ≡ classes_of self.old.for.cuts flow_record.now }
         // What passes comes behind the other records, and what is said of the record is so.
@@ -234,7 +233,7 @@ impl Plans {
         ensures same { self.new.for ≡ self.old.for }
     {
         // A record keeps that it is sound.
-        let _template = flow_record.template();
+        let _for_proof = flow_record.template();
         let slot = self.planned(alloc, classes, flow_record)?;
         let place = self.cache.keep(slot)?;
         self.cache.give(place, flow_record)
@@ -255,7 +254,7 @@ impl Plans {
         ensures { IfOk result (λ slot. (slot.classes ≡ classes) × IsSlot self.now.for slot) }
     {
         // Each rule is one of the grammar, so its prefixes have no bits past their lengths.
-        let _rules = self.table.rules();
+        let _for_proof = self.table.rules();
         let single = flow_record.to_record()?;
         let plan = plan_by(alloc, &self.table, self.name.as_str(), self.domain, &single)?;
         Ok(Slot { classes, plan })
@@ -269,7 +268,7 @@ impl Plans {
         &mut self,
         alloc: Global,
         flow_record: &Record,
-    ) -> Result<Decision, AllocError>
+    ) -> Result<Disclosure<()>, AllocError>
         ensures given { OnOk result
             (self.new.given ≡ self.old.given ++ passed (outcome_for self.old.for flow_record.now)) }
         ensures decision { IfOk result
@@ -285,12 +284,12 @@ impl Plans {
         )? {
             Disclosure::Passed { kept, removed } => {
                 self.cache.push(kept)?;
-                Ok(Decision::Passed { removed })
+                Ok(Disclosure::Passed { kept: (), removed })
             }
             Disclosure::Aggregated { rule, definition } => {
-                Ok(Decision::Aggregated { rule, definition })
+                Ok(Disclosure::Aggregated { rule, definition })
             }
-            Disclosure::Withheld { rule, reason } => Ok(Decision::Withheld { rule, reason }),
+            Disclosure::Withheld { rule, reason } => Ok(Disclosure::Withheld { rule, reason }),
         }
     }
 

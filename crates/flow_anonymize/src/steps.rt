@@ -1,8 +1,8 @@
 //! What is shown of a record, by a few steps over its octets that are worked out once for a plan.
 ghost use Rattle.std.specs.Prelude.{◌≡◌, ◌+◌, ◌≤◌, ◌++◌, ◌∷◌, [], List, length, take, drop, IfOk, IfSome, OnOk, OnErr};
 ghost use Rattle.flow_anonymize.specs.declared.steps.Step.{Step};
-ghost use Rattle.flow_anonymize.specs.Changes.{changed};
-ghost use Rattle.flow_anonymize.specs.Steps.{variable_span, shown_at, behind, shown_by, step_of, changed_step, AreAlike, AreSteps};
+ghost use Rattle.flow_anonymize.specs.Changes.{changed_value};
+ghost use Rattle.flow_anonymize.specs.Steps.{variable_span, shown_at, behind, shown_by, step_of, changed_step, ShowAlike, AreSteps};
 
 use crate::change::{Change, put_changed};
 use ipfix_octets::read_varlen;
@@ -80,7 +80,7 @@ fn changed_step(field: &FieldSpec, change: Change) -> Step
 /// Joins the next step with the last one, or appends the last one; the step that comes last then.
 fn join(last: Step, next: Step, steps: &mut Vec<Step>) -> Result<Step, AllocError>
     ensures { IfOk result (λ step. (after : List Step)
-        → AreAlike (steps.new.items ++ step ∷ after) (steps.old.items ++ last ∷ next ∷ after)) }
+        → ShowAlike (steps.new.items ++ step ∷ after) (steps.old.items ++ last ∷ next ∷ after)) }
 {
     match joined(last, next) {
         Some(both) => Ok(both),
@@ -95,7 +95,7 @@ fn join(last: Step, next: Step, steps: &mut Vec<Step>) -> Result<Step, AllocErro
 /// octets: so each step but the last takes some, and a record has no more steps than octets.
 fn joined(last: Step, next: Step) -> Option<Step>
     ensures { IfSome result
-        (λ both. (after : List Step) → AreAlike (both ∷ after) (last ∷ next ∷ after)) }
+        (λ both. (after : List Step) → ShowAlike (both ∷ after) (last ∷ next ∷ after)) }
 {
     match (last, next) {
         (Step::Show(0), next) => Some(next),
@@ -110,7 +110,7 @@ fn joined(last: Step, next: Step) -> Option<Step>
 
 /// Appends the last step, if it shows something.
 fn end(last: Step, steps: &mut Vec<Step>) -> Result<(), AllocError>
-    ensures { OnOk result (AreAlike steps.new.items (steps.old.items ++ last ∷ [])) }
+    ensures { OnOk result (ShowAlike steps.new.items (steps.old.items ++ last ∷ [])) }
 {
     match last {
         Step::Show(0) => {}
@@ -224,7 +224,7 @@ fn put_behind(
     text: &mut Vec<u8>,
 ) -> Result<(), AllocError>
     ensures ok { OnOk result
-        (text.new.items ≡ text.old.items ++ (before.now ++ changed change value.now)) }
+        (text.new.items ≡ text.old.items ++ (before.now ++ changed_value change value.now)) }
     ensures err { OnErr result (take (length text.old.items) text.new.items ≡ text.old.items) }
 {
     text.extend_from_slice(before)?;

@@ -2,7 +2,6 @@
 ghost use Rattle.std.specs.Prelude.{◌≡◌, ◌≢◌, IsOk, IfOk};
 ghost use Rattle.policy_judge.specs.declared.verdict.RecordAction.TheVariants as on_record;
 ghost use Rattle.policy_judge.specs.Verdicts.{record_verdict_of};
-ghost use Rattle.flow_anonymize.specs.Outcome.{shown};
 ghost use Rattle.flow_anonymize.specs.Disclosed.{disclosure_of};
 
 use crate::disclosure::Disclosure;
@@ -60,9 +59,9 @@ pub fn disclose(
     name: &str,
     domain: u32,
     flow_record: &Record,
-) -> Result<Disclosure, AllocError>
+) -> Result<Disclosure<Record>, AllocError>
     ensures exact { IfOk result
-        (λ d. shown d ≡ disclosure_of name.now domain flow_record.now policy.now.rules) }
+        (λ d. d ≡ disclosure_of name.now domain flow_record.now policy.now.rules) }
     // What is said of a record that doesn't pass takes no memory.
     ensures no_memory { (record_verdict_of name.now domain flow_record.now policy.now.rules).action
         ≢ on_record.Pass
@@ -73,7 +72,7 @@ pub fn disclose(
 }
 
 ghost use Rattle.flow_anonymize.specs.Remaining.{verdicts_of};
-ghost use Rattle.flow_anonymize.specs.Planning.{IsPlan, IsShowable};
+ghost use Rattle.flow_anonymize.specs.Planning.{IsPlanFrom, IsShowable};
 
 /// The plan for a record.
 fn plan_of(
@@ -83,7 +82,7 @@ fn plan_of(
     domain: u32,
     flow_record: &Record,
 ) -> Result<Plan, AllocError>
-    ensures plan { IfOk result (λ plan. IsPlan flow_record.now.template
+    ensures plan { IfOk result (λ plan. IsPlanFrom flow_record.now.template
         (record_verdict_of name.now domain flow_record.now policy.now.rules)
         (verdicts_of name.now domain flow_record.now policy.now.rules) plan) }
     ensures showable { IfOk result (λ plan. IsShowable plan flow_record.now) }

@@ -14,7 +14,7 @@ use Rattle.flow_prefix.specs.declared.family.Family.{Family}
 use Rattle.flow_prefix.specs.declared.family.Family.TheVariants.{Ipv4, Ipv6}
 use Rattle.flow_prefix.specs.Family.{places, base, separator, width}
 use Rattle.flow_prefix.specs.Text.{IsPart, AreParts, AreShortened, WritesParts, IsAddress}
-use Rattle.flow_prefix.specs.Reading.{parts_of, groups_of, at_double, filled, whole, long_or_short, all_parts_of, address_of}
+use Rattle.flow_prefix.specs.Reading.{parts_of, groups_of, at_double, with_zeros, whole, long_or_short, all_parts_of, address_of}
 use Rattle.flow_prefix.proofs.ScanLaws.{at_double-text}
 use Rattle.flow_prefix.proofs.PowerLaws.{power_up}
 use Rattle.flow_prefix.proofs.AddressLaws.{whole_power}
@@ -38,10 +38,10 @@ long-found family text parts e =
     let P : List ℕ → Type 0 = λ ps. AreParts family text ps × (length ps ≡ places family) in
     subst P chosen.1 (parts_of-found family text read.0 read.1, chosen.0)
 
-short-found : (text before after parts : List ℕ) → at_double text ≡ Some (before, after) → (groups_of before >>= λ left. groups_of after >>= λ right. filled left right) ≡ Some parts → IsWhole Ipv6 text parts
+short-found : (text before after parts : List ℕ) → at_double text ≡ Some (before, after) → (groups_of before >>= λ left. groups_of after >>= λ right. with_zeros left right) ≡ Some parts → IsWhole Ipv6 text parts
 short-found text before after parts place e =
-    let l = bind_some (groups_of before) (λ left. groups_of after >>= λ right. filled left right) parts e in
-    let r = bind_some (groups_of after) (λ right. filled l.0 right) parts l.2 in
+    let l = bind_some (groups_of before) (λ left. groups_of after >>= λ right. with_zeros left right) parts e in
+    let r = bind_some (groups_of after) (λ right. with_zeros l.0 right) parts l.2 in
     let zeros = 8 - (length l.0 + length r.0) in
     let chosen = cond_some (ltb (length l.0 + length r.0) 8) (l.0 ++ replicate zeros 0 ++ r.0) parts r.2 in
     let room = ltb-true (length l.0 + length r.0) 8 chosen.0 in

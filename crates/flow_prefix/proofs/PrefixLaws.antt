@@ -5,28 +5,28 @@ use Rattle.std.proofs.lemmas.Bool.{lt-ltb, le-ltb, eq-eqb, ne_eqb, cases_lt, cas
 use Rattle.sequences.proofs.ResultLaws.{Err-Ok}
 use Rattle.flow_prefix.specs.declared.family.Family.{Family}
 use Rattle.flow_prefix.specs.declared.family.Family.TheVariants.{Ipv4, Ipv6}
-use Rattle.flow_prefix.specs.declared.fault.PrefixFault.{PrefixFault}
-use Rattle.flow_prefix.specs.declared.fault.PrefixFault.TheVariants.{BadText, BadLength, HostBits}
+use Rattle.flow_prefix.specs.declared.fault.Fault.{Fault}
+use Rattle.flow_prefix.specs.declared.fault.Fault.TheVariants.{BadText, BadLength, HostBits}
 use Rattle.flow_prefix.specs.declared.prefix.Prefix.{Prefix}
 use Rattle.flow_prefix.specs.declared.prefix.Prefix.TheVariants.{V4, V6}
 use Rattle.flow_prefix.specs.Family.{width}
 use Rattle.flow_prefix.specs.Bits.{truncated}
 use Rattle.numerals.specs.Numerals.{number_of}
 use Rattle.flow_prefix.specs.Text.{IsAddress, IsPrefixForm, IsPrefixText, HasNoForm, HasLongLength, HasHostBits}
-use Rattle.flow_prefix.specs.Reading.{cut_at, address_of, prefix_in, judged, by_family, with_bits, of_sides, prefix_of}
+use Rattle.flow_prefix.specs.Reading.{cut_at, address_of, prefix_in, checked_prefix, by_family, with_bits, of_sides, prefix_of}
 use Rattle.numerals.proofs.NumeralLaws.{number_of-found, number_of-only}
 use Rattle.flow_prefix.proofs.AddressReadLaws.{address_of-found, address_of-only, address_of-other, address_no_slash, address_below}
 use Rattle.flow_prefix.proofs.CutLaws.{cut_at-middle, cut_at-text}
 
 -- of the form, and judged
-pub record IsJudged (text : List ℕ) (r : Result Prefix PrefixFault) : Type 0 where
+pub record IsJudged (text : List ℕ) (r : Result Prefix Fault) : Type 0 where
   pub family : Family
   pub address : ℕ
   pub bits : ℕ
   pub form : IsPrefixForm text family address bits
-  pub judgement : r ≡ judged family address bits
+  pub judgement : r ≡ checked_prefix family address bits
 
-abbrev Outcome : List ℕ → Result Prefix PrefixFault → Type 0
+abbrev Outcome : List ℕ → Result Prefix Fault → Type 0
 Outcome text r = (r ≡ Err BadText) ⊎ IsJudged text r
 
 outcome_by_family : (text front : List ℕ) (bits : ℕ) → bits < 1000 → text ≡ front ++ 47 ∷ decimal bits → (v4 v6 : Option ℕ) → address_of Ipv4 front ≡ v4 → address_of Ipv6 front ≡ v6 → Outcome text (by_family v4 v6 bits)
@@ -52,12 +52,12 @@ pub prefix_of-outcome : (text : List ℕ) → (prefix_of text ≡ Err BadText) �
 unfolding prefix_of
 prefix_of-outcome text = outcome_of_sides text (cut_at 47 text) refl
 
-read_family : (family : Family) (front : List ℕ) (address bits : ℕ) → IsAddress family front address → by_family (address_of Ipv4 front) (address_of Ipv6 front) bits ≡ judged family address bits
+read_family : (family : Family) (front : List ℕ) (address bits : ℕ) → IsAddress family front address → by_family (address_of Ipv4 front) (address_of Ipv6 front) bits ≡ checked_prefix family address bits
 read_family Ipv4 front address bits h = rw (address_of-only Ipv4 front address h) refl
 read_family Ipv6 front address bits h = rw (address_of-other front address h, address_of-only Ipv6 front address h) refl
 
 -- each text of the form is judged
-pub prefix_of-judged : (text : List ℕ) (family : Family) (address bits : ℕ) → IsPrefixForm text family address bits → prefix_of text ≡ judged family address bits
+pub prefix_of-judged : (text : List ℕ) (family : Family) (address bits : ℕ) → IsPrefixForm text family address bits → prefix_of text ≡ checked_prefix family address bits
 unfolding prefix_of
 prefix_of-judged text family address bits h =
     let short = h.three_digits in
@@ -65,16 +65,16 @@ prefix_of-judged text family address bits h =
     let number = number_of-only 999 (decimal bits) bits (omega arith) (record { bound = omega arith; text = refl }) in
     ap of_sides place ∙ ap (with_bits h.front) number ∙ read_family family h.front address bits h.is_address
 
-pub judged-long : (family : Family) (address bits : ℕ) → width family < bits → judged family address bits ≡ Err BadLength
-unfolding judged
+pub judged-long : (family : Family) (address bits : ℕ) → width family < bits → checked_prefix family address bits ≡ Err BadLength
+unfolding checked_prefix
 judged-long family address bits h = rw (lt-ltb (width family) bits h) refl
 
-pub judged-host : (family : Family) (address bits : ℕ) → bits ≤ width family → (truncated (width family) bits address ≡ address → ⊥) → judged family address bits ≡ Err HostBits
-unfolding judged
+pub judged-host : (family : Family) (address bits : ℕ) → bits ≤ width family → (truncated (width family) bits address ≡ address → ⊥) → checked_prefix family address bits ≡ Err HostBits
+unfolding checked_prefix
 judged-host family address bits h other = rw (le-ltb (width family) bits h, ne_eqb (truncated (width family) bits address) address other) refl
 
-pub judged-net : (family : Family) (address bits : ℕ) → bits ≤ width family → truncated (width family) bits address ≡ address → judged family address bits ≡ Ok (prefix_in family (record { address = address; length = bits }))
-unfolding judged
+pub judged-net : (family : Family) (address bits : ℕ) → bits ≤ width family → truncated (width family) bits address ≡ address → checked_prefix family address bits ≡ Ok (prefix_in family (record { address = address; length = bits }))
+unfolding checked_prefix
 judged-net family address bits h same = rw (le-ltb (width family) bits h, eq-eqb (truncated (width family) bits address) address same) refl
 
 -- the three judgements
@@ -105,7 +105,7 @@ ok_judged text p h (Good within same) =
     let P : Prefix → Type 0 = λ q. IsPrefixText text q in
     subst P (sym is) (text_in text h.family h.address h.bits h.form within same)
 
-found_by : (text : List ℕ) (r : Result Prefix PrefixFault) → (r ≡ Err BadText) ⊎ IsJudged text r → IfOk r (λ p. IsPrefixText text p)
+found_by : (text : List ℕ) (r : Result Prefix Fault) → (r ≡ Err BadText) ⊎ IsJudged text r → IfOk r (λ p. IsPrefixText text p)
 found_by text (Err e) h = tt
 found_by text (Ok p) h =
     ⊎_elim (λ (bad : Ok p ≡ Err BadText). absurd (Err-Ok BadText p (sym bad)))
@@ -121,7 +121,7 @@ pub prefix_of-only : (text : List ℕ) (p : Prefix) → IsPrefixText text p → 
 prefix_of-only text (V4 net) h = prefix_of-judged text Ipv4 net.address net.length h.0 ∙ judged-net Ipv4 net.address net.length h.1.within h.1.clear
 prefix_of-only text (V6 net) h = prefix_of-judged text Ipv6 net.address net.length h.0 ∙ judged-net Ipv6 net.address net.length h.1.within h.1.clear
 
-judged_text : (family : Family) (address bits : ℕ) → Judgement family address bits → judged family address bits ≡ Err BadText → ⊥
+judged_text : (family : Family) (address bits : ℕ) → Judgement family address bits → checked_prefix family address bits ≡ Err BadText → ⊥
 judged_text family address bits (Long long) e = let f = sym e ∙ judged-long family address bits long in cc
 judged_text family address bits (Host within other) e = let f = sym e ∙ judged-host family address bits within other in cc
 judged_text family address bits (Good within same) e = let f = sym e ∙ judged-net family address bits within same in cc
@@ -134,12 +134,12 @@ prefix_of-bad_text text = (
       (prefix_of-outcome text),
 )
 
-long_judged : (family : Family) (address bits : ℕ) → Judgement family address bits → judged family address bits ≡ Err BadLength → width family < bits
+long_judged : (family : Family) (address bits : ℕ) → Judgement family address bits → checked_prefix family address bits ≡ Err BadLength → width family < bits
 long_judged family address bits (Long long) e = long
 long_judged family address bits (Host within other) e = let f = sym e ∙ judged-host family address bits within other in cc
 long_judged family address bits (Good within same) e = let f = sym e ∙ judged-net family address bits within same in cc
 
-host_judged : (family : Family) (address bits : ℕ) → Judgement family address bits → judged family address bits ≡ Err HostBits → (bits ≤ width family) × (truncated (width family) bits address ≢ address)
+host_judged : (family : Family) (address bits : ℕ) → Judgement family address bits → checked_prefix family address bits ≡ Err HostBits → (bits ≤ width family) × (truncated (width family) bits address ≢ address)
 host_judged family address bits (Long long) e = let f = sym e ∙ judged-long family address bits long in cc
 host_judged family address bits (Host within other) e = (within, other)
 host_judged family address bits (Good within same) e = let f = sym e ∙ judged-net family address bits within same in cc

@@ -15,7 +15,7 @@ use Rattle.flow_prefix.specs.Family.{places, base, width}
 use Rattle.flow_prefix.specs.Net.{Net, IsNet}
 use Rattle.flow_prefix.specs.Text.{IsPart, AreParts, WritesParts, IsAddress, IsPrefixForm, IsPrefixText}
 use Rattle.flow_prefix.specs.Printing.{base_digits, part_text, address_text, net_text, prefix_text}
-use Rattle.flow_prefix.specs.Prefixes.{IsPrefix, ReadsBack}
+use Rattle.flow_prefix.specs.Prefixes.{IsPrefix, PrefixesReadBack}
 use Rattle.flow_prefix.proofs.PowerLaws.{power_positive}
 use Rattle.flow_prefix.proofs.AddressLaws.{digits_after, whole_power}
 use Rattle.flow_prefix.proofs.PrefixLaws.{prefix_of-only}
@@ -103,7 +103,7 @@ pub prefix_text-is : (p : Prefix) → IsPrefix p → IsPrefixText (prefix_text p
 prefix_text-is (V4 net) h = (net_form Ipv4 net h (omega arith), h)
 prefix_text-is (V6 net) h = (net_form Ipv6 net h (omega arith), h)
 
-pub reads_back : ReadsBack
+pub reads_back : PrefixesReadBack
 reads_back p h = prefix_of-only (prefix_text p) p (prefix_text-is p h)
 
 -- the text in one row, as a format writes it

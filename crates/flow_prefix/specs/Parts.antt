@@ -6,18 +6,18 @@ use Rattle.flow_prefix.specs.declared.parts.Parts.{Parts}
 use Rattle.flow_prefix.specs.Family.{places, base}
 
 -- no more parts than the family has, and a number of as many digits
-pub record IsCounted (family : Family) (parts : Parts) : Type 0 where
+pub record FitsFamily (family : Family) (parts : Parts) : Type 0 where
   pub room : parts.count ≤ places family
   pub below : parts.value < base family ^ parts.count
 
 -- these parts after those before, if the family has room for them all
-unfoldable pub continued : Family → Parts → Option (List ℕ) → Option Parts
-continued family front None = None
-continued family front (Some parts) =
+unfoldable pub added_parts : Family → Parts → Option (List ℕ) → Option Parts
+added_parts family front None = None
+added_parts family front (Some parts) =
     if nat_le (front.count + length parts) (places family)
     then Some (record { count = front.count + length parts; value = number_from_digits_after (base family) front.value parts })
     else None
 
 -- how many the parts are, and their number
-abbrev pub counted : Family → Option (List ℕ) → Option Parts
-counted family parts = continued family (record { count = 0; value = 0 }) parts
+abbrev pub counted_parts : Family → Option (List ℕ) → Option Parts
+counted_parts family parts = added_parts family (record { count = 0; value = 0 }) parts

@@ -18,5 +18,5 @@ contains (V4 net) octets = length octets == 4 && is_inside 32 net (be_value octe
 contains (V6 net) octets = length octets == 16 && is_inside 128 net (be_value octets)
 
 -- what is printed is read back
-abbrev pub ReadsBack : Type 0
-ReadsBack = (prefix : Prefix) → IsPrefix prefix → prefix_of (prefix_text prefix) ≡ Ok prefix
+abbrev pub PrefixesReadBack : Type 0
+PrefixesReadBack = (prefix : Prefix) → IsPrefix prefix → prefix_of (prefix_text prefix) ≡ Ok prefix

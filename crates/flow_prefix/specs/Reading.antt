@@ -5,8 +5,8 @@ use Rattle.std.specs.Int.Digits.{number_from_digits}
 use Rattle.sequences.specs.Options.{◌>>=◌}
 use Rattle.flow_prefix.specs.declared.family.Family.{Family}
 use Rattle.flow_prefix.specs.declared.family.Family.TheVariants.{Ipv4, Ipv6}
-use Rattle.flow_prefix.specs.declared.fault.PrefixFault.{PrefixFault}
-use Rattle.flow_prefix.specs.declared.fault.PrefixFault.TheVariants.{BadText, BadLength, HostBits}
+use Rattle.flow_prefix.specs.declared.fault.Fault.{Fault}
+use Rattle.flow_prefix.specs.declared.fault.Fault.TheVariants.{BadText, BadLength, HostBits}
 use Rattle.flow_prefix.specs.declared.prefix.Prefix.{Prefix}
 use Rattle.flow_prefix.specs.declared.prefix.Prefix.TheVariants.{V4, V6}
 use Rattle.flow_prefix.specs.Bits.{truncated}
@@ -52,8 +52,8 @@ at_double (c ∷ []) = None
 at_double (c ∷ d ∷ rest) = if c == 58 && d == 58 then Some ([], rest) else onto_left c (at_double (d ∷ rest))
 
 -- the groups with zeros between, at least one
-abbrev pub filled : List ℕ → List ℕ → Option (List ℕ)
-filled left right =
+abbrev pub with_zeros : List ℕ → List ℕ → Option (List ℕ)
+with_zeros left right =
     if nat_lt (length left + length right) 8
     then Some (left ++ replicate (8 - (length left + length right)) 0 ++ right) else None
 
@@ -61,7 +61,7 @@ abbrev pub shortened_of : List ℕ × List ℕ → Option (List ℕ)
 shortened_of sides = do
   left ← groups_of sides.0
   right ← groups_of sides.1
-  filled left right
+  with_zeros left right
 
 -- a list of as many parts as the family has
 abbrev pub whole : Family → List ℕ → Option (List ℕ)
@@ -92,24 +92,24 @@ prefix_in Ipv4 net = V4 net
 prefix_in Ipv6 net = V6 net
 
 -- a prefix of this family, or the first fault that stands
-unfoldable pub judged : Family → ℕ → ℕ → Result Prefix PrefixFault
-judged family address bits =
+unfoldable pub checked_prefix : Family → ℕ → ℕ → Result Prefix Fault
+checked_prefix family address bits =
     if nat_lt (width family) bits then Err BadLength
     else if truncated (width family) bits address == address then Ok (prefix_in family (record { address = address; length = bits }))
     else Err HostBits
 
-abbrev pub by_family : Option ℕ → Option ℕ → ℕ → Result Prefix PrefixFault
-by_family (Some address) v6 bits = judged Ipv4 address bits
-by_family None (Some address) bits = judged Ipv6 address bits
+abbrev pub by_family : Option ℕ → Option ℕ → ℕ → Result Prefix Fault
+by_family (Some address) v6 bits = checked_prefix Ipv4 address bits
+by_family None (Some address) bits = checked_prefix Ipv6 address bits
 by_family None None bits = Err BadText
 
-abbrev pub with_bits : List ℕ → Option ℕ → Result Prefix PrefixFault
+abbrev pub with_bits : List ℕ → Option ℕ → Result Prefix Fault
 with_bits address (Some bits) = by_family (address_of Ipv4 address) (address_of Ipv6 address) bits
 with_bits address None = Err BadText
 
-abbrev pub of_sides : Option (List ℕ × List ℕ) → Result Prefix PrefixFault
+abbrev pub of_sides : Option (List ℕ × List ℕ) → Result Prefix Fault
 of_sides None = Err BadText
 of_sides (Some sides) = with_bits sides.0 (number_of 999 sides.1)
 
-unfoldable pub prefix_of : List ℕ → Result Prefix PrefixFault
+unfoldable pub prefix_of : List ℕ → Result Prefix Fault
 prefix_of text = of_sides (cut_at 47 text)

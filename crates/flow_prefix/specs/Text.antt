@@ -7,8 +7,8 @@ use Rattle.std.specs.Str.Parse.{IsNumeral, digits_value}
 use Rattle.std.specs.Int.Digits.{number_from_digits}
 use Rattle.flow_prefix.specs.declared.family.Family.{Family}
 use Rattle.flow_prefix.specs.declared.family.Family.TheVariants.{Ipv4, Ipv6}
-use Rattle.flow_prefix.specs.declared.fault.PrefixFault.{PrefixFault}
-use Rattle.flow_prefix.specs.declared.fault.PrefixFault.TheVariants.{BadText, BadLength, HostBits}
+use Rattle.flow_prefix.specs.declared.fault.Fault.{Fault}
+use Rattle.flow_prefix.specs.declared.fault.Fault.TheVariants.{BadText, BadLength, HostBits}
 use Rattle.flow_prefix.specs.declared.prefix.Prefix.{Prefix}
 use Rattle.flow_prefix.specs.declared.prefix.Prefix.TheVariants.{V4, V6}
 use Rattle.flow_prefix.specs.Family.{width, places, base, separator}
@@ -78,7 +78,7 @@ HasHostBits text = (family : Family) × (address : ℕ) × (bits : ℕ)
     × IsPrefixForm text family address bits × (bits ≤ width family) × (truncated (width family) bits address ≢ address)
 
 -- what a text is read as: the prefix that it writes, or the first fault that stands
-pub record IsReadAs (text : List ℕ) (answer : Result Prefix PrefixFault) : Type 0 where
+pub record IsReadAs (text : List ℕ) (answer : Result Prefix Fault) : Type 0 where
   pub exact : answer ≡ prefix_of text
   pub found : IfOk answer (IsPrefixText text)
   pub only : (prefix : Prefix) → IsPrefixText text prefix → answer ≡ Ok prefix

@@ -2,7 +2,7 @@
 ghost use Rattle.std.specs.Prelude.{◌≡◌, ◌+◌, ◌-◌, ◌*◌, ◌<◌, ◌^◌, IfSome};
 ghost use Rattle.flow_prefix.specs.Family.{width};
 ghost use Rattle.flow_prefix.specs.Reading.{address_of, whole_number_of};
-ghost use Rattle.flow_prefix.specs.Parts.{IsCounted};
+ghost use Rattle.flow_prefix.specs.Parts.{FitsFamily};
 
 use crate::family::{Family, GROUP_VALUES};
 use crate::parts::{Parts, read_groups, read_parts};
@@ -59,8 +59,8 @@ fn read_address6(text: &[u8]) -> Option<u128>
 
 /// The number of the eight groups that these make with zeros between.
 fn filled(left: Parts, right: Parts) -> u128
-    requires left_counted { IsCounted Family.Ipv6 left }
-    requires right_counted { IsCounted Family.Ipv6 right }
+    requires left_counted { FitsFamily Family.Ipv6 left }
+    requires right_counted { FitsFamily Family.Ipv6 right }
     requires room { left.count + right.count < 8 }
     // The zeros stand between the two sides, and the whole is an address.
     ensures value { result ≡ left.value * 65536 ^ (8 - left.count) + right.value }

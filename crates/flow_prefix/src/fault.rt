@@ -3,7 +3,7 @@ use thiserror::Error;
 
 /// Why a text is no prefix. Where several reasons stand, the first of this list is named.
 #[derive(Clone, Copy, Debug, PartialEq, Eq, Error)]
-pub enum PrefixFault {
+pub enum Fault {
     /// The text isn't an address, `/` and a number of at most three digits.
     #[error("BadText")]
     BadText,

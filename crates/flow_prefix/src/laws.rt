@@ -2,11 +2,11 @@
 ghost use Rattle.std.specs.Prelude.{ℕ, ◌≤◌, ◌*◌, List, length};
 ghost use Rattle.sequences.specs.Octets.{AreOctets};
 ghost use Rattle.flow_prefix.specs.Bits.{kept_octets, KeepsBits};
-ghost use Rattle.flow_prefix.specs.Prefixes.{ReadsBack};
+ghost use Rattle.flow_prefix.specs.Prefixes.{PrefixesReadBack};
 
 /// The canonical text of a prefix is read as that prefix.
 pub fn print_then_parse()
-    ensures { ReadsBack }
+    ensures { PrefixesReadBack }
 {}
 
 /// Where the first bits of octets are kept, there are as many octets as before, and their number is

@@ -5,7 +5,7 @@
 //! - `family`: [`Family`], IPv4 or IPv6, and how many octets and bits an address of each has.
 //! - `prefix`: [`Prefix`], read by `parse`, asked by `contains`, written by `print`.
 //! - `net`: [`Prefix4`] and [`Prefix6`], what the two kinds of prefix hold.
-//! - `fault`: [`PrefixFault`], why a text is no prefix.
+//! - `fault`: [`Fault`], why a text is no prefix.
 //! - `scan`: [`cut_at`], the two sides of an octet.
 //! - `bits`: [`keep_bits`], truncation of a value to its first bits; [`number`], the number of its octets.
 //! - `laws`: [`print_then_parse`] and [`kept_bits_are_truncated`], proved over the definitions.
@@ -29,7 +29,7 @@ mod scan;
 
 pub use bits::{keep_bits, number};
 pub use family::{Family, GROUP_VALUES, IPV4_BITS, IPV4_OCTETS, IPV6_BITS, IPV6_OCTETS};
-pub use fault::PrefixFault;
+pub use fault::Fault;
 pub use laws::{kept_bits_are_truncated, print_then_parse};
 pub use net::{Prefix4, Prefix6};
 pub use prefix::Prefix;

@@ -2,7 +2,7 @@
 ghost use Rattle.std.specs.Prelude.{◌≡◌, ◌<◌, IfSome, IfSome, ◌∷◌, []};
 ghost use Rattle.flow_prefix.specs.Family.{base};
 ghost use Rattle.flow_prefix.specs.Reading.{part_of, parts_of, groups_of, each_part_of};
-ghost use Rattle.flow_prefix.specs.Parts.{IsCounted, continued, counted};
+ghost use Rattle.flow_prefix.specs.Parts.{FitsFamily, added_parts, counted_parts};
 
 use crate::family::Family;
 use crate::scan::cut_at;
@@ -55,9 +55,9 @@ fn read_group(word: &[u8]) -> Option<u32>
 
 /// These parts and the one that the word writes; `None` also where the family has no room for it.
 fn with_word(family: Family, parts: Parts, word: &[u8]) -> Option<Parts>
-    requires { IsCounted family parts }
-    ensures value { result ≡ continued family parts (each_part_of family (word.now ∷ [])) }
-    ensures counted { IfSome result (λ more. IsCounted family more) }
+    requires { FitsFamily family parts }
+    ensures value { result ≡ added_parts family parts (each_part_of family (word.now ∷ [])) }
+    ensures counted { IfSome result (λ more. FitsFamily family more) }
 {
     let part = read_part(family, word)?;
     if parts.count == family.places() {
@@ -71,8 +71,8 @@ fn with_word(family: Family, parts: Parts, word: &[u8]) -> Option<Parts>
 
 /// The parts that a text writes with the separator between, if the family has room for them all.
 pub(crate) fn read_parts(family: Family, text: &[u8]) -> Option<Parts>
-    ensures value { result ≡ counted family (parts_of family text.now) }
-    ensures counted { IfSome result (λ parts. IsCounted family parts) }
+    ensures value { result ≡ counted_parts family (parts_of family text.now) }
+    ensures counted { IfSome result (λ parts. FitsFamily family parts) }
 {
     let mut parts = Parts { count: 0, value: 0 };
     let mut rest = text;
@@ -83,11 +83,11 @@ pub(crate) fn read_parts(family: Family, text: &[u8]) -> Option<Parts>
     with_word(family, parts, rest)
 }
 
-#[tactic(auto, unfolding(crate::specs::Reading::groups_of, crate::specs::Parts::continued))]
+#[tactic(auto, unfolding(crate::specs::Reading::groups_of, crate::specs::Parts::added_parts))]
 /// The groups of one side of a `::`, which may be none.
 pub(crate) fn read_groups(text: &[u8]) -> Option<Parts>
-    ensures value { result ≡ counted Family.Ipv6 (groups_of text.now) }
-    ensures counted { IfSome result (λ parts. IsCounted Family.Ipv6 parts) }
+    ensures value { result ≡ counted_parts Family.Ipv6 (groups_of text.now) }
+    ensures counted { IfSome result (λ parts. FitsFamily Family.Ipv6 parts) }
 {
     if text.is_empty() {
         return Some(Parts { count: 0, value: 0 });

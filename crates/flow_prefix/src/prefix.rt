@@ -1,12 +1,12 @@
 //! Prefixes of either family: read from texts, written as texts, and asked for values.
 ghost use Rattle.std.specs.Prelude.{◌≡◌, ◌↔◌, ℕ, Bool, ◌^◌, ◌<◌, Ok, Err, IfOk, IsErrOf, string_bytes};
 ghost use Rattle.flow_prefix.specs.Family.{width};
-ghost use Rattle.flow_prefix.specs.Reading.{prefix_of, judged};
+ghost use Rattle.flow_prefix.specs.Reading.{prefix_of, checked_prefix};
 
 use crate::address::read_address;
 use crate::bits::first_bits;
 use crate::family::Family;
-use crate::fault::PrefixFault;
+use crate::fault::Fault;
 use crate::net::{Prefix4, Prefix6};
 use crate::scan::cut_at;
 use numerals::read_number;
@@ -38,7 +38,7 @@ impl Prefix {
     /// - `BadText` where the text has another form.
     /// - `BadLength`, else, where the length is above the family's width.
     /// - `HostBits`, else, where a bit of the address behind the length is set.
-    pub fn parse(text: &str) -> Result<Prefix, PrefixFault>
+    pub fn parse(text: &str) -> Result<Prefix, Fault>
         ensures { IsReadAs text.now result }
     {
         Prefix::parse_ascii(text.as_bytes())
@@ -48,7 +48,7 @@ impl Prefix {
     ///
     /// # Errors
     /// Those of [`parse`](Prefix::parse).
-    pub fn parse_ascii(text: &[u8]) -> Result<Prefix, PrefixFault>
+    pub fn parse_ascii(text: &[u8]) -> Result<Prefix, Fault>
         ensures { IsReadAs text.now result }
     {
         read_prefix(text)
@@ -83,35 +83,35 @@ impl Prefix {
 
 /// The reading of a prefix: its address first, then its length, then its host bits.
 #[tactic(auto, unfolding(crate::specs::Reading::prefix_of))]
-fn read_prefix(text: &[u8]) -> Result<Prefix, PrefixFault>
+fn read_prefix(text: &[u8]) -> Result<Prefix, Fault>
     ensures { result ≡ prefix_of text.now }
 {
     let Some((address, length)) = cut_at(text, b'/') else {
-        return Err(PrefixFault::BadText);
+        return Err(Fault::BadText);
     };
     let Some(bits) = read_number(length, GREATEST_LENGTH) else {
-        return Err(PrefixFault::BadText);
+        return Err(Fault::BadText);
     };
     if let Some(number) = read_address(Family::Ipv4, address) {
         return judge(Family::Ipv4, number, bits);
     }
     match read_address(Family::Ipv6, address) {
         Some(number) => judge(Family::Ipv6, number, bits),
-        None => Err(PrefixFault::BadText),
+        None => Err(Fault::BadText),
     }
 }
 
 /// The prefix of an address and a length, or the fault of the two.
-#[tactic(auto, unfolding(crate::specs::Reading::judged))]
-fn judge(family: Family, address: u128, bits: u32) -> Result<Prefix, PrefixFault>
+#[tactic(auto, unfolding(crate::specs::Reading::checked_prefix))]
+fn judge(family: Family, address: u128, bits: u32) -> Result<Prefix, Fault>
     requires { address < 2 ^ width family }
-    ensures { result ≡ judged family address bits }
+    ensures { result ≡ checked_prefix family address bits }
 {
     if bits > family.width() {
-        return Err(PrefixFault::BadLength);
+        return Err(Fault::BadLength);
     }
     if first_bits(family.width(), bits, address) != address {
-        return Err(PrefixFault::HostBits);
+        return Err(Fault::HostBits);
     }
     Ok(match family {
         Family::Ipv4 => Prefix::V4(Prefix4::new(address as u32, bits as u8)),

@@ -25,7 +25,7 @@ use Rattle.mediator_history.proofs.CountingLaws.{counted_same}
 use Rattle.history_verify.specs.declared.count.Count.{Count}
 use Rattle.history_verify.specs.declared.subscribers.Subscribers.{Subscribers}
 use Rattle.history_verify.specs.Counts.{count_in, counts_of}
-use Rattle.history_verify.specs.Parts.{AreNumbersFrom, number_of, IsUnbegun, AreSubscribers}
+use Rattle.history_verify.specs.Parts.{AreNumbersFrom, number_of, NeverBegan, AreSubscribers}
 use Rattle.history_verify.proofs.Stays.{last_stays, list_stays, list_more, count_stays, count_more}
 use Rattle.history_verify.proofs.KeyLaws.{removed_is, inserted_above, numbers_apart, numbers_below, numbers_push}
 use Rattle.history_verify.proofs.SubscriberLaws.{map_alike, counted_alike}
@@ -98,7 +98,7 @@ subscribers_begin t u h sub name so next free begun numbers inserted = record {
   same_given : (q : ℕ) → disclosed q (h ++ Subscribe sub name ∷ []) ≡ disclosed q h
   same_given q = given_same q h (Subscribe sub name) refl
 
-  before : IsUnbegun h sub
+  before : NeverBegan h sub
   before = so.unbegun sub (inr (omega (arith, number)))
 
   other : (q : ℕ) → q ≢ sub → (sub == q) ≡ false
@@ -152,7 +152,7 @@ subscribers_begin t u h sub name so next free begun numbers inserted = record {
   higher q (inl none) = (inl none, λ same. absurd (omega (arith, none, same, number)))
   higher q (inr above) = (inr (omega (arith, above, count)), λ same. absurd (omega (arith, above, count, same, number)))
 
-  never : (q : ℕ) → ((q ≡ 0) ⊎ (subscriptions_begun h < q)) × (q ≢ sub) → IsUnbegun (h ++ Subscribe sub name ∷ []) q
+  never : (q : ℕ) → ((q ≡ 0) ⊎ (subscriptions_begun h < q)) × (q ≢ sub) → NeverBegan (h ++ Subscribe sub name ∷ []) q
   never q far =
       let un = so.unbegun q far.0 in
       record {
@@ -236,7 +236,7 @@ live_where t h sub name o false so is found there back = by (is_live sub h) refl
   by false on = refl
 
 -- a subscription that began has a count
-pub live_begun : (h : List Entry) (sub : ℕ) → is_live sub h ≡ true → IsUnbegun h sub → ⊥
+pub live_begun : (h : List Entry) (sub : ℕ) → is_live sub h ≡ true → NeverBegan h sub → ⊥
 live_begun h sub on un = let off : is_live sub h ≡ false = un.gone in absurd cc
 
 same_option : (o : Option ℕ) (n : ℕ) → option_eq nat_eq o (Some n) ≡ true → o ≡ Some n

@@ -5,14 +5,14 @@ use Rattle.std.specs.Option.{option_map}
 use Rattle.std.proofs.lemmas.Bool.{eqb-true, eqb-false, eq-eqb, ne_eqb}
 use Rattle.sequences.proofs.BeforeLaws.{last_of-push}
 use Rattle.ipfix_session.specs.Keeping.{at_key}
-use Rattle.ipfix_session.specs.Standing.{StandsFor, Standing, Stands as HoldsFor}
+use Rattle.ipfix_session.specs.Standing.{StandsFor, SessionStanding, SessionStands as HoldsFor}
 use Rattle.ipfix_session.specs.ReadAhead.{Ahead, IsReadingOf}
 use Rattle.event_journal.specs.declared.entry.Entry.{Entry}
 use Rattle.event_journal.specs.declared.entry.Entry.TheVariants.{Open, Close, Message}
 use Rattle.mediator_history.specs.Sessions.{opens, is_open, opened_in, sessions_opened, message_in, messages_of}
 use Rattle.mediator_history.proofs.EntryLaws.{messages_same, messages-any}
 use Rattle.mediator_tables.specs.declared.open_session.OpenSession.{OpenSession}
-use Rattle.mediator_tables.specs.SessionTable.{IsFresh, KeepsOn, Seen, seen}
+use Rattle.mediator_tables.specs.SessionTable.{IsFresh, KeepsOn, SeenSession, seen}
 use Rattle.history_verify.specs.declared.exporters.Exporters.{Exporters}
 use Rattle.history_verify.specs.Parts.{IsSession, IsUnopened, AreExporters, SameExporters}
 use Rattle.history_verify.proofs.Stays.{last_stays, count_stays, count_more}
@@ -175,7 +175,7 @@ session_same h session None (Some t) e is = absurd cc
 session_same h session (Some s) None e is = absurd cc
 session_same h session (Some s) (Some t) e is =
     let same : seen t ≡ seen s = some_same (seen t) (seen s) e in
-    (is.0, ap (λ (x : Seen). x.accepted) same ∙ is.1, subst (λ (x : Standing). HoldsFor x (messages_of session h)) (sym (ap (λ (x : Seen). x.standing) same)) is.2)
+    (is.0, ap (λ (x : SeenSession). x.accepted) same ∙ is.1, subst (λ (x : SessionStanding). HoldsFor x (messages_of session h)) (sym (ap (λ (x : SeenSession). x.standing) same)) is.2)
 
 pub exporters_same : (e d : Exporters) (h : List Entry) → SameExporters e d → AreExporters e h → AreExporters d h
 exporters_same e d h same so = record {

@@ -16,11 +16,11 @@ use Rattle.mediator_history.proofs.CutLaws.{is_served-cuts, length-cuts, after_c
 use Rattle.mediator_history.proofs.CountingLaws.{given_at-cuts}
 use Rattle.history_verify.specs.declared.replay.Replay.{Replay}
 use Rattle.history_verify.specs.declared.verifier.Verifier.{Verifier}
-use Rattle.history_verify.specs.declared.fault.VerifyFault.{VerifyFault}
-use Rattle.history_verify.specs.declared.fault.VerifyFault.TheVariants.{BadHistory, OutOfMemory}
+use Rattle.history_verify.specs.declared.fault.Fault.{Fault}
+use Rattle.history_verify.specs.declared.fault.Fault.TheVariants.{BadHistory, OutOfMemory}
 use Rattle.history_verify.specs.Legal.{IsAccepted, IsLegalCut, AreLegal, IsFirstBad, is_cut}
 use Rattle.history_verify.specs.Answers.{NamesFirst, NamesFirstOfAny}
-use Rattle.history_verify.specs.Standing.{MayCut, MayCutAll, IsFirstEmpty, IsFirstOr, IsSettled, StandsOver, Stands, StandsShort, IsTaken, TakesNext, RefusesNext, IsSpoilt, IsFed, IsFedShort, NamesWaiting, NamesUnborne}
+use Rattle.history_verify.specs.Standing.{MayCut, MayCutAll, IsFirstEmpty, IsFirstOr, IsSettled, StandsOver, Repeats, StandsShort, HasTaken, TakesNext, RefusesNext, IsSpoilt, IsFed, IsFedShort, NamesWaiting, NamesUnborne}
 use Rattle.history_verify.proofs.LegalLaws.{cuts_legal, unborne, unborne_at_end, may_not, first_bad, first_refused}
 use Rattle.history_verify.proofs.CutsPast.{accepted_before, accepted_behind}
 
@@ -108,7 +108,7 @@ one_more h n x is = take_more h n x (within h n x is) ∙ ap (λ (y : Entry). ta
 pub record IsLaid (v : Verifier) (g : List Entry) (ws cs : List ℕ) (h : List Entry) : Type 0 where
   pub settled : IsSettled g
   pub front : List Entry
-  pub stands : Stands v.replay front
+  pub stands : Repeats v.replay front
   pub front_is : front ≡ after_cuts g ws
   pub waiting : v.replay.waiting.items ≡ ws
   pub may : MayCutAll g ws
@@ -144,7 +144,7 @@ waiting_bad v g h (w ∷ ws) cs x more position so at some no_cut bad =
     bad_cut h g [] w (ws ++ cs) x more position so.settled so.whole (omega (arith, at)) tt
     (unborne (after_cuts g []) w (ws ++ cs) x more no_cut (λ is gives. bad w (ws ++ cs) is gives so.whole))
 
-pub names_waiting : (v : Verifier) (h : List Entry) (x : Entry) (e : VerifyFault) → IsFed v h → NamesWaiting e v → is_cut x ≡ false → ((s : ℕ) (g : List Entry) → given_at s g x ≡ []) → NamesFirstOfAny e (h ++ x ∷ [])
+pub names_waiting : (v : Verifier) (h : List Entry) (x : Entry) (e : Fault) → IsFed v h → NamesWaiting e v → is_cut x ≡ false → ((s : ℕ) (g : List Entry) → given_at s g x ≡ []) → NamesFirstOfAny e (h ++ x ∷ [])
 names_waiting v h x OutOfMemory fed names no_cut none = tt
 names_waiting v h x (BadHistory position) fed names no_cut none = λ more.
     let so = laid v h fed in
@@ -155,7 +155,7 @@ end_bad v g h [] [] position so at some = absurd (omega (arith, some))
 end_bad v g h [] (c ∷ cs) position so at some = bad_cut_at_end h g c cs position so.settled so.whole (omega (arith, at)) (may_not (after_cuts g []) c (map Cut cs) so.spoilt)
 end_bad v g h (w ∷ ws) cs position so at some = bad_cut_at_end h g w (ws ++ cs) position so.settled so.whole (omega (arith, at)) (unborne_at_end (after_cuts g []) w (ws ++ cs))
 
-pub names_end : (v : Verifier) (h : List Entry) (e : VerifyFault) → IsFed v h → NamesWaiting e v → NamesFirst e h
+pub names_end : (v : Verifier) (h : List Entry) (e : Fault) → IsFed v h → NamesWaiting e v → NamesFirst e h
 names_end v h OutOfMemory fed names = tt
 names_end v h (BadHistory position) fed names =
     let so = laid v h fed in
@@ -178,7 +178,7 @@ refused_bad v g h (w ∷ ws) cs x more position so at no_cut bad = waiting_bad v
   by : (s : ℕ) (back : List ℕ) → IsAccepted (after_cuts g [] ++ Cut s ∷ map Cut back) x → IsAccepted (after_cuts g (w ∷ ws)) x
   by s back is = accepted_behind g (w ∷ ws) x (accepted_before g [] x (accepted_before (after_cuts g []) (s ∷ back) x is))
 
-pub names_refused : (v : Verifier) (h : List Entry) (x : Entry) (e : VerifyFault) → IsFed v h → RefusesNext e v.replay x → is_cut x ≡ false → NamesFirstOfAny e (h ++ x ∷ [])
+pub names_refused : (v : Verifier) (h : List Entry) (x : Entry) (e : Fault) → IsFed v h → RefusesNext e v.replay x → is_cut x ≡ false → NamesFirstOfAny e (h ++ x ∷ [])
 unfolding laid
 names_refused v h x OutOfMemory fed names no_cut = tt
 names_refused v h x (BadHistory position) fed names no_cut = λ more.
@@ -233,7 +233,7 @@ spoilt_bad v g h ws (c ∷ cs) x more position so at some is all =
     (cuts_legal x more g ws (c ∷ cs) so.may all (subst (λ (t : List Entry). IsAccepted t x) (cuts_joined g ws (c ∷ cs)) (accepted_behind (after_cuts g ws) (c ∷ cs) x is)))
     (may_not (after_cuts g ws) c (map Cut cs ++ x ∷ more) so.spoilt)
 
-pub names_unborne : (v : Verifier) (h : List Entry) (x : Entry) (e : VerifyFault) (place : Option ℕ) (fed : IsFed v h) → NamesUnborne e v place → is_cut x ≡ false → IsAccepted fed.front x
+pub names_unborne : (v : Verifier) (h : List Entry) (x : Entry) (e : Fault) (place : Option ℕ) (fed : IsFed v h) → NamesUnborne e v place → is_cut x ≡ false → IsAccepted fed.front x
     → IsFirstOr (λ s. given_at s fed.over.stands.settled x) v.replay.waiting.items place → NamesFirstOfAny e (h ++ x ∷ [])
 unfolding laid
 names_unborne v h x OutOfMemory place fed names no_cut is first = tt
@@ -254,14 +254,14 @@ no_more (x ∷ xs) is = absurd (omega (arith, is))
 pub none_behind : (v : Verifier) (h : List Entry) → (fed : IsFed v h) → v.behind ≡ 0 → h ≡ fed.front
 none_behind v h fed none = fed.over.history_is ∙ ap (after_cuts fed.front) (no_more fed.cuts (sym fed.over.count ∙ none)) ∙ append-nil fed.front
 
-pub fed_front : (v : Verifier) (h : List Entry) → Stands v.replay h → v.behind ≡ 0 → IsFed v h
+pub fed_front : (v : Verifier) (h : List Entry) → Repeats v.replay h → v.behind ≡ 0 → IsFed v h
 fed_front v h so none = record { front = h; cuts = []; over = record { stands = so; count = none; history_is = sym (append-nil h); spoilt = tt } }
 
-pub fed_more : (v w : Verifier) (h : List Entry) (x : Entry) (fed : IsFed v h) → v.behind ≡ 0 → w.behind ≡ v.behind → IsTaken w.replay fed.front x → IsFed w (h ++ x ∷ [])
+pub fed_more : (v w : Verifier) (h : List Entry) (x : Entry) (fed : IsFed v h) → v.behind ≡ 0 → w.behind ≡ v.behind → HasTaken w.replay fed.front x → IsFed w (h ++ x ∷ [])
 fed_more v w h x fed none same taken =
-    fed_front w (h ++ x ∷ []) (subst (λ (t : List Entry). Stands w.replay (t ++ x ∷ [])) (sym (none_behind v h fed none)) taken.stands) (same ∙ none)
+    fed_front w (h ++ x ∷ []) (subst (λ (t : List Entry). Repeats w.replay (t ++ x ∷ [])) (sym (none_behind v h fed none)) taken.stands) (same ∙ none)
 
-pub fed_same : (v w : Verifier) (h : List Entry) → w.behind ≡ v.behind → ((g : List Entry) → Stands v.replay g → Stands w.replay g) → IsFed v h → IsFed w h
+pub fed_same : (v w : Verifier) (h : List Entry) → w.behind ≡ v.behind → ((g : List Entry) → Repeats v.replay g → Repeats w.replay g) → IsFed v h → IsFed w h
 fed_same v w h same stands fed = record { front = fed.front; cuts = fed.cuts; over = record { stands = stands fed.front fed.over.stands; count = same ∙ fed.over.count; history_is = fed.over.history_is; spoilt = fed.over.spoilt } }
 
 -- a cut that may not stand there, or stands behind such a one
@@ -269,21 +269,21 @@ spoilt_more : (front : List Entry) (cs : List ℕ) (c : ℕ) → IsSpoilt front 
 spoilt_more front [] c so bad = bad refl
 spoilt_more front (d ∷ cs) c so bad = so
 
-pub fed_spoilt : (v w : Verifier) (h : List Entry) (c : ℕ) → IsFed v h → w.replay ≡ v.replay → w.behind ≡ v.behind + 1 → (v.behind ≡ 0 → (g : List Entry) → Stands v.replay g → MayCut g c → ⊥) → IsFed w (h ++ Cut c ∷ [])
+pub fed_spoilt : (v w : Verifier) (h : List Entry) (c : ℕ) → IsFed v h → w.replay ≡ v.replay → w.behind ≡ v.behind + 1 → (v.behind ≡ 0 → (g : List Entry) → Repeats v.replay g → MayCut g c → ⊥) → IsFed w (h ++ Cut c ∷ [])
 fed_spoilt v w h c fed replay behind bad = record {
   front = fed.front;
   cuts = fed.cuts ++ c ∷ [];
   over = record {
-    stands = subst (λ (r : Replay). Stands r fed.front) (sym replay) fed.over.stands;
+    stands = subst (λ (r : Replay). Repeats r fed.front) (sym replay) fed.over.stands;
     count = omega (arith, behind, fed.over.count, length-append fed.cuts (c ∷ []));
     history_is = ap (λ (t : List Entry). t ++ Cut c ∷ []) fed.over.history_is ∙ sym (after_cuts-push fed.front fed.cuts c);
     spoilt = spoilt_more fed.front fed.cuts c fed.over.spoilt (λ none. bad (fed.over.count ∙ none) fed.front fed.over.stands);
   };
 }
 
-pub fed_cut : (v w : Verifier) (h : List Entry) (c : ℕ) (fed : IsFed v h) → v.behind ≡ 0 → w.behind ≡ v.behind → Stands w.replay (fed.front ++ Cut c ∷ []) → IsFed w (h ++ Cut c ∷ [])
+pub fed_cut : (v w : Verifier) (h : List Entry) (c : ℕ) (fed : IsFed v h) → v.behind ≡ 0 → w.behind ≡ v.behind → Repeats w.replay (fed.front ++ Cut c ∷ []) → IsFed w (h ++ Cut c ∷ [])
 fed_cut v w h c fed none same stands =
-    fed_front w (h ++ Cut c ∷ []) (subst (λ (t : List Entry). Stands w.replay (t ++ Cut c ∷ [])) (sym (none_behind v h fed none)) stands) (same ∙ none)
+    fed_front w (h ++ Cut c ∷ []) (subst (λ (t : List Entry). Repeats w.replay (t ++ Cut c ∷ [])) (sym (none_behind v h fed none)) stands) (same ∙ none)
 
 -- what its replay stands for is no longer
 pub short_front : (v : Verifier) → IsFedShort v → StandsShort v.replay
@@ -299,12 +299,12 @@ pub took : (v w : Verifier) (x y : Entry) → y ≡ x → v.replay.waiting.items
 took v w x y is none behind same takes h fed =
     subst (λ (e : Entry). IsFed w (h ++ e ∷ [])) (sym is) (fed_more v w h x fed behind same (takes fed.front fed.over.stands none))
 
-pub refused : (v : Verifier) (x y : Entry) (e : VerifyFault) → y ≡ x → is_cut x ≡ false → RefusesNext e v.replay x → (h : List Entry) → IsFed v h → NamesFirstOfAny e (h ++ y ∷ [])
+pub refused : (v : Verifier) (x y : Entry) (e : Fault) → y ≡ x → is_cut x ≡ false → RefusesNext e v.replay x → (h : List Entry) → IsFed v h → NamesFirstOfAny e (h ++ y ∷ [])
 refused v x y e is no_cut names h fed = subst (λ (z : Entry). NamesFirstOfAny e (h ++ z ∷ [])) (sym is) (names_refused v h x e fed names no_cut)
 
-pub waited : (v : Verifier) (x y : Entry) (e f : VerifyFault) → y ≡ x → e ≡ f → is_cut x ≡ false → ((s : ℕ) (g : List Entry) → given_at s g x ≡ []) → NamesWaiting f v → (h : List Entry) → IsFed v h → NamesFirstOfAny e (h ++ y ∷ [])
+pub waited : (v : Verifier) (x y : Entry) (e f : Fault) → y ≡ x → e ≡ f → is_cut x ≡ false → ((s : ℕ) (g : List Entry) → given_at s g x ≡ []) → NamesWaiting f v → (h : List Entry) → IsFed v h → NamesFirstOfAny e (h ++ y ∷ [])
 waited v x y e f is same no_cut none names h fed =
-    subst (λ (z : Entry). NamesFirstOfAny e (h ++ z ∷ [])) (sym is) (names_waiting v h x e fed (subst (λ (w : VerifyFault). NamesWaiting w v) (sym same) names) no_cut none)
+    subst (λ (z : Entry). NamesFirstOfAny e (h ++ z ∷ [])) (sym is) (names_waiting v h x e fed (subst (λ (w : Fault). NamesWaiting w v) (sym same) names) no_cut none)
 
 -- ---- a whole history
 
@@ -314,7 +314,7 @@ fed_short v h n fed few = record { history = take n h; fed = fed; short = omega 
 pub fed_next : (v : Verifier) (h : List Entry) (n : ℕ) (x : Entry) → slice_get h n ≡ Some x → IsFed v (take n h ++ x ∷ []) → IsFed v (take (n + 1) h)
 fed_next v h n x is fed = subst (IsFed v) (sym (one_more h n x is)) fed
 
-pub first_of_all : (e : VerifyFault) (h : List Entry) (n : ℕ) (x : Entry) → slice_get h n ≡ Some x → NamesFirstOfAny e (take n h ++ x ∷ []) → NamesFirst e h
+pub first_of_all : (e : Fault) (h : List Entry) (n : ℕ) (x : Entry) → slice_get h n ≡ Some x → NamesFirstOfAny e (take n h ++ x ∷ []) → NamesFirst e h
 first_of_all OutOfMemory h n x is names = tt
 first_of_all (BadHistory position) h n x is names =
     subst (λ (t : List Entry). IsFirstBad t position) (ap (λ (t : List Entry). t ++ drop (n + 1) h) (sym (one_more h n x is)) ∙ take-append-drop (n + 1) h) (names (drop (n + 1) h))

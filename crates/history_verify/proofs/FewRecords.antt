@@ -6,7 +6,7 @@ use Rattle.std.proofs.lemmas.List.{length-take}
 use Rattle.sequences.specs.Octets.{number_at, AreOctets}
 use Rattle.sequences.specs.Results.{◌>>=◌}
 use Rattle.sequences.proofs.OctetLaws.{be_value-below, AreOctets-drop, AreOctets-take}
-use Rattle.ipfix_message.specs.declared.decode_error.DecodeError.TheVariants.{ShortHeader, BadVersion, BadLength}
+use Rattle.ipfix_message.specs.declared.fault.Fault.TheVariants.{ShortHeader, BadVersion, BadLength}
 use Rattle.ipfix_message.specs.Reading.{header_of, read_header, after_header, items_of}
 use Rattle.ipfix_session.specs.Meaning.{Meaning, meaning_of, contents_of, read_items, items_of_domain, domain_of, gap_of}
 use Rattle.mediator_history.specs.Accepted.{records_meant}

@@ -28,7 +28,7 @@ use Rattle.history_verify.specs.declared.subscribers.Subscribers.{Subscribers}
 use Rattle.history_verify.specs.Counts.{count_in}
 use Rattle.history_verify.specs.Parts.{AreNumbersFrom, number_of, AreSubscribers, with_more, more_at, with_given, served_shares, MayCount, HasCounted}
 use Rattle.history_verify.specs.Sharing.{GiveAll}
-use Rattle.history_verify.specs.Standing.{IsSmall}
+use Rattle.history_verify.specs.Standing.{IsCountable}
 use Rattle.history_verify.proofs.Stays.{last_stays, list_stays, count_stays}
 use Rattle.history_verify.proofs.KeyLaws.{numbers_above}
 use Rattle.history_verify.proofs.SubscriberLaws.{is_among}
@@ -339,7 +339,7 @@ own_numbers : (h : List Entry) (subs : List ℕ) → map (λ (c : Count). c.sub)
 own_numbers h [] = refl
 own_numbers h (sub ∷ subs) = ap (λ (t : List ℕ). sub ∷ t) (own_numbers h subs)
 
-small_counts : (h : List Entry) (x : Entry) (shares : List (ℕ × List DataRecord)) → GiveAll h x shares → IsSmall (h ++ x ∷ []) → length h ≤ MOST_ENTRIES → (subs : List ℕ)
+small_counts : (h : List Entry) (x : Entry) (shares : List (ℕ × List DataRecord)) → GiveAll h x shares → IsCountable (h ++ x ∷ []) → length h ≤ MOST_ENTRIES → (subs : List ℕ)
     → AllByRecursion (λ (c : Count). c.disclosed + length (given_to c.sub shares) < 2 ^ 64) (map (count_in h) subs)
 small_counts h x shares gives small short [] = tt
 small_counts h x shares gives small short (sub ∷ subs) = (
@@ -356,7 +356,7 @@ small_counts h x shares gives small short (sub ∷ subs) = (
 )
 
 -- where the longer history is small, what the entry gives may be counted
-pub may_count : (t : Subscribers) (h : List Entry) (x : Entry) (shares : List (ℕ × List DataRecord)) → AreSubscribers t h → GiveAll h x shares → IsSmall (h ++ x ∷ []) → length h ≤ MOST_ENTRIES → MayCount t shares
+pub may_count : (t : Subscribers) (h : List Entry) (x : Entry) (shares : List (ℕ × List DataRecord)) → AreSubscribers t h → GiveAll h x shares → IsCountable (h ++ x ∷ []) → length h ≤ MOST_ENTRIES → MayCount t shares
 may_count t h x shares so gives small short = record {
   numbers = subst (λ (cs : List Count). AreNumbersFrom 1 (map (λ (c : Count). c.sub) cs)) (sym so.begun) (subst (AreNumbersFrom 1) (sym (own_numbers h (flat_map subscribed_in h))) so.numbers);
   room = subst (AllByRecursion (λ (c : Count). c.disclosed + length (given_to c.sub shares) < 2 ^ 64)) (sym so.begun) (small_counts h x shares gives small short (flat_map subscribed_in h));

@@ -14,9 +14,10 @@ use Rattle.ipfix_template.specs.DataRecord.{DataRecord}
 use Rattle.ipfix_session.specs.Contents.{Contents}
 use Rattle.ipfix_session.specs.Meaning.{Meaning, meaning_of, contents_of, domain_of, gap_of}
 use Rattle.ipfix_session.specs.ReadAhead.{Ahead}
-use Rattle.ipfix_session.specs.declared.read_error.ReadError.{ReadError}
+use Rattle.ipfix_session.specs.declared.fault.Fault.{Fault as ReadError}
 use Rattle.policy_text.specs.Policies.{Aggregate}
-use Rattle.flow_anonymize.specs.Outcome.{Outcome, Passes, Aggregates, Withholds, passed}
+use Rattle.flow_anonymize.specs.declared.disclosure.Disclosure.TheVariants.{Passed, Aggregated, Withheld}
+use Rattle.flow_anonymize.specs.Outcome.{Outcome, passed}
 use Rattle.flow_aggregate.specs.Counts.{Count, count_of}
 use Rattle.flow_aggregate.specs.declared.timing.Timing.{Timing}
 use Rattle.flow_aggregate.specs.declared.timing.Timing.TheVariants.{Placed, NoTime, NoKey, Late}
@@ -41,15 +42,15 @@ use Rattle.mediator_tables.specs.SubscriptionTable.{told, shown, given_to}
 use Rattle.mediator_shares.specs.InForce.{InForce, in_force_with}
 use Rattle.mediator_tables.specs.Adding.{tallied}
 use Rattle.disclosure_audit.specs.declared.entry.Note.{Note}
-use Rattle.mediator_shares.specs.Noting.{Kept, kept_of}
-use Rattle.mediator_shares.specs.Sharing.{share_of, given_by, added_by, kept_by, shares_of, tallies_of, note_of, noted, noted_of_each, notes_of}
+use Rattle.mediator_shares.specs.Noting.{KeptNotes, kept_of}
+use Rattle.mediator_shares.specs.Sharing.{share_of, given_by, added_by, kept_by, shares_of, tallies_of, note_of, notes_on, noted_of_each, notes_of}
 use Rattle.history_verify.specs.declared.judged.Judged.{Judged}
 use Rattle.history_verify.specs.declared.replay.Replay.{Replay}
 use Rattle.history_verify.specs.declared.subscribers.Subscribers.{Subscribers}
 use Rattle.history_verify.specs.Parts.{AreSubscribers}
-use Rattle.mediator_tables.specs.Adding.{AreApart, added_to}
-use Rattle.history_verify.specs.Sharing.{IsJudged, IsFirstEmptyShare}
-use Rattle.history_verify.specs.Standing.{MayCutAll, StandsOver, Stands, IsReadOf, IsFirstOr}
+use Rattle.mediator_tables.specs.Adding.{NoneTwice, added_to}
+use Rattle.history_verify.specs.Sharing.{IsJudgedEntry, IsFirstEmptyShare}
+use Rattle.history_verify.specs.Standing.{MayCutAll, StandsOver, Repeats, IsReadOf, IsFirstOr}
 use Rattle.history_verify.proofs.KeyLaws.{numbers_apart}
 use Rattle.history_verify.proofs.SubscriberLaws.{map_alike}
 use Rattle.history_verify.proofs.UnborneLaws.{share_with, first_by_shares}
@@ -162,8 +163,8 @@ audit_told position domain f r p = map (audit_entry position r.0 p.0) (kept_by d
 stamped_one : (position domain : ℕ) (f : InForce) (r : ℕ × DataRecord) (left : List Served)
     → map (stamp position) (noted_of_each domain f left r) ≡ flat_map (audit_told position domain f r) (map told left)
 stamped_one position domain f r left =
-    map-flat_map (stamp position) (noted domain f r) left
-    ∙ flat_map-same (λ who. map (stamp position) (noted domain f r who)) (λ who. audit_told position domain f r (told who)) left (λ who. map-map (stamp position) (note_of r.0 who.sub) (kept_by domain f who.name.now r.1))
+    map-flat_map (stamp position) (notes_on domain f r) left
+    ∙ flat_map-same (λ who. map (stamp position) (notes_on domain f r who)) (λ who. audit_told position domain f r (told who)) left (λ who. map-map (stamp position) (note_of r.0 who.sub) (kept_by domain f who.name.now r.1))
     ∙ sym (flat_map-map (audit_told position domain f r) told left)
 
 notes_told : (position domain : ℕ) (f : InForce) (records : List DataRecord) (left : List Served)
@@ -233,7 +234,7 @@ all_pairs_apart : (g : ℕ → List Count) (n : ℕ) (ns : List ℕ) → AllByRe
 all_pairs_apart g n [] apart = tt
 all_pairs_apart g n (m ∷ ns) apart = (apart.0, all_pairs_apart g n ns apart.1)
 
-pairs_apart : (g : ℕ → List Count) (ns : List ℕ) → AreDistinct ns → AreApart (map (counts_with g) ns)
+pairs_apart : (g : ℕ → List Count) (ns : List ℕ) → AreDistinct ns → NoneTwice (map (counts_with g) ns)
 pairs_apart g [] apart = tt
 pairs_apart g (n ∷ ns) apart = (all_pairs_apart g n ns apart.0, pairs_apart g ns apart.1)
 
@@ -248,7 +249,7 @@ meaning_header older octets m e = found (contents_of older octets) e where
   found (Err w) e = absurd cc
 
 asked : (r : Replay) (h : List Entry) (session number : ℕ) (octets : List ℕ) (reading : Ahead) (domain : ℕ) (records : List DataRecord)
-    → Stands r h → IsReadOf h session number octets reading → domain ≡ reading.meaning.header.domain → records ≡ reading.meaning.records → IsAsked h session octets domain r.in_force records
+    → Repeats r h → IsReadOf h session number octets reading → domain ≡ reading.meaning.header.domain → records ≡ reading.meaning.records → IsAsked h session octets domain r.in_force records
 asked r h session number octets reading domain records s is in_domain means = record {
   in_force_is = ap (λ p. in_force_with p r.in_force.clock) s.over.policy ∙ ap (in_force_with (policy_in_force h)) s.over.clock;
   domain_is = in_domain ∙ ap (λ x. x.domain) (meaning_header (messages_of session h) octets reading.meaning is.read.means);
@@ -262,13 +263,13 @@ record IsShared (wanted : Bool) (r : Replay) (domain : ℕ) (records : List Data
   pub entries_are : j.entries.items ≡ (if wanted then map (stamp r.position) (notes_of domain r.in_force records left) else [])
 
 judged_all : (wanted : Bool) (r : Replay) (h : List Entry) (session number : ℕ) (octets : List ℕ) (reading : Ahead) (domain : ℕ) (records : List DataRecord) (left : List Served) (j : Judged)
-    → Stands r h → IsAsked h session octets domain r.in_force records → map told left ≡ map (known h) (served h) → IsShared wanted r domain records left j
-    → IsJudged wanted h (Message session number octets) j
+    → Repeats r h → IsAsked h session octets domain r.in_force records → map told left ≡ map (known h) (served h) → IsShared wanted r domain records left j
+    → IsJudgedEntry wanted h (Message session number octets) j
 judged_all wanted r h session number octets reading domain records left j s is tells so = record {
   gives = λ sub. ap (given_to sub) shares ∙ under_served (λ q. given_at q h (Message session number octets)) r.subscribers h sub s.over.subscribers (given-unserved sub session number octets h);
   adds = λ sub. ap (added_to sub) tallies
       ∙ under_served (λ q. map count_of (counted_at q h (Message session number octets))) r.subscribers h sub s.over.subscribers (λ off. ap (map count_of) (counted_unserved sub h (Message session number octets) off));
-  apart = subst AreApart (sym tallies) (pairs_apart (λ q. map count_of (counted_at q h (Message session number octets))) (served h) (served_apart r.subscribers h s.over.subscribers));
+  apart = subst NoneTwice (sym tallies) (pairs_apart (λ q. map count_of (counted_at q h (Message session number octets))) (served h) (served_apart r.subscribers h s.over.subscribers));
   entries_are = so.entries_are ∙ ap (λ (l : List AuditEntry). if wanted then l else []) (notes_at h session number octets domain r.in_force records left r.position is tells s.over.position);
 } where
   shares : map shown j.shares.items ≡ map (share_with (λ sub. given_at sub h (Message session number octets))) (served h)
@@ -284,11 +285,11 @@ chosen_none false xs none = refl
 -- a message without records brings nothing
 judged_none : (wanted : Bool) (r : Replay) (h : List Entry) (session number : ℕ) (octets : List ℕ) (domain : ℕ) (records : List DataRecord) (left : List Served) (j : Judged)
     → IsAsked h session octets domain r.in_force records → records ≡ [] → map told left ≡ [] → IsShared wanted r domain records left j
-    → IsJudged wanted h (Message session number octets) j
+    → IsJudgedEntry wanted h (Message session number octets) j
 judged_none wanted r h session number octets domain records left j is empty tells so = record {
   gives = λ sub. ap (given_to sub) shares ∙ sym (no_given sub);
   adds = λ sub. ap (added_to sub) tallies ∙ sym (no_added sub);
-  apart = subst AreApart (sym tallies) tt;
+  apart = subst NoneTwice (sym tallies) tt;
   entries_are = so.entries_are ∙ ap (λ (l : List AuditEntry). if wanted then l else []) (ap (λ rs. map (stamp r.position) (notes_of domain r.in_force rs left)) empty
       ∙ sym (ap (λ (rs : List DataRecord). flat_map (λ a. flat_map (audit_of h a) (served h)) (map (accepted_as (length h) session (domain_of octets)) (enumerate_from 0 rs))) none_meant));
 } where
@@ -313,22 +314,22 @@ judged_none wanted r h session number octets domain records left j is empty tell
       (ap (λ (rs : List DataRecord). flat_map (counts_for sub h (domain_of octets)) rs) none_meant))
 
 pub is_judged : (wanted : Bool) (r : Replay) (h : List Entry) (session number : ℕ) (octets : List ℕ) (reading : Ahead) (domain : ℕ) (records : List DataRecord) (left : List Served) (some : Bool) (j : Judged)
-    → Stands r h → IsReadOf h session number octets reading → domain ≡ reading.meaning.header.domain → records ≡ reading.meaning.records
+    → Repeats r h → IsReadOf h session number octets reading → domain ≡ reading.meaning.header.domain → records ≡ reading.meaning.records
     → (some ≡ false → records ≡ []) → map told left ≡ (if some then map (known h) (served h) else [])
     → map shown j.shares.items ≡ shares_of domain r.in_force records left → map tallied j.tallies.items ≡ tallies_of domain r.in_force records left
     → j.entries.items ≡ (if wanted then map (stamp r.position) (notes_of domain r.in_force records left) else [])
-    → IsJudged wanted h (Message session number octets) j
+    → IsJudgedEntry wanted h (Message session number octets) j
 is_judged wanted r h session number octets reading domain records left true j s is in_domain means none tells shares tallies entries =
     judged_all wanted r h session number octets reading domain records left j s (asked r h session number octets reading domain records s is in_domain means) tells (record { shares_are = shares; tallies_are = tallies; entries_are = entries })
 is_judged wanted r h session number octets reading domain records left false j s is in_domain means none tells shares tallies entries =
     judged_none wanted r h session number octets domain records left j (asked r h session number octets reading domain records s is in_domain means) (none refl) tells (record { shares_are = shares; tallies_are = tallies; entries_are = entries })
 
 -- all notes of a message are kept, or none
-pub notes_wanted : (wanted : Bool) (position most : ℕ) (all : List Note) (k : Kept) → most ≡ (if wanted then 2 ^ 64 - 1 else 0) → k ≡ kept_of most all → k.count < 2 ^ 63
+pub notes_wanted : (wanted : Bool) (position most : ℕ) (all : List Note) (k : KeptNotes) → most ≡ (if wanted then 2 ^ 64 - 1 else 0) → k ≡ kept_of most all → k.count < 2 ^ 63
     → map (stamp position) k.notes ≡ (if wanted then map (stamp position) all else [])
 notes_wanted true position most all k many is few =
-    ap (λ (n : Kept). map (stamp position) n.notes) is ∙ ap (map (stamp position)) (take_all most all (omega (arith, many, few, ap (λ (n : Kept). n.count) is)))
-notes_wanted false position most all k many is few = ap (λ (n : Kept). map (stamp position) n.notes) is ∙ ap (λ (n : ℕ). map (stamp position) (take n all)) many
+    ap (λ (n : KeptNotes). map (stamp position) n.notes) is ∙ ap (map (stamp position)) (take_all most all (omega (arith, many, few, ap (λ (n : KeptNotes). n.count) is)))
+notes_wanted false position most all k many is few = ap (λ (n : KeptNotes). map (stamp position) n.notes) is ∙ ap (λ (n : ℕ). map (stamp position) (take n all)) many
 
 -- ---- whom it would give nothing, of those whose cuts wait
 
@@ -382,15 +383,15 @@ as_many h ws domain f records left shares tells are = omega (
 -- ---- how much it brings
 
 few_of : (aggregates : List Aggregate) (clock : ℕ) (r : DataRecord) (o : Outcome) → length (passed o) + length (counts aggregates clock r o) ≤ 1
-few_of aggregates clock r (Passes kept removed) = omega arith
-few_of aggregates clock r (Aggregates rule place) = omega (arith, one (slice_get aggregates place) (timing_at aggregates place r clock)) where
+few_of aggregates clock r (Passed kept removed) = omega arith
+few_of aggregates clock r (Aggregated rule place) = omega (arith, one (slice_get aggregates place) (timing_at aggregates place r clock)) where
   one : (a : Option Aggregate) (t : Timing) → length (counted_in a r t) ≤ 1
   one None t = omega arith
   one (Some a) (Placed start) = omega arith
   one (Some a) NoTime = omega arith
   one (Some a) NoKey = omega arith
   one (Some a) Late = omega arith
-few_of aggregates clock r (Withholds rule reason) = omega arith
+few_of aggregates clock r (Withheld rule reason) = omega arith
 
 few_of_all : {A B C : Type 0} (f : A → List B) (g : A → List C) → ((x : A) → length (f x) + length (g x) ≤ 1) → (xs : List A) → length (flat_map f xs) + length (flat_map g xs) ≤ length xs
 few_of_all f g few [] = omega arith

@@ -21,7 +21,7 @@ use Rattle.mediator_history.proofs.CountingLaws.{counted_same}
 use Rattle.history_verify.specs.declared.count.Count.{Count}
 use Rattle.history_verify.specs.declared.subscribers.Subscribers.{Subscribers}
 use Rattle.history_verify.specs.Counts.{count_in}
-use Rattle.history_verify.specs.Parts.{AreNumbersFrom, number_of, IsUnbegun, AreSubscribers, SameSubscribers}
+use Rattle.history_verify.specs.Parts.{AreNumbersFrom, number_of, NeverBegan, AreSubscribers, SameSubscribers}
 use Rattle.history_verify.proofs.Stays.{last_stays, list_stays, count_stays}
 
 pub map_alike : {A B : Type 0} (f g : A → B) → ((x : A) → f x ≡ g x) → (xs : List A) → map f xs ≡ map g xs
@@ -135,7 +135,7 @@ named_at t h sub place count so next is =
     let same : 1 + place ≡ sub = omega (arith, next) in
     (ap (λ (k : Count). k.name) (found.0 ∙ ap (count_in h) same), omega (arith, next, found.1), omega (arith, next))
 
-pub none_at : (t : Subscribers) (h : List Entry) (sub : ℕ) → AreSubscribers t h → ((place : ℕ) → sub ≡ place + 1 → slice_get t.begun.items place ≡ None) → IsUnbegun h sub
+pub none_at : (t : Subscribers) (h : List Entry) (sub : ℕ) → AreSubscribers t h → ((place : ℕ) → sub ≡ place + 1 → slice_get t.begun.items place ≡ None) → NeverBegan h sub
 none_at t h zero so none = so.unbegun zero (inl refl)
 none_at t h (suc place) so none =
     let far = none_found t.begun.items place (none place (omega arith)) in

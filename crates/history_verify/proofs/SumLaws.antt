@@ -10,11 +10,11 @@ use Rattle.event_journal.specs.declared.entry.Entry.{Entry}
 use Rattle.mediator_history.specs.Counting.{running}
 use Rattle.mediator_history.specs.Numbers.{is_in}
 use Rattle.flow_aggregate.specs.declared.addition.Addition.{Addition}
-use Rattle.flow_aggregate.specs.Groups.{Counted}
+use Rattle.flow_aggregate.specs.Groups.{Sample}
 use Rattle.flow_aggregate.specs.Counts.{Count}
-use Rattle.flow_aggregate.specs.Additions.{AreReady}
+use Rattle.flow_aggregate.specs.Additions.{AreReadyToAdd}
 use Rattle.flow_aggregate.specs.Closing.{closed_by}
-use Rattle.flow_aggregate.specs.Running.{Held, Entries, nothing_held, StandsFor as StandsForRecords, staying}
+use Rattle.flow_aggregate.specs.Running.{HeldGroups, Entries, nothing_held, SumsStand as StandsForRecords, staying}
 use Rattle.mediator_tables.specs.GroupTable.{held_at, groups_at}
 use Rattle.mediator_tables.specs.Adding.{AllReady, added_to}
 use Rattle.mediator_tables.proofs.GroupTableLaws.{held_none, none_closed}
@@ -27,10 +27,10 @@ none_stand g = refl
 
 pub sums_new : (s : Sums) → ((q : ℕ) → held_at s.groups q ≡ nothing_held) → AreSums s []
 sums_new s none = record {
-  groups = λ sub. subst (λ (es : Entries). StandsForRecords es []) (sym (ap (λ (held : Held). held.groups) (none sub))) none_stand;
+  groups = λ sub. subst (λ (es : Entries). StandsForRecords es []) (sym (ap (λ (held : HeldGroups). held.groups) (none sub))) none_stand;
 }
 
-pub sums_close : (s d : Sums) (h g : List Entry) (t : ℕ) → ((q : ℕ) (counted : List Counted) → StandsForRecords (groups_at s.groups q) counted → StandsForRecords (groups_at d.groups q) (staying t counted))
+pub sums_close : (s d : Sums) (h g : List Entry) (t : ℕ) → ((q : ℕ) (counted : List Sample) → StandsForRecords (groups_at s.groups q) counted → StandsForRecords (groups_at d.groups q) (staying t counted))
     → AreSums s h → ((q : ℕ) → running q g ≡ staying t (running q h)) → AreSums d g
 sums_close s d h g t stays so same = record {
   groups = λ q. subst (StandsForRecords (groups_at d.groups q)) (sym (same q)) (stays q (running q h) (so.groups q));
@@ -43,10 +43,10 @@ sums_without s d h g sub is so none same = record { groups = λ q. group q (q ==
   group : (q : ℕ) (here : Bool) → (q == sub) ≡ here → StandsForRecords (groups_at d.groups q) (running q g)
   group q true on =
       subst (λ (n : ℕ). StandsForRecords (groups_at d.groups n) (running n g)) (sym (eqb-true q sub on))
-      (subst (StandsForRecords (groups_at d.groups sub)) (sym none) (subst (λ (es : Entries). StandsForRecords es []) (sym (ap (λ (held : Held). held.groups) is.gone)) none_stand))
+      (subst (StandsForRecords (groups_at d.groups sub)) (sym none) (subst (λ (es : Entries). StandsForRecords es []) (sym (ap (λ (held : HeldGroups). held.groups) is.gone)) none_stand))
   group q false off =
       let other : q ≢ sub = eqb-false q sub off in
-      subst (StandsForRecords (groups_at d.groups q)) (sym (same q other)) (subst (λ (es : Entries). StandsForRecords es (running q h)) (sym (ap (λ (held : Held). held.groups) (is.others q other))) (so.groups q))
+      subst (StandsForRecords (groups_at d.groups q)) (sym (same q other)) (subst (λ (es : Entries). StandsForRecords es (running q h)) (sym (ap (λ (held : HeldGroups). held.groups) (is.others q other))) (so.groups q))
 
 -- of the subscriptions of a list, nothing is held, and all else is as before
 pub record AreWithout (old : Sums) (subs : List ℕ) (new : Sums) : Type 0 where
@@ -73,10 +73,10 @@ sums_gone s d subs h g is so gone same = record { groups = λ q. group q (is_in 
   group : (q : ℕ) (b : Bool) → is_in q subs ≡ b → StandsForRecords (groups_at d.groups q) (running q g)
   group q true on =
       subst (StandsForRecords (groups_at d.groups q)) (sym (gone q on))
-      (subst (λ (held : Held). StandsForRecords held.groups []) (sym (is.held q ∙ ap (λ b. cond b nothing_held (held_at s.groups q)) on)) none_stand)
+      (subst (λ (held : HeldGroups). StandsForRecords held.groups []) (sym (is.held q ∙ ap (λ b. cond b nothing_held (held_at s.groups q)) on)) none_stand)
   group q false off =
       subst (StandsForRecords (groups_at d.groups q)) (sym (same q (λ on. true≢false (sym on ∙ off))))
-      (subst (λ (held : Held). StandsForRecords held.groups (running q h)) (sym (is.held q ∙ ap (λ b. cond b nothing_held (held_at s.groups q)) off)) (so.groups q))
+      (subst (λ (held : HeldGroups). StandsForRecords held.groups (running q h)) (sym (is.held q ∙ ap (λ b. cond b nothing_held (held_at s.groups q)) off)) (so.groups q))
 
 -- what is ready stays so, where nothing is added for those that are dropped
 pub ready_without : (s d : Sums) (subs : List ℕ) → AreWithout s subs d → (rs : List (ℕ × List Addition)) (ts : List (ℕ × List Count)) → AllReady s.groups rs ts
@@ -92,22 +92,27 @@ ready_without s d subs is (r ∷ rs) (t ∷ ts) ready none = (
   none_both [] ys none = (refl, none)
   none_both (x ∷ xs) ys none = absurd cc
 
-  unready : (additions : List Addition) → AreReady (held_at s.groups t.0) additions [] → AreReady nothing_held additions []
+  unready : (additions : List Addition) → AreReadyToAdd (held_at s.groups t.0) additions [] → AreReadyToAdd nothing_held additions []
   unready [] made = record { each = tt; wanted = tt }
   unready (a ∷ more) made = absurd made.each
 
-  one : (b : Bool) → is_in t.0 subs ≡ b → AreReady (held_at d.groups t.0) r.1 t.1
+  one : (b : Bool) → is_in t.0 subs ≡ b → AreReadyToAdd (held_at d.groups t.0) r.1 t.1
   one true on =
       let empty : t.1 ≡ [] = ap (λ b. cond b t.1 []) (sym (eq-eqb t.0 t.0 refl)) ∙ (none_both (cond (t.0 == t.0) t.1 []) (added_to t.0 ts) (none t.0 on)).0 in
-      subst (λ (held : Held). AreReady held r.1 t.1) (sym (is.held t.0 ∙ ap (λ b. cond b nothing_held (held_at s.groups t.0)) on))
-      (subst (AreReady nothing_held r.1) (sym empty) (unready r.1 (subst (AreReady (held_at s.groups t.0) r.1) empty ready.0.1)))
-  one false off = subst (λ (held : Held). AreReady held r.1 t.1) (sym (is.held t.0 ∙ ap (λ b. cond b nothing_held (held_at s.groups t.0)) off)) ready.0.1
+      subst (λ (held : HeldGroups). AreReadyToAdd held r.1 t.1) (sym (is.held t.0 ∙ ap (λ b. cond b nothing_held (held_at s.groups t.0)) on))
+      (subst (AreReadyToAdd nothing_held r.1) (sym empty) (unready r.1 (subst (AreReadyToAdd (held_at s.groups t.0) r.1) empty ready.0.1)))
+  one false off = subst (λ (held : HeldGroups). AreReadyToAdd held r.1 t.1) (sym (is.held t.0 ∙ ap (λ b. cond b nothing_held (held_at s.groups t.0)) off)) ready.0.1
 
 -- ---- what closes, subscription by subscription
 
 -- shares of these subscriptions, of which each is what closes
 abbrev pub closing_shares : (ℕ → List DataRecord) → List ℕ → List (ℕ × List DataRecord)
 closing_shares closes subs = map (λ sub. (sub, closes sub)) subs
+
+-- the same of what has the numbers
+pub closing_by : {X : Type 0} (number : X → ℕ) (closes : ℕ → List DataRecord) (xs : List X) → map (λ x. (number x, closes (number x))) xs ≡ closing_shares closes (map number xs)
+closing_by number closes [] = refl
+closing_by number closes (x ∷ xs) = ap (λ (ss : List (ℕ × List DataRecord)). (number x, closes (number x)) ∷ ss) (closing_by number closes xs)
 
 pub one_closing : (closes : ℕ → List DataRecord) (subs : List ℕ) (i sub : ℕ) (shares shares2 : List (ℕ × List DataRecord)) (share : ℕ × List DataRecord) → i < length subs → sub ≡ get_or subs i sub
     → share ≡ (sub, closes sub) → shares2 ≡ shares ++ share ∷ [] → shares ≡ closing_shares closes (take i subs) → shares2 ≡ closing_shares closes (take (i + 1) subs)
@@ -141,4 +146,4 @@ pub all_closing : (s : Sums) (t : ℕ) (shares : List (ℕ × List DataRecord)) 
 all_closing s t shares subs h are once closes so sub =
     ap (given_to sub) closes ∙ ap (λ ns. given_to sub (closing_shares (λ n. closed_by t (running n h)) ns)) are
     ∙ given_closing (λ n. closed_by t (running n h)) (keys_of s.groups) sub once
-    (λ apart. sym (none_closed t (running sub h) (subst (λ (held : Held). StandsForRecords held.groups (running sub h)) (held_none s.groups sub apart) (so.groups sub))))
+    (λ apart. sym (none_closed t (running sub h) (subst (λ (held : HeldGroups). StandsForRecords held.groups (running sub h)) (held_none s.groups sub apart) (so.groups sub))))

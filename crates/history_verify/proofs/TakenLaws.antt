@@ -10,20 +10,20 @@ use Rattle.ipfix_session.specs.Keeping.{at_key}
 use Rattle.ipfix_session.specs.ReadAhead.{Ahead, HasRoomFor}
 use Rattle.mediator_tables.specs.declared.open_session.OpenSession.{OpenSession}
 use Rattle.policy_text.specs.Policies.{nothing as no_policy}
-use Rattle.flow_aggregate.specs.Groups.{Counted, Group, group_of}
+use Rattle.flow_aggregate.specs.Groups.{Sample, Group, group_of}
 use Rattle.flow_aggregate.specs.GroupOrder.{group_cmp}
 use Rattle.flow_aggregate.specs.Closing.{put_by, put_group, groups_of, closed_of, closed_by}
 use Rattle.flow_aggregate.specs.Counts.{Count, count_of}
 use Rattle.flow_aggregate.specs.declared.addition.Addition.{Addition}
-use Rattle.flow_aggregate.specs.Running.{Held, Entries, StandsFor as StandsForRecords, is_due, staying}
+use Rattle.flow_aggregate.specs.Running.{HeldGroups, Entries, SumsStand as StandsForRecords, is_due, staying}
 use Rattle.mediator_tables.specs.declared.tally.Tally.{Tally}
-use Rattle.mediator_tables.specs.Adding.{tallied, AllReady, AreApart, added_to}
+use Rattle.mediator_tables.specs.Adding.{tallied, AllReady, NoneTwice, added_to}
 use Rattle.event_journal.specs.declared.limits.TheConstants.{MOST_ENTRIES}
 use Rattle.event_journal.specs.declared.entry.Entry.{Entry}
 use Rattle.event_journal.specs.declared.entry.Entry.TheVariants.{Message, Advance}
 use Rattle.mediator_history.specs.Numbers.{is_in}
 use Rattle.mediator_history.specs.Sessions.{is_open}
-use Rattle.mediator_history.specs.Subscriptions.{edited, policy_in_force, is_served}
+use Rattle.mediator_history.specs.Subscriptions.{policy_from, policy_in_force, is_served}
 use Rattle.mediator_history.specs.Accepted.{records_meant, records_at}
 use Rattle.mediator_history.specs.Counting.{clock_in, clock_of, counted_at, running}
 use Rattle.mediator_history.specs.Disclosed.{given_at, disclosed}
@@ -42,8 +42,8 @@ use Rattle.history_verify.specs.declared.subscribers.Subscribers.{Subscribers}
 use Rattle.history_verify.specs.declared.sums.Sums.{Sums}
 use Rattle.history_verify.specs.declared.replay.Replay.{Replay}
 use Rattle.history_verify.specs.Parts.{IsSession, HasRoomToKeep, AreExporters, AreSubscribers, AreSums, SameSums, served_shares, MayCount, HasCounted, AreNoted}
-use Rattle.history_verify.specs.Sharing.{GiveAll, IsJudged}
-use Rattle.history_verify.specs.Standing.{MayCutAll, IsSettled, IsSmall, StandsOver, StandsShort, IsTaken, IsSameReplay, IsReadOf}
+use Rattle.history_verify.specs.Sharing.{GiveAll, IsJudgedEntry}
+use Rattle.history_verify.specs.Standing.{MayCutAll, IsSettled, IsCountable, StandsOver, StandsShort, HasTaken, IsSameReplay, IsReadOf}
 use Rattle.history_verify.proofs.Stays.{last_stays}
 use Rattle.history_verify.proofs.LegalLaws.{settled_cuts}
 use Rattle.history_verify.proofs.ExporterLaws.{exporters_stay}
@@ -70,9 +70,9 @@ pub record IsBehind (r d : Replay) (h : List Entry) (x : Entry) : Type 0 where
   pub subscribers : AreSubscribers d.subscribers (h ++ x ∷ [])
   pub sums : AreSums d.sums (h ++ x ∷ [])
   pub audit : AreNoted d.audit (audit_list (h ++ x ∷ []))
-  pub small : IsSmall (h ++ x ∷ [])
+  pub small : IsCountable (h ++ x ∷ [])
 
-taken_by : (r d : Replay) (g h : List Entry) (x : Entry) → StandsOver r g h → IsAccepted h x → AllByRecursion (λ s. given_at s g x ≢ []) r.waiting.items → IsBehind r d h x → IsTaken d h x
+taken_by : (r d : Replay) (g h : List Entry) (x : Entry) → StandsOver r g h → IsAccepted h x → AllByRecursion (λ s. given_at s g x ≢ []) r.waiting.items → IsBehind r d h x → HasTaken d h x
 taken_by r d g h x so is all now = record {
   none_wait = now.none_wait;
   stands = record {
@@ -122,7 +122,7 @@ same_replay r d waiting position in_force exporters subscribers sums audit = rec
 few_read : (h : List Entry) (session number : ℕ) (octets : List ℕ) (reading : Ahead) → IsReadOf h session number octets reading → length reading.meaning.records ≤ 2 ^ 32 → length (records_at h (Message session number octets)) ≤ 2 ^ 32
 few_read h session number octets reading is few = omega (arith, few, ap (λ r. length (records_meant r)) is.read.means)
 
-pub small_message : (h : List Entry) (session number : ℕ) (octets : List ℕ) (reading : Ahead) → IsReadOf h session number octets reading → length reading.meaning.records ≤ 2 ^ 32 → IsSmall h → IsSmall (h ++ Message session number octets ∷ [])
+pub small_message : (h : List Entry) (session number : ℕ) (octets : List ℕ) (reading : Ahead) → IsReadOf h session number octets reading → length reading.meaning.records ≤ 2 ^ 32 → IsCountable h → IsCountable (h ++ Message session number octets ∷ [])
 small_message h session number octets reading is few so = record {
   listed = λ sub. omega (
     arith,
@@ -131,7 +131,7 @@ small_message h session number octets reading is few so = record {
     few_read h session number octets reading is few,
     ap (λ (l : List DataRecord). length l) (disclosed-push sub h (Message session number octets)),
     length-append (disclosed sub h) (given_at sub h (Message session number octets)),
-    ap (λ (l : List Counted). length l) (running-message sub h session number octets),
+    ap (λ (l : List Sample). length l) (running-message sub h session number octets),
     length-append (running sub h) (counted_at sub h (Message session number octets)),
     length_push h (Message session number octets),
   );
@@ -157,16 +157,16 @@ few_put p g (h ∷ hs) = by (group_cmp g h) (few_put p g hs) where
   by Equal rest = omega arith
   by Greater rest = omega (arith, filter_one p h (put_group g hs), filter_one p h hs, rest)
 
-few_due : (t : ℕ) (xs : List Counted) → length (filter (is_due t) (groups_of xs)) + length (staying t xs) ≤ length xs
+few_due : (t : ℕ) (xs : List Sample) → length (filter (is_due t) (groups_of xs)) + length (staying t xs) ≤ length xs
 few_due t [] = omega arith
 few_due t (x ∷ xs) = omega (arith, few_put (is_due t) (group_of x) (groups_of xs), filter_one (λ c. not (is_due t (group_of c))) x xs, few_due t xs, one_of (is_due t (group_of x)))
 
 -- of what counted, each group that closes gives one record, and leaves no more than the others
-few_closed : (t : ℕ) (xs : List Counted) → length (closed_by t xs) + length (staying t xs) ≤ length xs
+few_closed : (t : ℕ) (xs : List Sample) → length (closed_by t xs) + length (staying t xs) ≤ length xs
 unfolding closed_by
 few_closed t xs = omega (arith, few_due t xs, length-map (filter (is_due t) (groups_of xs)) (closed_of xs))
 
-pub small_advance : (h : List Entry) (t : ℕ) → clock_of h ≤ t → IsSmall h → IsSmall (h ++ Advance t ∷ [])
+pub small_advance : (h : List Entry) (t : ℕ) → clock_of h ≤ t → IsCountable h → IsCountable (h ++ Advance t ∷ [])
 small_advance h t later so = record {
   listed = λ sub. omega (
     arith,
@@ -174,7 +174,7 @@ small_advance h t later so = record {
     few_closed t (running sub h),
     ap (λ (l : List DataRecord). length l) (disclosed-push sub h (Advance t)),
     length-append (disclosed sub h) (closed_by t (running sub h)),
-    ap (λ (l : List Counted). length l) (running-advance sub h t later),
+    ap (λ (l : List Sample). length l) (running-advance sub h t later),
     length_push h (Advance t),
   );
 }
@@ -216,14 +216,14 @@ sums_after r g h s d seen so same sums gone =
     (λ q off. ap (running q) so.history_is ∙ running-cuts q g r.waiting.items (ap (is_in q) (sym same) ∙ not_true (is_in q seen) off))
 
 -- what was made ready for a message stays so, since nothing counts for those that are cut
-pub ready_still : (wanted : Bool) (r : Replay) (g h : List Entry) (session number : ℕ) (octets : List ℕ) (j : Judged) (before after : List (ℕ × Held)) (seen : List ℕ) (lent : List Tally) (reserved : List (ℕ × List Addition))
-    → StandsOver r g h → IsJudged wanted h (Message session number octets) j → seen ≡ r.waiting.items → lent ≡ j.tallies.items
-    → (AreApart (map tallied lent) → AllReady before reserved (map tallied lent))
+pub ready_still : (wanted : Bool) (r : Replay) (g h : List Entry) (session number : ℕ) (octets : List ℕ) (j : Judged) (before after : List (ℕ × HeldGroups)) (seen : List ℕ) (lent : List Tally) (reserved : List (ℕ × List Addition))
+    → StandsOver r g h → IsJudgedEntry wanted h (Message session number octets) j → seen ≡ r.waiting.items → lent ≡ j.tallies.items
+    → (NoneTwice (map tallied lent) → AllReady before reserved (map tallied lent))
     → ((tallies : List (ℕ × List Count)) → AllReady before reserved tallies → ((q : ℕ) → is_in q seen ≡ true → added_to q tallies ≡ []) → AllReady after reserved tallies)
     → AllReady after reserved (map tallied j.tallies.items)
 ready_still wanted r g h session number octets j before after seen lent reserved so judged same is ready stays =
     stays (map tallied j.tallies.items)
-    (subst (λ (l : List Tally). AreApart (map tallied l) → AllReady before reserved (map tallied l)) is ready judged.apart)
+    (subst (λ (l : List Tally). NoneTwice (map tallied l) → AllReady before reserved (map tallied l)) is ready judged.apart)
     (λ q among. judged.adds q ∙ ap (map count_of) (counted_unserved q h (Message session number octets) (cut_off r g h so q (ap (is_in q) (sym same) ∙ among))))
 
 -- ---- the session of a message
@@ -246,20 +246,20 @@ pub short_history : (r : Replay) (g h : List Entry) → StandsShort r → Stands
 short_history r g h short so = subst (λ (n : ℕ). n ≤ MOST_ENTRIES) (sym short.stands.over.position ∙ so.position) short.short
 
 pub message_room : (wanted : Bool) (r : Replay) (g h : List Entry) (session number : ℕ) (octets : List ℕ) (reading : Ahead) (j : Judged) → StandsShort r → StandsOver r g h → IsReadOf h session number octets reading
-    → length reading.meaning.records ≤ 2 ^ 32 → IsJudged wanted h (Message session number octets) j → MayCount r.subscribers (map shown j.shares.items)
+    → length reading.meaning.records ≤ 2 ^ 32 → IsJudgedEntry wanted h (Message session number octets) j → MayCount r.subscribers (map shown j.shares.items)
 message_room wanted r g h session number octets reading j short so is few judged =
     may_count r.subscribers h (Message session number octets) (map shown j.shares.items) so.subscribers judged.gives (small_message h session number octets reading is few so.small) (short_history r g h short so)
 
 pub taken_message : (r d : Replay) (g h : List Entry) (session number : ℕ) (octets : List ℕ) (reading : Ahead) (j : Judged) → StandsOver r g h → IsReadOf h session number octets reading
-    → length reading.meaning.records ≤ 2 ^ 32 → AllByRecursion (λ s. given_at s g (Message session number octets) ≢ []) r.waiting.items → IsJudged r.audit.wanted h (Message session number octets) j
+    → length reading.meaning.records ≤ 2 ^ 32 → AllByRecursion (λ s. given_at s g (Message session number octets) ≢ []) r.waiting.items → IsJudgedEntry r.audit.wanted h (Message session number octets) j
     → d.waiting.items ≡ [] → d.position ≡ r.position + 1 → d.in_force ≡ r.in_force → AreExporters d.exporters (h ++ Message session number octets ∷ [])
     → HasCounted (map shown j.shares.items) r.subscribers d.subscribers → AreSums d.sums (h ++ Message session number octets ∷ []) → ((list more : List AuditEntry) → AreNoted r.audit list → j.entries.items ≡ (if r.audit.wanted then more else []) → AreNoted d.audit (list ++ more))
-    → IsTaken d h (Message session number octets)
+    → HasTaken d h (Message session number octets)
 taken_message r d g h session number octets reading j so is few all judged none position in_force exporters counted sums audit =
     taken_by r d g h (Message session number octets) so (read_accepted h session number octets reading is) all (record {
       none_wait = none;
       position = position;
-      policy = ap (λ f. f.policy) in_force ∙ so.policy ∙ sym (last_stays edited no_policy h (Message session number octets) refl);
+      policy = ap (λ f. f.policy) in_force ∙ so.policy ∙ sym (last_stays policy_from no_policy h (Message session number octets) refl);
       clock = ap (λ f. f.clock) in_force ∙ so.clock ∙ sym (last_stays clock_in 0 h (Message session number octets) refl);
       exporters = exporters;
       subscribers = subscribers_given r.subscribers d.subscribers h (Message session number octets) (map shown j.shares.items) (λ sub. refl) (λ sub. refl) (λ sub. refl) refl judged.gives counted so.subscribers;
@@ -277,12 +277,12 @@ pub taken_advance : (r d : Replay) (g h : List Entry) (t : ℕ) (shares : List (
     → AllByRecursion (λ s. given_at s g (Advance t) ≢ []) r.waiting.items → ((sub : ℕ) → given_to sub shares ≡ closed_by t (running sub g))
     → d.waiting.items ≡ [] → d.position ≡ r.position + 1 → d.in_force ≡ in_force_with r.in_force.policy t → d.exporters ≡ r.exporters
     → HasCounted (served_shares r.subscribers shares) r.subscribers d.subscribers → AreSums d.sums (h ++ Advance t ∷ []) → d.audit ≡ r.audit
-    → IsTaken d h (Advance t)
+    → HasTaken d h (Advance t)
 taken_advance r d g h t shares so later all closes none position in_force exporters counted sums audit =
     taken_by r d g h (Advance t) so later all (record {
       none_wait = none;
       position = position;
-      policy = ap (λ f. f.policy) in_force ∙ so.policy ∙ sym (last_stays edited no_policy h (Advance t) refl);
+      policy = ap (λ f. f.policy) in_force ∙ so.policy ∙ sym (last_stays policy_from no_policy h (Advance t) refl);
       clock = ap (λ f. f.clock) in_force ∙ sym (clock-push h (Advance t));
       exporters = subst (λ (e : Exporters). AreExporters e (h ++ Advance t ∷ [])) (sym exporters) (exporters_stay r.exporters h (Advance t) (λ session. refl) (λ session. refl) refl so.exporters);
       subscribers = subscribers_given r.subscribers d.subscribers h (Advance t) (served_shares r.subscribers shares) (λ sub. refl) (λ sub. refl) (λ sub. refl) refl (advance_gives r g h t shares so closes) counted so.subscribers;

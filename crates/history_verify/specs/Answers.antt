@@ -3,8 +3,8 @@ use Rattle.std.specs.Prelude.{◌≡◌, Bool, List, [], ◌++◌, if◌then◌e
 use Rattle.event_journal.specs.declared.entry.Entry.{Entry}
 use Rattle.mediator_history.specs.Auditing.{audit_list}
 use Rattle.history_verify.specs.declared.verified.Verified.{Verified}
-use Rattle.history_verify.specs.declared.fault.VerifyFault.{VerifyFault}
-use Rattle.history_verify.specs.declared.fault.VerifyFault.TheVariants.{BadHistory, OutOfMemory}
+use Rattle.history_verify.specs.declared.fault.Fault.{Fault}
+use Rattle.history_verify.specs.declared.fault.Fault.TheVariants.{BadHistory, OutOfMemory}
 use Rattle.history_verify.specs.Legal.{IsLegal, IsFirstBad}
 use Rattle.history_verify.specs.Counts.{counts_of}
 
@@ -15,11 +15,11 @@ pub record IsVerified (wanted : Bool) (h : List Entry) (v : Verified) : Type 0 w
   pub audit : v.audit.items ≡ (if wanted then audit_list h else [])
 
 -- the fault names the first entry of the history that is not legal where it stands; of want of memory nothing is said
-abbrev pub NamesFirst : VerifyFault → List Entry → Type 0
+abbrev pub NamesFirst : Fault → List Entry → Type 0
 NamesFirst (BadHistory position) h = IsFirstBad h position
 NamesFirst OutOfMemory h = Unit {0}
 
 -- so it is, whatever comes behind the history
-abbrev pub NamesFirstOfAny : VerifyFault → List Entry → Type 0
+abbrev pub NamesFirstOfAny : Fault → List Entry → Type 0
 NamesFirstOfAny (BadHistory position) h = (more : List Entry) → IsFirstBad (h ++ more) position
 NamesFirstOfAny OutOfMemory h = Unit {0}

@@ -3,7 +3,7 @@
 use Rattle.std.specs.Prelude.{◌≡◌, ◌≢◌, ℕ, ◌+◌, ◌≤◌, ◌<◌, Bool, true, false, List, [], ◌∷◌, ◌++◌, length, map, Option, Some, Ok}
 use Rattle.sequences.specs.Before.{last_of}
 use Rattle.ipfix_session.specs.Meaning.{Meaning, meaning_of}
-use Rattle.policy_text.specs.Policies.{Meaning as Policy}
+use Rattle.policy_text.specs.Policies.{PolicyMeaning as Policy}
 use Rattle.policy_text.specs.Parsing.{policy_of}
 use Rattle.policy_text.specs.Naming.{is_name}
 use Rattle.event_journal.specs.declared.entry.Entry.{Entry}
@@ -23,7 +23,7 @@ pub record IsNextMessage (h : List Entry) (session number : ℕ) (octets : List 
   pub means : meaning_of (messages_of session h) octets ≡ Ok meaning
 
 -- the text is that of a policy
-pub record IsPolicy (text : List ℕ) : Type 0 where
+pub record IsPolicyText (text : List ℕ) : Type 0 where
   pub policy : Policy
   pub spelled : policy_of text ≡ Ok policy
 
@@ -37,7 +37,7 @@ abbrev pub IsAccepted : List Entry → Entry → Type 0
 IsAccepted h (Open session) = session ≡ sessions_opened h + 1
 IsAccepted h (Close session) = is_open session h ≡ true
 IsAccepted h (Message session number octets) = IsNextMessage h session number octets
-IsAccepted h (Edit text) = IsPolicy text
+IsAccepted h (Edit text) = IsPolicyText text
 IsAccepted h (Subscribe sub name) = IsNextSubscription h sub name
 IsAccepted h (Unsubscribe sub) = is_live sub h ≡ true
 IsAccepted h (Advance t) = clock_of h ≤ t

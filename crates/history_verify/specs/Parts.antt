@@ -10,7 +10,7 @@ use Rattle.ipfix_template.specs.DataRecord.{DataRecord}
 use Rattle.ipfix_session.specs.Keeping.{at_key}
 use Rattle.ipfix_session.specs.Standing.{StandsFor}
 use Rattle.ipfix_session.specs.ReadAhead.{Ahead, HasRoomFor}
-use Rattle.flow_aggregate.specs.Running.{nothing_held, StandsFor as StandsForRecords}
+use Rattle.flow_aggregate.specs.Running.{nothing_held, SumsStand as StandsForRecords}
 use Rattle.event_journal.specs.declared.entry.Entry.{Entry}
 use Rattle.mediator_history.specs.Sessions.{is_open, messages_of, sessions_opened}
 use Rattle.mediator_history.specs.Subscriptions.{name_of, is_live, is_served, subscribed_in, subscriptions_begun, served}
@@ -55,7 +55,7 @@ pub record SameExporters (old new : Exporters) : Type 0 where
 abbrev pub IsTurn : List Entry → ℕ → ℕ → Type 0
 IsTurn h session number = (is_open session h ≡ true) × (number ≡ length (messages_of session h))
 
-pub record IsInTurn (e : Exporters) (session number : ℕ) (o : OpenSession) : Type 0 where
+pub record IsTurnIn (e : Exporters) (session number : ℕ) (o : OpenSession) : Type 0 where
   pub is : at_key session e.sessions ≡ Some o
   pub turn : number ≡ o.accepted
 
@@ -74,7 +74,7 @@ abbrev pub number_of : Subscribers → List ℕ → Option ℕ
 number_of t name = get_by_text t.live name
 
 -- a subscription that never began
-pub record IsUnbegun (h : List Entry) (sub : ℕ) : Type 0 where
+pub record NeverBegan (h : List Entry) (sub : ℕ) : Type 0 where
   pub gone : is_live sub h ≡ false
   pub nameless : name_of sub h ≡ []
   pub unserved : is_served sub h ≡ false
@@ -87,7 +87,7 @@ pub record AreSubscribers (t : Subscribers) (h : List Entry) : Type 0 where
   pub named : (name : List ℕ) (sub : ℕ) → number_of t name ≡ Some sub → (is_live sub h ≡ true) × (name_of sub h ≡ name)
   pub live : (sub : ℕ) → is_live sub h ≡ true → number_of t (name_of sub h) ≡ Some sub
   pub served_are : t.served.keys ≡ served h
-  pub unbegun : (sub : ℕ) → (sub ≡ 0) ⊎ (subscriptions_begun h < sub) → IsUnbegun h sub
+  pub unbegun : (sub : ℕ) → (sub ≡ 0) ⊎ (subscriptions_begun h < sub) → NeverBegan h sub
 
 pub record SameSubscribers (old new : Subscribers) : Type 0 where
   pub begun : new.begun.items ≡ old.begun.items

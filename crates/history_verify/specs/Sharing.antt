@@ -8,7 +8,7 @@ use Rattle.mediator_history.specs.Counting.{counted_at}
 use Rattle.mediator_history.specs.Disclosed.{given_at}
 use Rattle.mediator_history.specs.Auditing.{audit_at}
 use Rattle.mediator_tables.specs.SubscriptionTable.{given_to, shown}
-use Rattle.mediator_tables.specs.Adding.{tallied, AreApart, added_to}
+use Rattle.mediator_tables.specs.Adding.{tallied, NoneTwice, added_to}
 use Rattle.history_verify.specs.declared.judged.Judged.{Judged}
 
 -- shares give each subscription what the entry gives it behind a history
@@ -16,10 +16,10 @@ abbrev pub GiveAll : List Entry → Entry → List (ℕ × List DataRecord) → 
 GiveAll h entry shares = (sub : ℕ) → given_to sub shares ≡ given_at sub h entry
 
 -- what is given, counts and, where that is wanted, is kept back is what the entry brings behind the history
-pub record IsJudged (wanted : Bool) (h : List Entry) (entry : Entry) (j : Judged) : Type 0 where
+pub record IsJudgedEntry (wanted : Bool) (h : List Entry) (entry : Entry) (j : Judged) : Type 0 where
   pub gives : GiveAll h entry (map shown j.shares.items)
   pub adds : (sub : ℕ) → added_to sub (map tallied j.tallies.items) ≡ map count_of (counted_at sub h entry)
-  pub apart : AreApart (map tallied j.tallies.items)
+  pub apart : NoneTwice (map tallied j.tallies.items)
   pub entries_are : j.entries.items ≡ (if wanted then audit_at h entry else [])
 
 -- the first share without a record is at this place, or none is

@@ -14,8 +14,8 @@ use Rattle.mediator_history.specs.Auditing.{audit_list}
 use Rattle.mediator_history.specs.Cuts.{after_cuts}
 use Rattle.history_verify.specs.declared.replay.Replay.{Replay}
 use Rattle.history_verify.specs.declared.verifier.Verifier.{Verifier}
-use Rattle.history_verify.specs.declared.fault.VerifyFault.{VerifyFault}
-use Rattle.history_verify.specs.declared.fault.VerifyFault.TheVariants.{BadHistory, OutOfMemory}
+use Rattle.history_verify.specs.declared.fault.Fault.{Fault}
+use Rattle.history_verify.specs.declared.fault.Fault.TheVariants.{BadHistory, OutOfMemory}
 use Rattle.history_verify.specs.Legal.{IsAccepted, AreLegal, last_cut}
 use Rattle.history_verify.specs.Parts.{AreExporters, AreSubscribers, AreSums, IsTurn, AreNoted}
 
@@ -53,7 +53,7 @@ pub record IsSettled (h : List Entry) : Type 0 where
   pub closed : last_cut h ≡ 0
 
 -- no count comes near its end: no message brings more than 2^32 records, and no group closes but for a record that counted
-pub record IsSmall (h : List Entry) : Type 0 where
+pub record IsCountable (h : List Entry) : Type 0 where
   pub listed : (sub : ℕ) → length (disclosed sub h) + length (running sub h) ≤ 2 ^ 32 * length h
 
 -- the replay stands for this history and, behind it, the cuts that wait
@@ -68,17 +68,17 @@ pub record StandsOver (r : Replay) (settled h : List Entry) : Type 0 where
   pub subscribers : AreSubscribers r.subscribers h
   pub sums : AreSums r.sums settled
   pub audit : AreNoted r.audit (audit_list h)
-  pub small : IsSmall h
+  pub small : IsCountable h
 
 -- the replay stands for the history, whose last cuts wait
-pub record Stands (r : Replay) (h : List Entry) : Type 0 where
+pub record Repeats (r : Replay) (h : List Entry) : Type 0 where
   pub settled : List Entry
   pub over : StandsOver r settled h
 
 -- so it does for some history, which is no longer than a journal may be
 pub record StandsShort (r : Replay) : Type 0 where
   pub history : List Entry
-  pub stands : Stands r history
+  pub stands : Repeats r history
   pub short : length history ≤ MOST_ENTRIES
 
 -- ---- what the steps of a replay answer
@@ -86,24 +86,24 @@ pub record StandsShort (r : Replay) : Type 0 where
 -- it stands for the same histories, and the same cuts wait
 pub record IsSameReplay (old new : Replay) : Type 0 where
   pub waiting : new.waiting.items ≡ old.waiting.items
-  pub stands : (h : List Entry) → Stands old h → Stands new h
+  pub stands : (h : List Entry) → Repeats old h → Repeats new h
 
 -- it stands for the history with the entry behind it, and no cut waits
-pub record IsTaken (new : Replay) (h : List Entry) (entry : Entry) : Type 0 where
+pub record HasTaken (new : Replay) (h : List Entry) (entry : Entry) : Type 0 where
   pub none_wait : new.waiting.items ≡ []
-  pub stands : Stands new (h ++ entry ∷ [])
+  pub stands : Repeats new (h ++ entry ∷ [])
 
 -- so it is behind each history for which it stands, where no cut waits
 abbrev pub TakesNext : Replay → Entry → Replay → Type 0
-TakesNext old entry new = (h : List Entry) → Stands old h → old.waiting.items ≡ [] → IsTaken new h entry
+TakesNext old entry new = (h : List Entry) → Repeats old h → old.waiting.items ≡ [] → HasTaken new h entry
 
 -- the first entry behind those that are settled is named, and this one, which is no cut, is not accepted; or memory ran out
-abbrev pub RefusesEntry : VerifyFault → Replay → List Entry → Entry → Type 0
+abbrev pub RefusesEntry : Fault → Replay → List Entry → Entry → Type 0
 RefusesEntry (BadHistory position) r h entry = (position + length r.waiting.items ≡ length h) × (IsAccepted h entry → ⊥)
 RefusesEntry OutOfMemory r h entry = Unit {0}
 
-abbrev pub RefusesNext : VerifyFault → Replay → Entry → Type 0
-RefusesNext e r entry = (h : List Entry) → Stands r h → RefusesEntry e r h entry
+abbrev pub RefusesNext : Fault → Replay → Entry → Type 0
+RefusesNext e r entry = (h : List Entry) → Repeats r h → RefusesEntry e r h entry
 
 -- ---- messages
 
@@ -125,7 +125,7 @@ IsSpoilt h (sub ∷ subs) = MayCut h sub → ⊥
 
 -- the verifier was fed what its replay stands for, and behind it these cuts
 pub record IsFedOver (v : Verifier) (front : List Entry) (cuts : List ℕ) (h : List Entry) : Type 0 where
-  pub stands : Stands v.replay front
+  pub stands : Repeats v.replay front
   pub count : v.behind ≡ length cuts
   pub history_is : h ≡ after_cuts front cuts
   pub spoilt : IsSpoilt front cuts
@@ -142,12 +142,12 @@ pub record IsFedShort (v : Verifier) : Type 0 where
   pub short : length history ≤ MOST_ENTRIES
 
 -- cuts wait or the first of those behind may not stand there, and the position of the first of all of these is named
-abbrev pub NamesWaiting : VerifyFault → Verifier → Type 0
+abbrev pub NamesWaiting : Fault → Verifier → Type 0
 NamesWaiting (BadHistory position) v = (position + length v.replay.waiting.items ≡ v.replay.position) × (0 < length v.replay.waiting.items + v.behind)
 NamesWaiting OutOfMemory v = ⊥
 
 -- the first cut that isn't borne out is named by its place among those that wait; or the first of those behind
-abbrev pub NamesUnborne : VerifyFault → Verifier → Option ℕ → Type 0
+abbrev pub NamesUnborne : Fault → Verifier → Option ℕ → Type 0
 NamesUnborne (BadHistory position) v (Some place) = position + length v.replay.waiting.items ≡ v.replay.position + place
 NamesUnborne (BadHistory position) v None = (position ≡ v.replay.position) × (0 < v.behind)
 NamesUnborne OutOfMemory v place = ⊥

@@ -7,7 +7,7 @@ ghost use Rattle.event_journal.specs.declared.entry.Entry.TheVariants.{Open, Clo
 ghost use Rattle.mediator_history.specs.Sessions.{is_open, messages_of, sessions_opened};
 
 use ipfix_session::Reading;
-use mediator_tables::{OpenSession, Sessions};
+use mediator_tables::{OpenSession, SessionId, Sessions};
 use std::alloc::{AllocError, Global};
 
 /// The open sessions of a history, and how many were opened. Contracts say by `AreExporters` of which histories.
@@ -18,7 +18,7 @@ pub struct Exporters {
 }
 
 impl Exporters {
-    ghost use Rattle.history_verify.specs.Parts.{AreExporters, SameExporters, IsTurn, IsInTurn, HasRoomToKeep};
+    ghost use Rattle.history_verify.specs.Parts.{AreExporters, SameExporters, IsTurn, IsTurnIn, HasRoomToKeep};
 
     /// The sessions of a history without an entry. What comes to be kept is in memory from `alloc`.
     pub fn new(alloc: Global) -> Exporters
@@ -47,7 +47,7 @@ impl Exporters {
             → AreExporters self.new (h ++ Open session ∷ [])) }
         ensures err { OnErr result (SameExporters self.old self.new) }
     {
-        self.sessions.open(session)?;
+        self.sessions.open(SessionId(session))?;
         self.opened = session;
         Ok(())
     }
@@ -56,7 +56,7 @@ impl Exporters {
     pub fn is_open(&self, session: u64) -> bool
         ensures { (h : List Entry) → AreExporters self.now h → result ≡ is_open session h }
     {
-        self.sessions.get(session).is_some()
+        self.sessions.get(SessionId(session)).is_some()
     }
 
     /// Closes the session with the number `session`, if it is open. It takes no memory.
@@ -64,16 +64,16 @@ impl Exporters {
         ensures { (h : List Entry) → AreExporters self.old h
             → AreExporters self.new (h ++ Close session ∷ []) }
     {
-        self.sessions.close(session);
+        self.sessions.close(SessionId(session));
     }
 
     /// The session with the number `session`, where it is open and had `number` messages; else `None`.
     pub fn in_turn(&self, session: u64, number: u64) -> Option<&OpenSession>
-        ensures found { IfSome result (λ o. IsInTurn self.now session number o.now) }
+        ensures found { IfSome result (λ o. IsTurnIn self.now session number o.now) }
         ensures none { IfNone result ((h : List Entry) → AreExporters self.now h
             → IsTurn h session number → ⊥) }
     {
-        let open = self.sessions.get(session)?;
+        let open = self.sessions.get(SessionId(session))?;
         if open.accepted == number {
             Some(open)
         } else {
@@ -90,7 +90,7 @@ impl Exporters {
         ensures unchanged { SameExporters self.old self.new }
         ensures room { OnOk result (HasRoomToKeep self.new session reading.now) }
     {
-        self.sessions.make_room(session, reading)
+        self.sessions.make_room(SessionId(session), reading)
     }
 
     /// Keeps `reading`, which was read of the next message of the session with the number `session`, in room that
@@ -103,6 +103,6 @@ impl Exporters {
             → is_open session h ≡ true → IsReadingOf (messages_of session h) octets reading
             → AreExporters self.new (h ++ Message session number octets ∷ []) }
     {
-        self.sessions.keep(session, reading);
+        self.sessions.keep(SessionId(session), reading);
     }
 }

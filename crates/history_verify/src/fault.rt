@@ -6,7 +6,7 @@ use std::fmt::{self, Display, Formatter, Write};
 
 /// Why a history isn't verified. A fault's text is its name.
 #[derive(Clone, Copy, Debug, PartialEq, Eq)]
-pub enum VerifyFault {
+pub enum Fault {
     /// The entry at `position`, counted from 0, is none that a mediator may have accepted there, or it is a cut that
     /// what follows doesn't bear out. It is the first such entry.
     BadHistory { position: u64 },
@@ -14,9 +14,9 @@ pub enum VerifyFault {
     OutOfMemory,
 }
 
-impl Error for VerifyFault {}
+impl Error for Fault {}
 
-impl Display for VerifyFault {
+impl Display for Fault {
     ghost use Rattle.std.specs.Prelude.{Some};
     ghost use Rattle.history_verify.specs.FaultTexts.{text_of_fault};
 
@@ -24,19 +24,19 @@ impl Display for VerifyFault {
 
     fn fmt<W: Write>(&self, f: &mut Formatter<W>) -> fmt::Result {
         f.write_str(match self {
-            VerifyFault::BadHistory { .. } => "BadHistory",
-            VerifyFault::OutOfMemory => "OutOfMemory",
+            Fault::BadHistory { .. } => "BadHistory",
+            Fault::OutOfMemory => "OutOfMemory",
         })
     }
 }
 
-impl From<AllocError> for VerifyFault {
+impl From<AllocError> for Fault {
     ghost use Rattle.std.specs.Prelude.{◌≡◌};
-    ghost use Rattle.history_verify.specs.declared.fault.VerifyFault.TheVariants.{OutOfMemory};
+    ghost use Rattle.history_verify.specs.declared.fault.Fault.TheVariants.{OutOfMemory};
 
     ghost from_gives = { λ _ e. e ≡ OutOfMemory };
 
-    fn from(_e: AllocError) -> VerifyFault {
-        VerifyFault::OutOfMemory
+    fn from(_e: AllocError) -> Fault {
+        Fault::OutOfMemory
     }
 }

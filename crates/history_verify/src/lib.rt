@@ -6,7 +6,7 @@
 //! - `verified`: [`verify`], of a whole journal, and [`Verified`], what a legal history disclosed and what its audit names;
 //!   `count`: [`Count`], of one subscription.
 //! - `verifier`: [`Verifier`], which is fed entry by entry, so that a file is verified as it is read.
-//! - `fault`: [`VerifyFault`].
+//! - `fault`: [`Fault`].
 //! - `replay`: what is kept of the entries so far; `exporters`, `subscribers`, `sums` and `noted` are its parts, and `judged` is
 //!   what a message or an advance of the clock would do.
 #![tactic(auto)]
@@ -24,6 +24,6 @@ mod verifier;
 
 pub use count::Count;
 pub use exporters::Exporters;
-pub use fault::VerifyFault;
+pub use fault::Fault;
 pub use verified::{Verified, verify};
 pub use verifier::Verifier;

@@ -2,10 +2,10 @@
 ghost use Rattle.std.specs.Prelude.{◌≡◌, ◌≢◌, ◌∷◌, ◌++◌, ◌+◌, ◌<◌, ◌≤◌, ◌↔◌, [], ℕ, List, length, map, true, ◌^◌, IsTrue, IfOk, IfErr, IfSome, IfNone, OnOk, OnErr};
 ghost use Rattle.event_journal.specs.declared.entry.Entry.{Entry};
 ghost use Rattle.event_journal.specs.declared.entry.Entry.TheVariants.{Open, Close, Message, Edit, Subscribe, Unsubscribe, Advance, Cut};
-ghost use Rattle.history_verify.specs.Standing.{Stands, StandsShort, IsSameReplay, IsTaken, TakesNext, RefusesEntry, RefusesNext, MayCut};
+ghost use Rattle.history_verify.specs.Standing.{Repeats, StandsShort, IsSameReplay, HasTaken, TakesNext, RefusesEntry, RefusesNext, MayCut};
 
 use crate::exporters::Exporters;
-use crate::fault::VerifyFault;
+use crate::fault::Fault;
 use crate::judged::{Judged, first_empty, stamped};
 use crate::noted::Noted;
 use crate::subscribers::Subscribers;
@@ -13,12 +13,12 @@ use crate::sums::Sums;
 use crate::verified::Verified;
 use bytes::Bytes;
 use disclosure_audit::{AuditEntry, What};
-use ipfix_session::{ReadError, Reading};
+use ipfix_session::{Fault as ReadError, Reading};
 use mediator_shares::{InForce, Shares};
 use policy_text::{FaultKind, Name, Policy};
 use std::alloc::{AllocError, Global};
 
-/// What is kept of a history: what decides of its next entry, and what it disclosed. Contracts say by `Stands` of which
+/// What is kept of a history: what decides of its next entry, and what it disclosed. Contracts say by `Repeats` of which
 /// histories it is.
 ///
 /// Behind the last entry that is no cut stand the cuts that wait: each is to be borne out by the next entry that is no
@@ -45,7 +45,7 @@ impl Replay {
     /// # Errors
     /// Want of memory.
     pub(crate) fn new(alloc: Global, audit: bool) -> Result<Replay, AllocError>
-        ensures stands { IfOk result (λ r. Stands r []) }
+        ensures stands { IfOk result (λ r. Repeats r []) }
         ensures wanted { IfOk result (λ r. r.audit.wanted ≡ audit) }
     {
         Ok(Replay {
@@ -84,12 +84,12 @@ impl Replay {
 
     /// The fault where the next entry is no cut, and none that may stand there: the first cut that waits isn't borne
     /// out by it, and where none waits it is itself the first bad one.
-    pub(crate) fn bad(&self) -> VerifyFault
+    pub(crate) fn bad(&self) -> Fault
         requires short { StandsShort self.now }
-        ensures { (entry : Entry) (h : List Entry) → Stands self.now h → (IsAccepted h entry → ⊥)
+        ensures { (entry : Entry) (h : List Entry) → Repeats self.now h → (IsAccepted h entry → ⊥)
             → RefusesEntry result self.now h entry }
     {
-        VerifyFault::BadHistory {
+        Fault::BadHistory {
             position: self.first_waiting(),
         }
     }
@@ -98,7 +98,7 @@ impl Replay {
     ///
     /// # Errors
     /// `BadHistory` where that isn't the number of the next session; or want of memory. Nothing has changed then.
-    pub(crate) fn open(&mut self, session: u64) -> Result<(), VerifyFault>
+    pub(crate) fn open(&mut self, session: u64) -> Result<(), Fault>
         requires short { StandsShort self.old }
         // The entry is taken, or it is told which entry may not stand where it does.
         ensures ok { OnOk result (TakesNext self.old (Open session) self.new) }
@@ -119,7 +119,7 @@ impl Replay {
     ///
     /// # Errors
     /// `BadHistory` where it isn't open. Nothing has changed then.
-    pub(crate) fn close(&mut self, session: u64) -> Result<(), VerifyFault>
+    pub(crate) fn close(&mut self, session: u64) -> Result<(), Fault>
         requires short { StandsShort self.old }
         // The entry is taken, or it is told which entry may not stand where it does.
         ensures ok { OnOk result (TakesNext self.old (Close session) self.new) }
@@ -140,7 +140,7 @@ impl Replay {
     ///
     /// # Errors
     /// `BadHistory` where the text spells no policy; or want of memory. Nothing has changed then.
-    pub(crate) fn edit(&mut self, text: &str) -> Result<(), VerifyFault>
+    pub(crate) fn edit(&mut self, text: &str) -> Result<(), Fault>
         requires short { StandsShort self.old }
         // The entry is taken, or it is told which entry may not stand where it does.
         ensures ok { OnOk result (TakesNext self.old (Edit text.now) self.new) }
@@ -159,7 +159,7 @@ impl Replay {
     ///
     /// # Errors
     /// `BadHistory` where it spells none; or want of memory.
-    fn read_policy(&self, text: &str) -> Result<Policy, VerifyFault>
+    fn read_policy(&self, text: &str) -> Result<Policy, Fault>
         requires short { StandsShort self.now }
         ensures ok { IfOk result (λ policy. policy_of text.now ≡ Ok policy) }
         ensures err { IfErr result (λ e. RefusesNext e self.now (Edit text.now)) }
@@ -168,7 +168,7 @@ impl Replay {
             Ok(policy) => Ok(policy),
             Err(fault) => {
                 if fault.kind == FaultKind::OutOfMemory {
-                    return Err(VerifyFault::OutOfMemory);
+                    return Err(Fault::OutOfMemory);
                 }
                 Err(self.bad())
             }
@@ -181,7 +181,7 @@ impl Replay {
     /// # Errors
     /// `BadHistory` where that isn't the number of the next subscription, or a live one has the name; or want of
     /// memory. Nothing has changed then.
-    pub(crate) fn subscribe(&mut self, sub: u64, name: &Name) -> Result<(), VerifyFault>
+    pub(crate) fn subscribe(&mut self, sub: u64, name: &Name) -> Result<(), Fault>
         requires short { StandsShort self.old }
         // The entry is taken, or it is told which entry may not stand where it does.
         ensures ok { OnOk result (TakesNext self.old (Subscribe sub name.now) self.new) }
@@ -202,7 +202,7 @@ impl Replay {
     ///
     /// # Errors
     /// `BadHistory` where it isn't live. Nothing has changed then.
-    pub(crate) fn unsubscribe(&mut self, sub: u64) -> Result<(), VerifyFault>
+    pub(crate) fn unsubscribe(&mut self, sub: u64) -> Result<(), Fault>
         requires short { StandsShort self.old }
         // The entry is taken, or it is told which entry may not stand where it does.
         ensures ok { OnOk result (TakesNext self.old (Unsubscribe sub) self.new) }
@@ -223,7 +223,7 @@ impl Replay {
     /// Whether a cut of the subscription with the number `sub` may stand next, if what follows bears it out: it is
     /// served, and its number is behind those of the cuts that wait.
     pub(crate) fn may_cut(&self, sub: u64) -> bool
-        ensures { (h : List Entry) → Stands self.now h → IsTrue result ↔ MayCut h sub }
+        ensures { (h : List Entry) → Repeats self.now h → IsTrue result ↔ MayCut h sub }
     {
         let last = self.waiting.last().copied();
         last.unwrap_or(0) < sub && self.subscribers.is_served(sub)
@@ -235,8 +235,8 @@ impl Replay {
     /// Want of memory, and then nothing has changed.
     pub(crate) fn cut(&mut self, sub: u64) -> Result<(), AllocError>
         requires short { StandsShort self.old }
-        ensures ok { OnOk result ((h : List Entry) → Stands self.old h → MayCut h sub
-            → Stands self.new (h ++ Cut sub ∷ [])) }
+        ensures ok { OnOk result ((h : List Entry) → Repeats self.old h → MayCut h sub
+            → Repeats self.new (h ++ Cut sub ∷ [])) }
         ensures unchanged { OnErr result (IsSameReplay self.old self.new) }
         ensures wanted { self.new.audit.wanted ≡ self.old.audit.wanted }
     {
@@ -256,7 +256,7 @@ impl Replay {
 
     /// What the history disclosed, and what its audit names, where no cut waits.
     pub(crate) fn into_verified(self) -> Verified
-        ensures { (h : List Entry) → Stands self h → self.waiting.items ≡ []
+        ensures { (h : List Entry) → Repeats self h → self.waiting.items ≡ []
             → IsVerified self.audit.wanted h result }
     {
         let Replay {
@@ -288,7 +288,7 @@ impl Replay {
     ghost use Rattle.mediator_tables.specs.Adding.{tallied};
     ghost use Rattle.std.specs.List.{AllByRecursion};
     ghost use Rattle.history_verify.specs.Standing.{StandsOver, IsReadOf, IsFirstOr};
-    ghost use Rattle.history_verify.specs.Sharing.{IsJudged};
+    ghost use Rattle.history_verify.specs.Sharing.{IsJudgedEntry};
 
     /// What is read of the message `octets`, as the next one of the session with the number `session`, which is to have
     /// had `number` messages.
@@ -296,14 +296,9 @@ impl Replay {
     /// # Errors
     /// `BadHistory` where the session isn't open, or had another number of messages, or the octets are no message that
     /// it can have; or want of memory.
-    pub(crate) fn read(
-        &self,
-        session: u64,
-        number: u64,
-        octets: &Bytes,
-    ) -> Result<Reading, VerifyFault>
+    pub(crate) fn read(&self, session: u64, number: u64, octets: &Bytes) -> Result<Reading, Fault>
         requires short { StandsShort self.now }
-        ensures ok { IfOk result (λ reading. (h : List Entry) → Stands self.now h
+        ensures ok { IfOk result (λ reading. (h : List Entry) → Repeats self.now h
             → IsReadOf h session number octets.now reading) }
         ensures few { IfOk result (λ reading. length reading.meaning.records ≤ 2 ^ 32) }
         ensures err { IfErr result (λ e.
@@ -315,7 +310,7 @@ impl Replay {
         see_octets(octets);
         match open.session.read(octets) {
             Ok(reading) => Ok(reading),
-            Err(ReadError::OutOfMemory) => Err(VerifyFault::OutOfMemory),
+            Err(ReadError::OutOfMemory) => Err(Fault::OutOfMemory),
             Err(ReadError::Malformed(_)) => Err(self.bad()),
             Err(ReadError::RecordOverrun) => Err(self.bad()),
         }
@@ -355,8 +350,8 @@ impl Replay {
         requires few { length reading.now.meaning.records ≤ 2 ^ 32 }
         ensures unchanged { self.new ≡ self.old }
         ensures judged { IfOk result (λ j. (h : List Entry) (session number : ℕ) (octets : List ℕ)
-            → Stands self.old h → IsReadOf h session number octets reading.now
-            → IsJudged self.new.audit.wanted h (Message session number octets) j) }
+            → Repeats self.old h → IsReadOf h session number octets reading.now
+            → IsJudgedEntry self.new.audit.wanted h (Message session number octets) j) }
     {
         let (domain, records) = (reading.header().domain, reading.records());
         let served = self.subscribers.served_if(!records.is_empty())?;
@@ -385,14 +380,14 @@ impl Replay {
         requires few { length reading.meaning.records ≤ 2 ^ 32 }
         requires planned { (settled h : List Entry) × (number : ℕ) × (octets : List ℕ)
             × StandsOver self.old settled h × IsReadOf h session number octets reading
-            × IsJudged self.old.audit.wanted h (Message session number octets) judged }
+            × IsJudgedEntry self.old.audit.wanted h (Message session number octets) judged }
         // The entry is taken, where it bears out the cuts that wait.
         ensures ok { OnOk result ((settled h : List Entry) (number : ℕ) (octets : List ℕ)
             → StandsOver self.old settled h → IsReadOf h session number octets reading
             → AllByRecursion (λ sub. given_at sub settled (Message session number octets) ≢ [])
             self.old.waiting.items
-            → IsJudged self.old.audit.wanted h (Message session number octets) judged
-            → IsTaken self.new h (Message session number octets)) }
+            → IsJudgedEntry self.old.audit.wanted h (Message session number octets) judged
+            → HasTaken self.new h (Message session number octets)) }
         // Want of memory changes nothing. Whether the audit is kept stays in any case.
         ensures unchanged { OnErr result (IsSameReplay self.old self.new) }
         ensures wanted { self.new.audit.wanted ≡ self.old.audit.wanted }
@@ -423,7 +418,7 @@ impl Replay {
 
     /// Whether the clock may be moved to `t`, in milliseconds since 1970: it isn't later already.
     pub(crate) fn may_advance(&self, t: u64) -> bool
-        ensures { (h : List Entry) → Stands self.now h → IsTrue result ↔ IsAccepted h (Advance t) }
+        ensures { (h : List Entry) → Repeats self.now h → IsTrue result ↔ IsAccepted h (Advance t) }
     {
         self.in_force.clock() <= t
     }
@@ -456,12 +451,12 @@ impl Replay {
     /// Want of memory, and then nothing has changed.
     pub(crate) fn advance(&mut self, t: u64) -> Result<(), AllocError>
         requires short { StandsShort self.old }
-        requires accepted { (h : List Entry) → Stands self.old h → IsAccepted h (Advance t) }
+        requires accepted { (h : List Entry) → Repeats self.old h → IsAccepted h (Advance t) }
         // The entry is taken, where it bears out the cuts that wait.
         ensures ok { OnOk result ((settled h : List Entry) → StandsOver self.old settled h
             → IsAccepted h (Advance t)
             → AllByRecursion (λ sub. given_at sub settled (Advance t) ≢ []) self.old.waiting.items
-            → IsTaken self.new h (Advance t)) }
+            → HasTaken self.new h (Advance t)) }
         // Want of memory changes nothing. Whether the audit is kept stays in any case.
         ensures unchanged { OnErr result (IsSameReplay self.old self.new) }
         ensures wanted { self.new.audit.wanted ≡ self.old.audit.wanted }

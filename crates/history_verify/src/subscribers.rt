@@ -27,7 +27,7 @@ pub(crate) struct Subscribers {
 }
 
 impl Subscribers {
-    ghost use Rattle.history_verify.specs.Parts.{AreSubscribers, SameSubscribers, IsUnbegun, number_of, served_shares, MayCount, HasCounted};
+    ghost use Rattle.history_verify.specs.Parts.{AreSubscribers, SameSubscribers, NeverBegan, number_of, served_shares, MayCount, HasCounted};
 
     /// The subscriptions of a history without an entry. What comes to be kept is in memory from `alloc`.
     pub(crate) fn new(alloc: Global) -> Subscribers
@@ -77,7 +77,7 @@ impl Subscribers {
         ensures some { IfSome result (λ name. (h : List Entry) → AreSubscribers self.now h
             → (name.now ≡ name_of sub h) × (sub ≤ subscriptions_begun h) × (0 < sub)) }
         ensures none { IfNone result ((h : List Entry) → AreSubscribers self.now h
-            → IsUnbegun h sub) }
+            → NeverBegan h sub) }
     {
         let count = count_at(&self.begun, sub)?;
         Some(count.name.as_str())

@@ -1,17 +1,17 @@
 //! What counts in the aggregates of a history.
 ghost use Rattle.std.specs.Prelude.{◌≡◌, ◌≢◌, ◌∷◌, ◌++◌, [], ℕ, List, true, map, IfOk};
-ghost use Rattle.flow_aggregate.specs.Groups.{Counted};
+ghost use Rattle.flow_aggregate.specs.Groups.{Sample};
 ghost use Rattle.flow_aggregate.specs.declared.addition.Addition.{Addition};
 ghost use Rattle.flow_aggregate.specs.Counts.{Count, count_of};
 ghost use Rattle.flow_aggregate.specs.Closing.{closed_by};
 ghost use Rattle.flow_aggregate.specs.Running.{staying};
-ghost use Rattle.mediator_tables.specs.Adding.{tallied, reserved_for, AllReady, AreApart, AreCountable, added_to};
+ghost use Rattle.mediator_tables.specs.Adding.{tallied, reserved_for, AllReady, NoneTwice, AreCountable, added_to};
 ghost use Rattle.event_journal.specs.declared.entry.Entry.{Entry};
 ghost use Rattle.mediator_history.specs.Counting.{running};
 ghost use Rattle.mediator_history.specs.Numbers.{is_in};
 ghost use Rattle.mediator_tables.specs.SubscriptionTable.{shown, given_to};
 
-use mediator_tables::{Reserved, RunningGroups, Share, Tally};
+use mediator_tables::{Reserved, RunningGroups, Share, SubId, Tally};
 use std::alloc::{AllocError, Global};
 
 /// The running groups of a history. Contracts say by `AreSums` of which histories.
@@ -41,7 +41,7 @@ impl Sums {
     /// Want of memory. Whatever the answer, only what is made ready has changed.
     pub(crate) fn reserve(&mut self, tallies: &[Tally]) -> Result<Vec<Reserved>, AllocError>
         ensures unchanged { SameSums self.old self.new }
-        ensures ready { IfOk result (λ reserved. AreApart (map tallied tallies.now)
+        ensures ready { IfOk result (λ reserved. NoneTwice (map tallied tallies.now)
             → AllReady self.new.groups (map reserved_for reserved.items)
             (map tallied tallies.now)) }
     {
@@ -51,8 +51,8 @@ impl Sums {
     /// Adds `reserved`, which was made ready. It takes no memory and can't fail.
     pub(crate) fn add(&mut self, reserved: Vec<Reserved>)
         requires { AreCountable self.old.groups (map reserved_for reserved.items) }
-        ensures { (tallies : List (ℕ × List Count)) (more : ℕ → List Counted) (h g : List Entry)
-            → AllReady self.old.groups (map reserved_for reserved.items) tallies → AreApart tallies
+        ensures { (tallies : List (ℕ × List Count)) (more : ℕ → List Sample) (h g : List Entry)
+            → AllReady self.old.groups (map reserved_for reserved.items) tallies → NoneTwice tallies
             → ((q : ℕ) → added_to q tallies ≡ map count_of (more q)) → AreSums self.old h
             → ((q : ℕ) → running q g ≡ running q h ++ more q) → AreSums self.new g }
     {
@@ -68,7 +68,7 @@ impl Sums {
         ensures given { IfOk result (λ share. (h : List Entry) → AreSums self.now h
             → share.given ≡ closed_by t (running sub h)) }
     {
-        let given = self.groups.closing(sub, t)?;
+        let given = self.groups.closing(SubId(sub), t)?;
         Ok(Share { sub, given })
     }
 
@@ -83,7 +83,7 @@ impl Sums {
         let subs = self.groups.subs()?;
         let mut shares = Vec::new(self.alloc);
         'subs: for sub in &subs {
-            shares.push(self.closing_of(*sub, t)?)?;
+            shares.push(self.closing_of(sub.0, t)?)?;
         }
         Ok(shares)
     }
@@ -119,6 +119,6 @@ impl Sums {
             → ((q : ℕ) → q ≢ sub → running q g ≡ running q h) → AreSums self.new g }
         ensures without { IsWithout self.old sub self.new }
     {
-        self.groups.remove(sub);
+        self.groups.remove(SubId(sub));
     }
 }

@@ -2,7 +2,7 @@
 ghost use Rattle.std.specs.Prelude.{true, IfOk, IfErr};
 
 use crate::count::Count;
-use crate::fault::VerifyFault;
+use crate::fault::Fault;
 use crate::verifier::Verifier;
 use disclosure_audit::AuditEntry;
 use event_journal::Journal;
@@ -23,8 +23,8 @@ ghost use Rattle.history_verify.specs.Answers.{IsVerified, NamesFirst};
 /// how many records were disclosed to each subscription, and what the audit names; in memory from `alloc`.
 ///
 /// # Errors
-/// [`VerifyFault::BadHistory`] with the position of the first entry that may not stand where it does; or
-/// [`VerifyFault::OutOfMemory`].
+/// [`Fault::BadHistory`] with the position of the first entry that may not stand where it does; or
+/// [`Fault::OutOfMemory`].
 ///
 /// # Examples
 ///
@@ -32,7 +32,7 @@ ghost use Rattle.history_verify.specs.Answers.{IsVerified, NamesFirst};
 /// second one is not:
 ///
 /// ```rust
-/// use history_verify::{VerifyFault, verify};
+/// use history_verify::{Fault, verify};
 /// use journal_files::decode;
 ///
 /// let file: &[u8] =
@@ -51,9 +51,9 @@ ghost use Rattle.history_verify.specs.Answers.{IsVerified, NamesFirst};
 ///     b"IPMJ\x00\x01\x00\x00\x00\x00\x00\x00\x00\x01\x02\x00\x00\x00\x00\x00\x00\x00\x01";
 /// let journal = decode(alloc, file)?;
 /// let fault = verify(alloc, &journal).err();
-/// assert!(rt; fault == Some(VerifyFault::BadHistory { position: 0 }));
+/// assert!(rt; fault == Some(Fault::BadHistory { position: 0 }));
 /// ```
-pub fn verify(alloc: Global, journal: &Journal) -> Result<Verified, VerifyFault>
+pub fn verify(alloc: Global, journal: &Journal) -> Result<Verified, Fault>
     ensures ok { IfOk result (IsVerified true journal.now.entries) }
     ensures err { IfErr result (λ e. NamesFirst e journal.now.entries) }
 {

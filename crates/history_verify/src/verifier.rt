@@ -2,9 +2,9 @@
 ghost use Rattle.std.specs.Prelude.{◌≡◌, ◌∷◌, ◌++◌, ◌+◌, ◌<◌, [], ℕ, List, length, Option, Some, None, IfSome, IfOk, IfErr, OnOk, OnErr};
 ghost use Rattle.event_journal.specs.declared.entry.Entry.{Entry as OneEntry};
 ghost use Rattle.event_journal.specs.declared.entry.Entry.TheVariants.{Message, Advance, Cut};
-ghost use Rattle.history_verify.specs.declared.fault.VerifyFault.TheVariants.{OutOfMemory};
+ghost use Rattle.history_verify.specs.declared.fault.Fault.TheVariants.{OutOfMemory};
 
-use crate::fault::VerifyFault;
+use crate::fault::Fault;
 use crate::replay::Replay;
 use crate::verified::Verified;
 use bytes::Bytes;
@@ -56,9 +56,9 @@ impl Verifier {
     /// Takes `entry` as the next one of the history.
     ///
     /// # Errors
-    /// [`VerifyFault::BadHistory`] with the position of the first entry that may not stand where it does: this one, or
-    /// a cut that waits; or [`VerifyFault::OutOfMemory`]. Nothing has changed then.
-    pub fn feed(&mut self, entry: &Entry) -> Result<(), VerifyFault>
+    /// [`Fault::BadHistory`] with the position of the first entry that may not stand where it does: this one, or
+    /// a cut that waits; or [`Fault::OutOfMemory`]. Nothing has changed then.
+    pub fn feed(&mut self, entry: &Entry) -> Result<(), Fault>
         requires short { IsFedShort self.old }
         // The entry is taken, or it is told which entry may not stand where it does.
         ensures ok { OnOk result ((h : List OneEntry) → IsFed self.old h
@@ -104,9 +104,9 @@ impl Verifier {
     /// Ends the history, and answers what it disclosed, and what its audit names, where that is wanted.
     ///
     /// # Errors
-    /// [`VerifyFault::BadHistory`] with the position of the first cut that waits, where the history ends in cuts:
+    /// [`Fault::BadHistory`] with the position of the first cut that waits, where the history ends in cuts:
     /// nothing bears it out.
-    pub fn finish(self) -> Result<Verified, VerifyFault>
+    pub fn finish(self) -> Result<Verified, Fault>
         requires short { IsFedShort self }
         ensures ok { IfOk result (λ v. (h : List OneEntry) → IsFed self h
             → IsVerified (keeps_audit self) h v) }
@@ -121,14 +121,14 @@ impl Verifier {
     ///
     /// # Errors
     /// `BadHistory` with the position of the first cut that waits.
-    fn none_wait(&self) -> Result<(), VerifyFault>
+    fn none_wait(&self) -> Result<(), Fault>
         requires short { IsFedShort self.now }
         ensures waiting { OnOk result (self.now.replay.waiting.items ≡ []) }
         ensures behind { OnOk result (self.now.behind ≡ 0) }
         ensures err { IfErr result (λ e. NamesWaiting e self.now) }
     {
         if self.replay.waiting() > 0 || self.behind > 0 {
-            return Err(VerifyFault::BadHistory {
+            return Err(Fault::BadHistory {
                 position: self.replay.first_waiting(),
             });
         }
@@ -139,7 +139,7 @@ impl Verifier {
     ///
     /// # Errors
     /// Want of memory, and then nothing has changed.
-    fn cut(&mut self, sub: u64) -> Result<(), VerifyFault>
+    fn cut(&mut self, sub: u64) -> Result<(), Fault>
         requires short { IsFedShort self.old }
         // The cut is taken, and waits for what bears it out.
         ensures ok { OnOk result ((h : List OneEntry) → IsFed self.old h
@@ -164,7 +164,7 @@ impl Verifier {
     /// # Errors
     /// `BadHistory` with the position of the first entry that may not stand where it does; or want of memory. Nothing
     /// has changed then.
-    fn message(&mut self, session: u64, number: u64, octets: &Bytes) -> Result<(), VerifyFault>
+    fn message(&mut self, session: u64, number: u64, octets: &Bytes) -> Result<(), Fault>
         requires short { IsFedShort self.old }
         // The entry is taken, or it is told which entry may not stand where it does.
         ensures ok { OnOk result ((h : List OneEntry) → IsFed self.old h
@@ -189,7 +189,7 @@ impl Verifier {
     /// # Errors
     /// `BadHistory` with the position of the first entry that may not stand where it does; or want of memory. Nothing
     /// has changed then.
-    fn advance(&mut self, t: u64) -> Result<(), VerifyFault>
+    fn advance(&mut self, t: u64) -> Result<(), Fault>
         requires short { IsFedShort self.old }
         // The entry is taken, or it is told which entry may not stand where it does.
         ensures ok { OnOk result ((h : List OneEntry) → IsFed self.old h
@@ -216,7 +216,7 @@ impl Verifier {
     /// # Errors
     /// `BadHistory` with the position of that one, or of the cut behind those that wait which may not stand where it
     /// does.
-    fn borne_out(&self, unborne: Option<usize>) -> Result<(), VerifyFault>
+    fn borne_out(&self, unborne: Option<usize>) -> Result<(), Fault>
         requires short { IsFedShort self.now }
         requires within { IfSome unborne (λ place. place < length self.now.replay.waiting.items) }
         // Answered Ok, all cuts that wait are borne out, and none stands behind them that may not.
@@ -226,12 +226,12 @@ impl Verifier {
         ensures err { IfErr result (λ e. NamesUnborne e self.now unborne) }
     {
         match unborne {
-            Some(place) => Err(VerifyFault::BadHistory {
+            Some(place) => Err(Fault::BadHistory {
                 position: self.replay.first_waiting() + place as u64,
             }),
             None => {
                 if self.behind > 0 {
-                    return Err(VerifyFault::BadHistory {
+                    return Err(Fault::BadHistory {
                         position: self.replay.position(),
                     });
                 }

@@ -5,8 +5,8 @@ use Rattle.ipfix_element.specs.declared.registry.Entry.{Entry}
 use Rattle.ipfix_element.specs.Registry.{Registered, line, line_of}
 
 -- what the code says of a number, as a line
-abbrev pub shown : ℕ → Entry → Registered
-shown number entry = line number entry.kind entry.name.now
+abbrev pub as_line : ℕ → Entry → Registered
+as_line number entry = line number entry.kind entry.name.now
 
 -- the registry has the number under this name
 abbrev pub IsLineName : ℕ → List ℕ → Type 0

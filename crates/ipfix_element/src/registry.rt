@@ -2,7 +2,7 @@
 ghost use Rattle.std.specs.Prelude.{◌≡◌, option_map};
 ghost use Rattle.ipfix_element.specs.Kinds.{kind_of};
 ghost use Rattle.ipfix_element.specs.Registry.{line_of, line_for};
-ghost use Rattle.ipfix_element.specs.Lines.{shown};
+ghost use Rattle.ipfix_element.specs.Lines.{as_line};
 
 use crate::element_id::ElementId;
 use crate::kind::Kind;
@@ -34,7 +34,7 @@ pub fn kind_of(element: ElementId) -> Kind
 
 /// The registry's entry for an element. An enterprise's has none, also where its number has.
 pub(crate) fn entry_for(element: ElementId) -> Option<Entry>
-    ensures { option_map (shown element.number) result ≡ line_for element.pen element.number }
+    ensures { option_map (as_line element.number) result ≡ line_for element.pen element.number }
 {
     match element.pen() {
         Some(_) => None,
@@ -51,7 +51,7 @@ pub(crate) static NUMBERS: [u16; 35] = [
 /// The registry's entry for a number.
 #[tactic(auto, unfolding(crate::specs::Registry::registry))]
 pub(crate) fn entry_of(number: u16) -> Option<Entry>
-    ensures { option_map (shown number) result ≡ line_of number }
+    ensures { option_map (as_line number) result ≡ line_of number }
 {
     match number {
         1 => Some(Entry::new(Kind::U64, "octetDeltaCount")),

@@ -6,8 +6,8 @@ use Rattle.std.proofs.Math.Seq.{take-add}
 use Rattle.std.proofs.lemmas.List.Elements.{All-append, All-nil, All-cons}
 use Rattle.std.specs.Prelude.{MatchOption}
 use Rattle.sequences.proofs.ListLaws.{concat_push}
-use Rattle.ipfix_message.specs.declared.frame_error.FrameError.{FrameError}
-use Rattle.ipfix_message.specs.declared.frame_error.FrameError.TheVariants.{BadVersion, BadLength, OutOfMemory}
+use Rattle.ipfix_message.specs.declared.fault.Fault.{Fault}
+use Rattle.ipfix_message.specs.declared.fault.Fault.TheVariants.{ShortHeader, BadVersion, BadLength, BadSetLength, TemplateOverrun, OutOfMemory}
 use Rattle.ipfix_message.specs.declared.framer.scan.Front.{Front}
 use Rattle.ipfix_message.specs.declared.framer.scan.Front.TheVariants.{Partial, Whole, Faulty}
 use Rattle.ipfix_message.specs.declared.framer.scan.Extent.{Extent}
@@ -80,34 +80,37 @@ extent_framed octets left e out x are ends =
 framing_continues : (old new : FramerState) (piece held : List ℕ) (out : List (List ℕ)) → old.fault ≡ None → held ≡ old.pending ++ piece → IsFramed held out new.fault new.pending → Continues old piece out new
 framing_continues old new piece held out none e framed = record {
   after = λ fed messages before.
-      framed_on fed piece old.pending new.pending messages out new.fault (subst (λ (fault : Option FrameError). IsFramed fed messages fault old.pending) none before)
+      framed_on fed piece old.pending new.pending messages out new.fault (subst (λ (fault : Option Fault). IsFramed fed messages fault old.pending) none before)
       (subst (λ (octets : List ℕ). IsFramed octets out new.fault new.pending) e framed);
 }
 
 -- a piece without a fault
 pub goes_on : (old new : FramerState) (piece held : List ℕ) (e : Extent) (out : List (List ℕ)) → old.fault ≡ None → held ≡ old.pending ++ piece → IsExtent held e → AreCut (take e.whole held) out → e.fault ≡ None → new.fault ≡ None → new.pending ≡ drop e.whole held → Continues old piece out new
 goes_on old new piece held e out none is x are clear after left =
-    let partial : IsPartial (drop e.whole held) = subst (λ (fault : Option FrameError). MatchOption fault (IsPartial (drop e.whole held)) (λ w. IsFaulty w (drop e.whole held))) clear x.ends in
-    let ends : EndsWith e.fault new.pending (drop e.whole held) = subst (λ (fault : Option FrameError). EndsWith fault new.pending (drop e.whole held)) (sym clear) (sym left, partial) in
+    let partial : IsPartial (drop e.whole held) = subst (λ (fault : Option Fault). MatchOption fault (IsPartial (drop e.whole held)) (λ w. IsFaulty w (drop e.whole held))) clear x.ends in
+    let ends : EndsWith e.fault new.pending (drop e.whole held) = subst (λ (fault : Option Fault). EndsWith fault new.pending (drop e.whole held)) (sym clear) (sym left, partial) in
     framing_continues old new piece held out none is
-    (subst (λ (fault : Option FrameError). IsFramed held out fault new.pending) (clear ∙ sym after) (extent_framed held new.pending e out x are ends))
+    (subst (λ (fault : Option Fault). IsFramed held out fault new.pending) (clear ∙ sym after) (extent_framed held new.pending e out x are ends))
 
 -- a piece with a fault
-pub stops : (old new : FramerState) (piece held : List ℕ) (e : Extent) (out : List (List ℕ)) (why : FrameError) → old.fault ≡ None → held ≡ old.pending ++ piece → IsExtent held e → AreCut (take e.whole held) out → e.fault ≡ Some why → new.fault ≡ Some why → new.pending ≡ [] → Continues old piece out new
+pub stops : (old new : FramerState) (piece held : List ℕ) (e : Extent) (out : List (List ℕ)) (why : Fault) → old.fault ≡ None → held ≡ old.pending ++ piece → IsExtent held e → AreCut (take e.whole held) out → e.fault ≡ Some why → new.fault ≡ Some why → new.pending ≡ [] → Continues old piece out new
 stops old new piece held e out why none is x are found after left =
-    let faulty : IsFaulty why (drop e.whole held) = subst (λ (fault : Option FrameError). MatchOption fault (IsPartial (drop e.whole held)) (λ w. IsFaulty w (drop e.whole held))) found x.ends in
-    let ends : EndsWith e.fault new.pending (drop e.whole held) = subst (λ (fault : Option FrameError). EndsWith fault new.pending (drop e.whole held)) (sym found) (left, faulty) in
+    let faulty : IsFaulty why (drop e.whole held) = subst (λ (fault : Option Fault). MatchOption fault (IsPartial (drop e.whole held)) (λ w. IsFaulty w (drop e.whole held))) found x.ends in
+    let ends : EndsWith e.fault new.pending (drop e.whole held) = subst (λ (fault : Option Fault). EndsWith fault new.pending (drop e.whole held)) (sym found) (left, faulty) in
     framing_continues old new piece held out none is
-    (subst (λ (fault : Option FrameError). IsFramed held out fault new.pending) (found ∙ sym after) (extent_framed held new.pending e out x are ends))
+    (subst (λ (fault : Option Fault). IsFramed held out fault new.pending) (found ∙ sym after) (extent_framed held new.pending e out x are ends))
 
 -- a piece with a fault before any message
-fails_by : (old new : FramerState) (piece : List ℕ) (why : FrameError) (tail : List ℕ) → IsFaulty why tail → old.fault ≡ None → new.fault ≡ Some why → Continues old piece [] new → FailsBy why old piece new
+fails_by : (old new : FramerState) (piece : List ℕ) (why : Fault) (tail : List ℕ) → IsFaulty why tail → old.fault ≡ None → new.fault ≡ Some why → Continues old piece [] new → FailsBy why old piece new
 fails_by old new piece BadVersion tail faulty none after c = inr (none, after, c)
 fails_by old new piece BadLength tail faulty none after c = inr (none, after, c)
+fails_by old new piece ShortHeader tail faulty none after c = absurd faulty
+fails_by old new piece BadSetLength tail faulty none after c = absurd faulty
+fails_by old new piece TemplateOverrun tail faulty none after c = absurd faulty
 fails_by old new piece OutOfMemory tail faulty none after c = absurd faulty
 
-pub stops_at_once : (old new : FramerState) (piece held : List ℕ) (e : Extent) (out : List (List ℕ)) (why : FrameError) → old.fault ≡ None → held ≡ old.pending ++ piece → IsExtent held e → AreCut (take e.whole held) out → e.fault ≡ Some why → new.fault ≡ Some why → new.pending ≡ [] → out ≡ [] → FailsBy why old piece new
+pub stops_at_once : (old new : FramerState) (piece held : List ℕ) (e : Extent) (out : List (List ℕ)) (why : Fault) → old.fault ≡ None → held ≡ old.pending ++ piece → IsExtent held e → AreCut (take e.whole held) out → e.fault ≡ Some why → new.fault ≡ Some why → new.pending ≡ [] → out ≡ [] → FailsBy why old piece new
 stops_at_once old new piece held e out why none is x are found after left nothing =
-    let faulty : IsFaulty why (drop e.whole held) = subst (λ (fault : Option FrameError). MatchOption fault (IsPartial (drop e.whole held)) (λ w. IsFaulty w (drop e.whole held))) found x.ends in
+    let faulty : IsFaulty why (drop e.whole held) = subst (λ (fault : Option Fault). MatchOption fault (IsPartial (drop e.whole held)) (λ w. IsFaulty w (drop e.whole held))) found x.ends in
     fails_by old new piece why (drop e.whole held) faulty none after
     (subst (λ (messages : List (List ℕ)). Continues old piece messages new) nothing (stops old new piece held e out why none is x are found after left))

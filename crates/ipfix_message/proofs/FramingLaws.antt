@@ -6,8 +6,8 @@ use Rattle.std.proofs.Math.Seq.{take-append_seam}
 use Rattle.std.proofs.lemmas.List.Elements.{All-append, All-tail}
 use Rattle.std.proofs.lemmas.List.Folds.{concat-append}
 use Rattle.sequences.specs.Octets.{number_at, be_value}
-use Rattle.ipfix_message.specs.declared.frame_error.FrameError.{FrameError}
-use Rattle.ipfix_message.specs.declared.frame_error.FrameError.TheVariants.{BadVersion, BadLength, OutOfMemory}
+use Rattle.ipfix_message.specs.declared.fault.Fault.{Fault}
+use Rattle.ipfix_message.specs.declared.fault.Fault.TheVariants.{ShortHeader, BadVersion, BadLength, BadSetLength, TemplateOverrun, OutOfMemory}
 use Rattle.ipfix_message.specs.Framing.{version_of, length_of, IsWhole, IsPartial, IsFaulty, EndsWith, IsFramed, IsFramedOnce}
 
 -- a number that lies in the first octets is the same whatever follows them
@@ -35,16 +35,19 @@ whole_is_not_partial m rest w p =
     let short : length (m ++ rest) < length_of (m ++ rest) = p.short (omega arith) in
     omega arith
 
-whole_is_not_faulty : (fault : FrameError) (m rest : List ℕ) → IsWhole m → IsFaulty fault (m ++ rest) → ⊥
+whole_is_not_faulty : (fault : Fault) (m rest : List ℕ) → IsWhole m → IsFaulty fault (m ++ rest) → ⊥
 whole_is_not_faulty BadVersion m rest w f = f.1 (version_of-whole m rest w)
 whole_is_not_faulty BadLength m rest w f =
     let least : 16 ≤ length m = w.least in
     let said : length_of (m ++ rest) ≡ length m = length_of-whole m rest w in
     let under : length_of (m ++ rest) < 16 = f.2 in
     omega arith
+whole_is_not_faulty ShortHeader m rest w f = f
+whole_is_not_faulty BadSetLength m rest w f = f
+whole_is_not_faulty TemplateOverrun m rest w f = f
 whole_is_not_faulty OutOfMemory m rest w f = f
 
-whole_is_no_end : (fault : Option FrameError) (pending m rest : List ℕ) → IsWhole m → EndsWith fault pending (m ++ rest) → ⊥
+whole_is_no_end : (fault : Option Fault) (pending m rest : List ℕ) → IsWhole m → EndsWith fault pending (m ++ rest) → ⊥
 whole_is_no_end None pending m rest w h = whole_is_not_partial m rest w h.1
 whole_is_no_end (Some fault) pending m rest w h = whole_is_not_faulty fault m rest w h.1
 
@@ -58,17 +61,23 @@ same_message m rest n left e w v =
     ∙ take-append_seam n left
 
 -- a tail ends a stream in one way
-ends_once : (fault other : Option FrameError) (pending left tail : List ℕ) → EndsWith fault pending tail → EndsWith other left tail → (fault ≡ other) × (pending ≡ left)
+ends_once : (fault other : Option Fault) (pending left tail : List ℕ) → EndsWith fault pending tail → EndsWith other left tail → (fault ≡ other) × (pending ≡ left)
 ends_once None None pending left tail h k = (refl, sym h.0 ∙ k.0)
 ends_once None (Some BadVersion) pending left tail h k = absurd (k.1.1 (h.1.version k.1.0))
 ends_once None (Some BadLength) pending left tail h k =
     let least : 16 ≤ length_of tail = h.1.least k.1.0 in
     let under : length_of tail < 16 = k.1.2 in
     absurd (omega arith)
+ends_once None (Some ShortHeader) pending left tail h k = absurd k.1
+ends_once None (Some BadSetLength) pending left tail h k = absurd k.1
+ends_once None (Some TemplateOverrun) pending left tail h k = absurd k.1
 ends_once None (Some OutOfMemory) pending left tail h k = absurd k.1
 ends_once (Some BadVersion) None pending left tail h k = absurd (h.1.1 (k.1.version h.1.0))
 ends_once (Some BadVersion) (Some BadVersion) pending left tail h k = (refl, h.0 ∙ sym k.0)
 ends_once (Some BadVersion) (Some BadLength) pending left tail h k = absurd (h.1.1 k.1.1)
+ends_once (Some BadVersion) (Some ShortHeader) pending left tail h k = absurd k.1
+ends_once (Some BadVersion) (Some BadSetLength) pending left tail h k = absurd k.1
+ends_once (Some BadVersion) (Some TemplateOverrun) pending left tail h k = absurd k.1
 ends_once (Some BadVersion) (Some OutOfMemory) pending left tail h k = absurd k.1
 ends_once (Some BadLength) None pending left tail h k =
     let least : 16 ≤ length_of tail = k.1.least h.1.0 in
@@ -76,11 +85,17 @@ ends_once (Some BadLength) None pending left tail h k =
     absurd (omega arith)
 ends_once (Some BadLength) (Some BadVersion) pending left tail h k = absurd (k.1.1 h.1.1)
 ends_once (Some BadLength) (Some BadLength) pending left tail h k = (refl, h.0 ∙ sym k.0)
+ends_once (Some BadLength) (Some ShortHeader) pending left tail h k = absurd k.1
+ends_once (Some BadLength) (Some BadSetLength) pending left tail h k = absurd k.1
+ends_once (Some BadLength) (Some TemplateOverrun) pending left tail h k = absurd k.1
 ends_once (Some BadLength) (Some OutOfMemory) pending left tail h k = absurd k.1
+ends_once (Some ShortHeader) other pending left tail h k = absurd h.1
+ends_once (Some BadSetLength) other pending left tail h k = absurd h.1
+ends_once (Some TemplateOverrun) other pending left tail h k = absurd h.1
 ends_once (Some OutOfMemory) other pending left tail h k = absurd h.1
 
 -- whole messages, and then no further one: the messages and what follows them are determined
-messages_once : (messages others : List (List ℕ)) (fault other : Option FrameError) (pending left tail rest : List ℕ) → concat messages ++ tail ≡ concat others ++ rest → All IsWhole messages → All IsWhole others → EndsWith fault pending tail → EndsWith other left rest → (messages ≡ others) × (tail ≡ rest)
+messages_once : (messages others : List (List ℕ)) (fault other : Option Fault) (pending left tail rest : List ℕ) → concat messages ++ tail ≡ concat others ++ rest → All IsWhole messages → All IsWhole others → EndsWith fault pending tail → EndsWith other left rest → (messages ≡ others) × (tail ≡ rest)
 messages_once [] [] fault other pending left tail rest e ws vs h k = (refl, e)
 messages_once [] (n ∷ others) fault other pending left tail rest e ws vs h k =
     let v : IsWhole n = vs 0 n (omega arith) in
@@ -107,7 +122,7 @@ framed_once octets messages others fault other pending left a b =
     (same.0, end.0, end.1)
 
 -- what is pending, and then a piece, is framed on its own: the messages come after those before
-pub framed_on : (fed piece pending left : List ℕ) (messages out : List (List ℕ)) (fault : Option FrameError) → IsFramed fed messages None pending → IsFramed (pending ++ piece) out fault left → IsFramed (fed ++ piece) (messages ++ out) fault left
+pub framed_on : (fed piece pending left : List ℕ) (messages out : List (List ℕ)) (fault : Option Fault) → IsFramed fed messages None pending → IsFramed (pending ++ piece) out fault left → IsFramed (fed ++ piece) (messages ++ out) fault left
 framed_on fed piece pending left messages out fault a b = record {
   tail = b.tail;
   joined =

@@ -5,7 +5,7 @@ use Rattle.std.proofs.Math.Seq.{take-add}
 use Rattle.std.proofs.lemmas.Bool.{ltb-true, ltb-false, eqb-true, or_parts}
 use Rattle.std.proofs.lemmas.List.{take-append-drop, length-take-le, drop-drop, nil_from_length}
 use Rattle.sequences.proofs.SequenceLaws.{read_all-step}
-use Rattle.ipfix_template.specs.Octets.{number_at, IsNumber}
+use Rattle.ipfix_template.specs.Octets.{number_at, IsNumberIn}
 use Rattle.ipfix_template.specs.Sequence.{Front, End, Fault, Next, with_front, read_on, read_all}
 use Rattle.ipfix_template.specs.declared.field.FieldSpec.{FieldSpec}
 use Rattle.ipfix_template.specs.declared.template.Template.{Template}
@@ -15,12 +15,12 @@ use Rattle.sequences.proofs.ResultLaws.{same_Ok}
 use Rattle.std.proofs.lemmas.Option.{none-some, same_Some}
 use Rattle.ipfix_message.proofs.ReadingSteps.{read_items, read_head}
 use Rattle.ipfix_message.specs.declared.header.Header.{Header}
-use Rattle.ipfix_message.specs.declared.decode_error.DecodeError.{DecodeError}
-use Rattle.ipfix_message.specs.declared.decode_error.DecodeError.TheVariants.{ShortHeader, BadVersion, BadLength, BadSetLength}
+use Rattle.ipfix_message.specs.declared.fault.Fault.{Fault as DecodeError}
+use Rattle.ipfix_message.specs.declared.fault.Fault.TheVariants.{ShortHeader, BadVersion, BadLength, BadSetLength}
 use Rattle.ipfix_message.specs.declared.item.Item.{Item}
 use Rattle.ipfix_message.specs.declared.item.Item.TheVariants as items
 use Rattle.ipfix_message.specs.Records.{bare_item, template_item}
-use Rattle.ipfix_message.specs.Grammar.{IsSpecifier, AreSpecifiers, IsBody, IsTemplateRecord, AreTemplateRecords, IsContent, IsSet, AreSets, IsHeader, IsMessage}
+use Rattle.ipfix_message.specs.Grammar.{SpellsSpecifier, AreSpecifiers, IsBody, IsTemplateRecord, AreTemplateRecords, IsContent, IsSet, AreSets, IsHeader, IsMessage}
 use Rattle.ipfix_message.specs.Reading.{header_of, read_header, field_at, fields_at, scoped_at, template_at, found_template, template_front, set_items, found_set, set_front, after_header, items_of}
 use Rattle.ipfix_message.proofs.Shrinks.{template_takes, set_takes}
 
@@ -32,13 +32,13 @@ chosen false x y z e = inr (refl, e)
 -- ---- numbers
 
 -- the octets of a number that is there
-number_here : (place width : ℕ) (octets : List ℕ) → place + width ≤ length octets → IsNumber width (take width (drop place octets)) (number_at place width octets)
+number_here : (place width : ℕ) (octets : List ℕ) → place + width ≤ length octets → IsNumberIn width (take width (drop place octets)) (number_at place width octets)
 number_here place width octets fits = record { wide = length-take-le width (drop place octets) (omega (arith, length-drop place octets)); value = refl }
 
 -- ---- Field Specifiers
 
 abbrev IsField : List ℕ → FieldSpec × List ℕ → Type 0
-IsField octets found = (text : List ℕ) × (octets ≡ text ++ found.1) × IsSpecifier text found.0
+IsField octets found = (text : List ℕ) × (octets ≡ text ++ found.1) × SpellsSpecifier text found.0
 
 plain_found : (octets : List ℕ) → 4 ≤ length octets → number_at 0 2 octets < 32768 → IsField octets (record { element = record { pen = None; number = number_at 0 2 octets }; length = number_at 2 2 octets }, drop 4 octets)
 plain_found octets four small = (

@@ -4,7 +4,7 @@ use Rattle.std.specs.Prelude.{MatchBool}
 use Rattle.std.proofs.lemmas.Bool.{lt-ltb, le-ltb, eq-eqb, ne_eqb}
 use Rattle.std.proofs.lemmas.List.{take_at, drop_at}
 use Rattle.sequences.proofs.SequenceLaws.{read_all-step}
-use Rattle.ipfix_template.specs.Octets.{be_value, number_at, IsNumber}
+use Rattle.ipfix_template.specs.Octets.{be_value, number_at, IsNumberIn}
 use Rattle.ipfix_template.specs.Sequence.{Front, End, Next, with_front, read_on, read_all}
 use Rattle.ipfix_template.specs.declared.field.FieldSpec.{FieldSpec}
 use Rattle.ipfix_template.specs.declared.template.Template.{Template}
@@ -12,22 +12,22 @@ use Rattle.ipfix_template.specs.SameTemplate.{field_of}
 use Rattle.ipfix_message.proofs.FieldSteps.{found_fields}
 use Rattle.ipfix_message.proofs.ReadingSteps.{read_items, read_head}
 use Rattle.ipfix_message.specs.declared.header.Header.{Header}
-use Rattle.ipfix_message.specs.declared.decode_error.DecodeError.{DecodeError}
+use Rattle.ipfix_message.specs.declared.fault.Fault.{Fault}
 use Rattle.ipfix_message.specs.declared.item.Item.{Item}
 use Rattle.ipfix_message.specs.declared.item.Item.TheVariants as items
 use Rattle.ipfix_message.specs.Records.{bare_item, template_item}
-use Rattle.ipfix_message.specs.Grammar.{IsSpecifierOf, IsSpecifier, AreSpecifiers, IsBody, IsTemplateRecord, AreTemplateRecords, IsContent, IsSet, AreSets, IsHeader, IsMessage}
+use Rattle.ipfix_message.specs.Grammar.{IsSpecifierOf, SpellsSpecifier, AreSpecifiers, IsBody, IsTemplateRecord, AreTemplateRecords, IsContent, IsSet, AreSets, IsHeader, IsMessage}
 use Rattle.ipfix_message.specs.Reading.{read_header, field_at, fields_at, scoped_at, template_at, found_template, template_front, set_items, set_front, items_of}
 use Rattle.ipfix_message.proofs.Shrinks.{template_takes, set_takes}
 
 -- ---- numbers
 
 -- the number at the front
-pub first_number : (width n : ℕ) (a rest : List ℕ) → IsNumber width a n → number_at 0 width (a ++ rest) ≡ n
+pub first_number : (width n : ℕ) (a rest : List ℕ) → IsNumberIn width a n → number_at 0 width (a ++ rest) ≡ n
 first_number width n a rest is = ap be_value (take_at a rest width is.wide) ∙ is.value
 
 -- the number behind so many octets
-pub next_number : (place width n : ℕ) (before a rest : List ℕ) → length before ≡ place → IsNumber width a n → number_at place width (before ++ (a ++ rest)) ≡ n
+pub next_number : (place width n : ℕ) (before a rest : List ℕ) → length before ≡ place → IsNumberIn width a n → number_at place width (before ++ (a ++ rest)) ≡ n
 next_number place width n before a rest wide is =
     ap (λ (t : List ℕ). be_value (take width t)) (drop_at before (a ++ rest) place wide) ∙ first_number width n a rest is
 
@@ -71,7 +71,7 @@ field_by : (pen : Option ℕ) (octets rest : List ℕ) (number len : ℕ) → Is
 field_by None octets rest number len is = plain_only octets rest number len is
 field_by (Some pen) octets rest number len is = enterprise_only octets rest pen number len is
 
-field_only : (f : FieldSpec) (octets rest : List ℕ) → IsSpecifier octets f → field_at (octets ++ rest) ≡ found_field f rest
+field_only : (f : FieldSpec) (octets rest : List ℕ) → SpellsSpecifier octets f → field_at (octets ++ rest) ≡ found_field f rest
 field_only f octets rest is = field_by f.element.pen octets rest f.element.number f.length is
 
 fields_only : (fs : List FieldSpec) (octets rest : List ℕ) → AreSpecifiers octets fs → fields_at (length fs) (octets ++ rest) ≡ found_fields fs rest
@@ -99,7 +99,7 @@ body_only true t octets rest is =
     let enough : ltb (length (is.0 ++ (is.1 ++ rest))) 2 ≡ false = le-ltb _ _ (omega (arith, length-append is.0 (is.1 ++ rest), is.3.wide)) in
     rw (joined, enough, first_number 2 t.scope is.0 (is.1 ++ rest) is.3, drop_at is.0 (is.1 ++ rest) 2 is.3.wide) (scoped_only t is.1 rest is.4)
 
-abbrev next_item : Item → List ℕ → Front Item DecodeError
+abbrev next_item : Item → List ℕ → Front Item Fault
 next_item item rest = Next (item ∷ []) rest
 
 by_count : (options : Bool) (id count : ℕ) (body rest : List ℕ) (item : Item) (none : Bool) → eqb count 0 ≡ none → MatchBool none ((body ≡ []) × (item ≡ bare_item options id)) ((t : Template) × (length t.fields ≡ count) × IsBody options body t × (item ≡ template_item options id t))
@@ -159,7 +159,7 @@ content_by id place content found false false false a b c is = rw (a, b, c) (ap 
 content_only : (id place : ℕ) (content : List ℕ) (found : List Item) → IsContent id place content found → set_items id place content ≡ read_items found
 content_only id place content found is = content_by id place content found (eqb id 2) (eqb id 3) (ltb id 256) refl refl refl is
 
-abbrev next_items : List Item → List ℕ → Front Item DecodeError
+abbrev next_items : List Item → List ℕ → Front Item Fault
 next_items found rest = Next found rest
 
 set_only : (total place : ℕ) (octets rest : List ℕ) (found : List Item) → total ≡ place + length (octets ++ rest) → IsSet place octets found → set_front total (octets ++ rest) ≡ next_items found rest

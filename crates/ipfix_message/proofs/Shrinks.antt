@@ -7,7 +7,7 @@ use Rattle.ipfix_template.specs.Sequence.{TakesSome}
 use Rattle.ipfix_template.specs.declared.template.Template.{Template}
 use Rattle.sequences.specs.Options.{◌>>=◌}
 use Rattle.sequences.proofs.SequenceLaws.{Lessens, takes_some}
-use Rattle.ipfix_message.specs.declared.decode_error.DecodeError.{DecodeError}
+use Rattle.ipfix_message.specs.declared.fault.Fault.{Fault}
 use Rattle.ipfix_message.specs.declared.item.Item.{Item}
 use Rattle.ipfix_message.specs.Reading.{field_at, fields_at, scoped_at, template_at, found_template, template_front, set_items, found_set, set_front}
 
@@ -71,7 +71,7 @@ set_takes total =
     (λ _. cond_both (ltb (length octets) 4) _ _ (Lessens (length octets)) (λ _. tt)
     (λ _. cond_both (ltb (number_at 2 2 octets) 4 || ltb (length octets) (number_at 2 2 octets)) _ _ (Lessens (length octets)) (λ _. tt)
     (λ fits. found octets (set_items (number_at 0 2 octets) (total - length octets + 4) (take (number_at 2 2 octets - 4) (drop 4 octets))) fits)))) where
-      found : (octets : List ℕ) (r : Result (List Item) DecodeError) → (ltb (number_at 2 2 octets) 4 || ltb (length octets) (number_at 2 2 octets)) ≡ false → Lessens (length octets) (found_set r (drop (number_at 2 2 octets) octets))
+      found : (octets : List ℕ) (r : Result (List Item) Fault) → (ltb (number_at 2 2 octets) 4 || ltb (length octets) (number_at 2 2 octets)) ≡ false → Lessens (length octets) (found_set r (drop (number_at 2 2 octets) octets))
       found octets (Err e) fits = tt
       found octets (Ok items) fits =
           let both = or_parts (ltb (number_at 2 2 octets) 4) (ltb (length octets) (number_at 2 2 octets)) fits in

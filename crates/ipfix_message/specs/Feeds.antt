@@ -1,30 +1,33 @@
 -- A stream that comes in pieces, whatever they are.
 use Rattle.std.specs.Prelude.{◌≡◌, ℕ, List, [], ◌∷◌, ◌++◌, Result, Ok, Err, IfOk, IfErr}
-use Rattle.ipfix_message.specs.declared.frame_error.FrameError.{FrameError}
-use Rattle.ipfix_message.specs.declared.frame_error.FrameError.TheVariants.{BadVersion, BadLength, OutOfMemory}
+use Rattle.ipfix_message.specs.declared.fault.Fault.{Fault}
+use Rattle.ipfix_message.specs.declared.fault.Fault.TheVariants.{ShortHeader, BadVersion, BadLength, BadSetLength, TemplateOverrun, OutOfMemory}
 use Rattle.ipfix_message.specs.Framing.{IsFramed}
-use Rattle.ipfix_message.specs.FramerState.{FramerState, nothing_fed, GoesOn, FailsBy}
+use Rattle.ipfix_message.specs.FramerState.{FramerState, nothing_fed, FeedGoesOn, FailsBy}
 
 -- a call of feed: its piece, and what it answered
 pub record Feed : Type 0 where
   pub piece : List ℕ
-  pub answer : Result (List (List ℕ)) FrameError
+  pub answer : Result (List (List ℕ)) Fault
 
 -- what a call does: what the contract of feed says in `ok` and `err`
-pub record IsFed (old : FramerState) (f : Feed) (new : FramerState) : Type 0 where
-  pub ok : IfOk f.answer (λ out. GoesOn old f.piece out new)
+pub record Feeds (old : FramerState) (f : Feed) (new : FramerState) : Type 0 where
+  pub ok : IfOk f.answer (λ out. FeedGoesOn old f.piece out new)
   pub err : IfErr f.answer (λ e. FailsBy e old f.piece new)
 
 -- calls, one after another
 abbrev pub AreFed : FramerState → List Feed → FramerState → Type 0
 AreFed old [] new = new ≡ old
-AreFed old (f ∷ feeds) new = (between : FramerState) × IsFed old f between × AreFed between feeds new
+AreFed old (f ∷ feeds) new = (between : FramerState) × Feeds old f between × AreFed between feeds new
 
 -- a piece that is refused for memory is no part of the stream
-abbrev pub octets_taken : Result (List (List ℕ)) FrameError → List ℕ → List ℕ
+abbrev pub octets_taken : Result (List (List ℕ)) Fault → List ℕ → List ℕ
 octets_taken (Ok out) piece = piece
 octets_taken (Err BadVersion) piece = piece
 octets_taken (Err BadLength) piece = piece
+octets_taken (Err ShortHeader) piece = piece
+octets_taken (Err BadSetLength) piece = piece
+octets_taken (Err TemplateOverrun) piece = piece
 octets_taken (Err OutOfMemory) piece = []
 
 -- the stream: the pieces joined
@@ -32,7 +35,7 @@ abbrev pub stream_of : List Feed → List ℕ
 stream_of [] = []
 stream_of (f ∷ feeds) = octets_taken f.answer f.piece ++ stream_of feeds
 
-abbrev pub messages_in : Result (List (List ℕ)) FrameError → List (List ℕ)
+abbrev pub messages_in : Result (List (List ℕ)) Fault → List (List ℕ)
 messages_in (Ok out) = out
 messages_in (Err e) = []
 

@@ -4,8 +4,8 @@ use Rattle.std.specs.Prelude.{◌≡◌, ◌≢◌, ℕ, ◌<◌, ◌≤◌, Lis
 use Rattle.std.specs.List.{concat, All}
 use Rattle.sequences.specs.Octets.{number_at}
 use Rattle.ipfix_octets.specs.MessageFormat.{ipfix_version, header_octets}
-use Rattle.ipfix_message.specs.declared.frame_error.FrameError.{FrameError}
-use Rattle.ipfix_message.specs.declared.frame_error.FrameError.TheVariants.{BadVersion, BadLength, OutOfMemory}
+use Rattle.ipfix_message.specs.declared.fault.Fault.{Fault}
+use Rattle.ipfix_message.specs.declared.fault.Fault.TheVariants.{ShortHeader, BadVersion, BadLength, BadSetLength, TemplateOverrun, OutOfMemory}
 
 -- the version that a header says: its first two octets (section 3.1)
 abbrev pub version_of : List ℕ → ℕ
@@ -28,18 +28,30 @@ pub record IsPartial (octets : List ℕ) : Type 0 where
   pub short : 4 ≤ length octets → length octets < length_of octets
 
 -- what stands where a message should is this fault, as 4 octets of its header show; the version is judged first
-abbrev pub IsFaulty : FrameError → List ℕ → Type 0
+abbrev pub IsFaulty : Fault → List ℕ → Type 0
 IsFaulty BadVersion octets = (4 ≤ length octets) × (version_of octets ≢ ipfix_version)
 IsFaulty BadLength octets = (4 ≤ length octets) × (version_of octets ≡ ipfix_version) × (length_of octets < header_octets)
+IsFaulty ShortHeader octets = ⊥
+IsFaulty BadSetLength octets = ⊥
+IsFaulty TemplateOverrun octets = ⊥
 IsFaulty OutOfMemory octets = ⊥
 
+-- the faults that a stream may have
+abbrev pub EndsStream : Fault → Type 0
+EndsStream BadVersion = Unit {0}
+EndsStream BadLength = Unit {0}
+EndsStream ShortHeader = ⊥
+EndsStream BadSetLength = ⊥
+EndsStream TemplateOverrun = ⊥
+EndsStream OutOfMemory = ⊥
+
 -- how a stream ends after its whole messages: with no fault, and octets that are pending; or with a fault, and none
-abbrev pub EndsWith : Option FrameError → List ℕ → List ℕ → Type 0
+abbrev pub EndsWith : Option Fault → List ℕ → List ℕ → Type 0
 EndsWith None pending tail = (tail ≡ pending) × IsPartial tail
 EndsWith (Some fault) pending tail = (pending ≡ []) × IsFaulty fault tail
 
 -- the octets are these messages, and then this fault or these octets that are pending
-pub record IsFramed (octets : List ℕ) (messages : List (List ℕ)) (fault : Option FrameError) (pending : List ℕ) : Type 0 where
+pub record IsFramed (octets : List ℕ) (messages : List (List ℕ)) (fault : Option Fault) (pending : List ℕ) : Type 0 where
   pub tail : List ℕ
   pub joined : octets ≡ concat messages ++ tail
   pub each : All IsWhole messages
@@ -48,4 +60,4 @@ pub record IsFramed (octets : List ℕ) (messages : List (List ℕ)) (fault : Op
 -- octets are framed in one way alone
 abbrev pub IsFramedOnce : List ℕ → Type 0
 IsFramedOnce octets =
-    (messages others : List (List ℕ)) (fault other : Option FrameError) (pending left : List ℕ) → IsFramed octets messages fault pending → IsFramed octets others other left → (messages ≡ others) × (fault ≡ other) × (pending ≡ left)
+    (messages others : List (List ℕ)) (fault other : Option Fault) (pending left : List ℕ) → IsFramed octets messages fault pending → IsFramed octets others other left → (messages ≡ others) × (fault ≡ other) × (pending ≡ left)

@@ -10,8 +10,8 @@ use Rattle.sequences.specs.Options.{◌>>=◌}
 use Rattle.sequences.specs.Results.{FailsBut, GivesBut}
 use Rattle.ipfix_message.specs.Records.{bare_item, template_item}
 use Rattle.ipfix_message.specs.declared.header.Header.{Header}
-use Rattle.ipfix_message.specs.declared.decode_error.DecodeError.{DecodeError}
-use Rattle.ipfix_message.specs.declared.decode_error.DecodeError.TheVariants.{ShortHeader, BadVersion, BadLength, BadSetLength, TemplateOverrun, OutOfMemory}
+use Rattle.ipfix_message.specs.declared.fault.Fault.{Fault as DecodeError}
+use Rattle.ipfix_message.specs.declared.fault.Fault.TheVariants.{ShortHeader, BadVersion, BadLength, BadSetLength, TemplateOverrun, OutOfMemory}
 use Rattle.ipfix_message.specs.declared.item.Item.{Item}
 use Rattle.ipfix_message.specs.declared.item.Item.TheVariants as items
 

@@ -1,8 +1,9 @@
 //! A stream of octets, cut into IPFIX messages as its octets come (RFC 7011, sections 3.1 and 10.4).
-ghost use Rattle.std.specs.Prelude.{◌≡◌, ◌≢◌, ◌≤◌, [], length, drop, None, IsSome, IfOk, IfErr};
-ghost use Rattle.ipfix_message.specs.FramerState.{nothing_fed, GoesOn, FailsBy};
+ghost use Rattle.std.specs.Prelude.{◌≡◌, ◌≤◌, [], length, drop, None, IsSome, IfSome, IfOk, IfErr};
+ghost use Rattle.ipfix_message.specs.Framing.{EndsStream};
+ghost use Rattle.ipfix_message.specs.FramerState.{nothing_fed, FeedGoesOn, FailsBy};
 
-use crate::FrameError;
+use crate::fault::Fault;
 use bytes::Bytes;
 use std::alloc::Global;
 use std::marker::Model;
@@ -22,7 +23,7 @@ pub struct Framer {
     /// The octets of a message that isn't whole yet; none after a fault.
     held: Vec<u8>,
     /// What ended the stream. Want of memory ends none.
-    fault: Option<FrameError>,
+    fault: Option<Fault>,
 }
 
 impl Model for Framer {
@@ -80,8 +81,8 @@ impl Framer {
     ///     assert!(rt; message.as_slice() == whole);
     /// }
     /// ```
-    pub fn feed(&mut self, piece: &[u8]) -> Result<Vec<Bytes>, FrameError>
-        ensures ok { IfOk result (λ out. GoesOn self.old piece.now out.items self.new) }
+    pub fn feed(&mut self, piece: &[u8]) -> Result<Vec<Bytes>, Fault>
+        ensures ok { IfOk result (λ out. FeedGoesOn self.old piece.now out.items self.new) }
         // No answer without messages hides a fault.
         ensures clear { IfOk result (λ out. out.items ≡ [] → self.new.fault ≡ None) }
         ensures err { IfErr result (λ e. FailsBy e self.old piece.now self.new) }
@@ -95,7 +96,7 @@ impl Framer {
         let alloc = *self.held.allocator();
         let Ok(messages) = cut_messages(alloc, &self.held[..extent.whole]) else {
             self.held.truncate(before);
-            return Err(FrameError::OutOfMemory);
+            return Err(Fault::OutOfMemory);
         };
         if let Some(fault) = extent.fault {
             self.fault = Some(fault);
@@ -109,10 +110,10 @@ impl Framer {
         Ok(messages)
     }
 
-    /// The fault that ended the stream, once it is there. Want of memory ends no stream.
-    pub fn fault(&self) -> Option<FrameError>
+    /// The fault that ended the stream, once it is there: `BadVersion` or `BadLength`. Want of memory ends no stream.
+    pub fn fault(&self) -> Option<Fault>
         ensures value { result ≡ self.now.fault }
-        ensures of_stream { result ≢ Some FrameError.OutOfMemory }
+        ensures of_stream { IfSome result EndsStream }
     {
         self.fault
     }

@@ -3,7 +3,7 @@ ghost use Rattle.std.specs.Prelude.{◌≡◌, ◌≤◌, length, OnOk};
 ghost use Rattle.ipfix_octets.specs.MessageFormat.{longest_message, header_octets};
 ghost use Rattle.ipfix_message.specs.Reading as reading;
 
-use crate::decode_error::DecodeError;
+use crate::fault::Fault;
 use crate::octets::{u16_at, u32_at};
 use ipfix_octets::message_format::{HEADER_OCTETS, IPFIX_VERSION};
 
@@ -25,19 +25,19 @@ pub struct Header {
 /// - `BadVersion` where the version isn't 10.
 /// - `BadLength` where the Length isn't the number of the octets.
 #[tactic(auto, unfolding(crate::specs::Reading::read_header))]
-pub fn read_header(octets: &[u8]) -> Result<Header, DecodeError>
+pub fn read_header(octets: &[u8]) -> Result<Header, Fault>
     ensures exact { result ≡ reading.read_header octets.now }
     ensures least { OnOk result (header_octets ≤ length octets.now) }
     ensures most { OnOk result (length octets.now ≤ longest_message) }
 {
     if octets.len() < HEADER_OCTETS {
-        return Err(DecodeError::ShortHeader);
+        return Err(Fault::ShortHeader);
     }
     if u16_at(octets, 0) != IPFIX_VERSION {
-        return Err(DecodeError::BadVersion);
+        return Err(Fault::BadVersion);
     }
     if usize::from(u16_at(octets, 2)) != octets.len() {
-        return Err(DecodeError::BadLength);
+        return Err(Fault::BadLength);
     }
     Ok(Header {
         export_time: u32_at(octets, 4),

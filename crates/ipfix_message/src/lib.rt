@@ -6,10 +6,9 @@
 //! - [`header`]: `Header` and `read_header`.
 //! - [`item`]: `Item`, what a message defines, withdraws, refuses or brings.
 //! - [`sets`]: `items`, all items of a message.
-//! - [`decode_error`]: `DecodeError`, why octets are no message.
+//! - [`fault`]: `Fault`, why octets are no message, and what ends a stream.
 //! - [`laws`]: the grammar of messages and their reading are one (`grammar_is_read`, `one_message`).
 //! - `framer`: `Framer`, which is fed pieces of a stream and answers the messages that became whole.
-//! - `frame_error`: `FrameError`, what is wrong with a stream, and want of memory.
 //! - `framing_laws`: `one_framing` and `any_pieces`, why the answers don't depend on the pieces.
 //!
 //! Proved: `read_header` is exact. `items` is `Ok` exactly on the messages of the grammar, with what they say
@@ -17,12 +16,12 @@
 //! no answer to a fault of the header (`header`) or to a message without sets (`bare`). Whatever the pieces that a
 //! `Framer` is fed: the messages answered so far, its fault and the octets that it holds are those of the pieces
 //! joined, up to the first fault (`ok` and `err` of `feed`); a fault is shown at once and answered for good, no empty
-//! answer hides one (`clear`), and a piece that is refused for memory changes nothing. Laws: `grammar_is_read`,
+//! answer hides one (`clear`), it is `BadVersion` or `BadLength` (`of_stream` of `fault`), and a piece that is refused
+//! for memory changes nothing. Laws: `grammar_is_read`,
 //! `one_message`; `one_framing`, `any_pieces`.
 #![tactic(auto)]
 
-pub mod decode_error;
-mod frame_error;
+pub mod fault;
 mod framer;
 mod framing_laws;
 pub mod header;
@@ -32,8 +31,7 @@ mod octets;
 pub mod sets;
 mod templates;
 
-pub use decode_error::DecodeError;
-pub use frame_error::FrameError;
+pub use fault::Fault;
 pub use framer::Framer;
 pub use framing_laws::{any_pieces, one_framing};
 pub use header::{Header, read_header};

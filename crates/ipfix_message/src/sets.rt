@@ -8,7 +8,7 @@ ghost use Rattle.ipfix_message.specs.Grammar.{IsMessage};
 ghost use Rattle.ipfix_message.specs.Reading.{Gives, template_front, set_items, set_front, read_header, items_of};
 ghost use Rattle.ipfix_message.specs.Shows.{AddsFront};
 
-use crate::decode_error::DecodeError;
+use crate::fault::Fault;
 use crate::header::read_header;
 use crate::item::Item;
 use crate::octets::u16_at;
@@ -24,7 +24,7 @@ use std::alloc::Global;
 /// # Errors
 /// The first fault in reading order, or `OutOfMemory` for want of memory. A fault of the header is
 /// always named, since it takes no memory.
-pub fn items(alloc: Global, octets: &[u8]) -> Result<Vec<Item>, DecodeError>
+pub fn items(alloc: Global, octets: &[u8]) -> Result<Vec<Item>, Fault>
     // What is read is a message of the grammar.
     ensures found { IfOk result (λ v. (h : Header) × IsMessage octets.now h v.items) }
     // What is a message of the grammar is read, unless memory runs out.
@@ -41,7 +41,7 @@ pub fn items(alloc: Global, octets: &[u8]) -> Result<Vec<Item>, DecodeError>
 }
 
 #[tactic(auto, unfolding(crate::specs::Reading::items_of))]
-fn read_items(alloc: Global, octets: &[u8]) -> Result<Vec<Item>, DecodeError>
+fn read_items(alloc: Global, octets: &[u8]) -> Result<Vec<Item>, Fault>
     ensures exact { Gives (λ v. v.items) result (items_of octets.now) }
     ensures header { IfErr (read_header octets.now) (λ e. result ≡ Err e) }
     ensures bare { IfOk (read_header octets.now) (λ _. length octets.now ≡ header_octets
@@ -59,12 +59,7 @@ fn read_items(alloc: Global, octets: &[u8]) -> Result<Vec<Item>, DecodeError>
 }
 
 /// Adds what the sets say that are left of a message of `total` octets.
-fn put_sets(
-    alloc: Global,
-    total: usize,
-    octets: &[u8],
-    items: &mut Vec<Item>,
-) -> Result<(), DecodeError>
+fn put_sets(alloc: Global, total: usize, octets: &[u8], items: &mut Vec<Item>) -> Result<(), Fault>
     requires { length octets.now ≤ total }
     ensures read { Gives (λ _. items.new.items) result
         (with_front items.old.items (read_all (set_front total) octets.now)) }
@@ -84,19 +79,19 @@ fn put_set<'a>(
     total: usize,
     octets: &'a [u8],
     items: &mut Vec<Item>,
-) -> Result<&'a [u8], DecodeError>
+) -> Result<&'a [u8], Fault>
     requires some { 0 < length octets.now }
     requires within { length octets.now ≤ total }
     ensures adds { AddsFront items.old.items items.new.items result (set_front total octets.now) }
     ensures shorter { IfOk result (λ rest. length rest.now < length octets.now) }
 {
     if octets.len() < SET_HEADER_OCTETS {
-        return Err(DecodeError::BadSetLength);
+        return Err(Fault::BadSetLength);
     }
     let id = u16_at(octets, 0);
     let len = usize::from(u16_at(octets, 2));
     if len < SET_HEADER_OCTETS || octets.len() < len {
-        return Err(DecodeError::BadSetLength);
+        return Err(Fault::BadSetLength);
     }
     let place = total - octets.len() + SET_HEADER_OCTETS;
     put_content(alloc, id, place, &octets[SET_HEADER_OCTETS..len], items)?;
@@ -111,7 +106,7 @@ fn put_content(
     place: usize,
     content: &[u8],
     items: &mut Vec<Item>,
-) -> Result<(), DecodeError>
+) -> Result<(), Fault>
     ensures { Gives (λ _. items.new.items) result
         (with_front items.old.items (set_items id place content.now)) }
 {
@@ -139,7 +134,7 @@ fn put_templates(
     options: bool,
     content: &[u8],
     items: &mut Vec<Item>,
-) -> Result<(), DecodeError>
+) -> Result<(), Fault>
     ensures { Gives (λ _. items.new.items) result
         (with_front items.old.items (read_all (template_front options) content.now)) }
 {

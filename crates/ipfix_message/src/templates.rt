@@ -5,7 +5,7 @@ ghost use Rattle.ipfix_message.specs.Reading.{Gives, or_overrun, field_at, field
 ghost use Rattle.ipfix_message.specs.Shows.{ShowsField, ShowsFront, fields_seen, template_seen};
 ghost use Rattle.ipfix_template.specs.Sequence.{read_all};
 
-use crate::decode_error::DecodeError;
+use crate::fault::Fault;
 use crate::item::Item;
 use crate::octets::{u16_at, u32_at};
 use ipfix_element::ElementId;
@@ -46,11 +46,7 @@ fn first_field(octets: &[u8]) -> Option<(FieldSpec, &[u8])>
 }
 
 /// The first `count` Field Specifiers, and the octets after them.
-fn first_fields(
-    alloc: Global,
-    count: u16,
-    octets: &[u8],
-) -> Result<(Vec<FieldSpec>, &[u8]), DecodeError>
+fn first_fields(alloc: Global, count: u16, octets: &[u8]) -> Result<(Vec<FieldSpec>, &[u8]), Fault>
     ensures read { Gives fields_seen result (or_overrun (fields_at count octets.now)) }
     ensures count { IfOk result (λ found. vec_len found.0 ≡ count) }
 {
@@ -58,7 +54,7 @@ fn first_fields(
     let mut rest = octets;
     for _ in 0..count {
         let Some((field, after)) = first_field(rest) else {
-            return Err(DecodeError::TemplateOverrun);
+            return Err(Fault::TemplateOverrun);
         };
         fields.push(field)?;
         rest = after;
@@ -73,14 +69,14 @@ fn first_template(
     options: bool,
     count: u16,
     octets: &[u8],
-) -> Result<(Template, &[u8]), DecodeError>
+) -> Result<(Template, &[u8]), Fault>
     ensures { Gives template_seen result (or_overrun (template_at options count octets.now)) }
 {
     if !options {
         return with_scope(alloc, 0, count, octets);
     }
     if octets.len() < 2 {
-        return Err(DecodeError::TemplateOverrun);
+        return Err(Fault::TemplateOverrun);
     }
     let scope = u16_at(octets, 0);
     with_scope(alloc, scope, count, octets.split_at(2).1)
@@ -93,7 +89,7 @@ fn with_scope(
     scope: u16,
     count: u16,
     octets: &[u8],
-) -> Result<(Template, &[u8]), DecodeError>
+) -> Result<(Template, &[u8]), Fault>
     ensures { Gives template_seen result (or_overrun (scoped_at scope count octets.now)) }
 {
     let (specs, rest) = first_fields(alloc, count, octets)?;
@@ -141,7 +137,7 @@ pub(crate) fn first_record(
     alloc: Global,
     options: bool,
     octets: &[u8],
-) -> Result<Option<(Item, &[u8])>, DecodeError>
+) -> Result<Option<(Item, &[u8])>, Fault>
     ensures { ShowsFront result (template_front options octets.now) }
 {
     if octets.len() < RECORD_HEADER_OCTETS {

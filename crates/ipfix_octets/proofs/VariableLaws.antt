@@ -3,7 +3,7 @@ use Rattle.std.proofs.Common.{◌≡◌, ℕ, ◌+◌, ◌-◌, ◌<◌, ◌≤�
 use Rattle.std.proofs.Math.Seq.{take-add}
 use Rattle.std.proofs.lemmas.Bool.{le-ltb, leb-true, le-leb, eqb-true, eqb-false, ne_eqb}
 use Rattle.std.proofs.lemmas.List.{take_at, drop_at, length-take-le}
-use Rattle.sequences.specs.Octets.{be_value, IsNumber, AreOctets}
+use Rattle.sequences.specs.Octets.{be_value, IsNumberIn, AreOctets}
 use Rattle.std.proofs.lemmas.Option.{same_Some}
 use Rattle.ipfix_octets.specs.Variable.{IsVarText, value_within, varlen_at}
 
@@ -63,7 +63,7 @@ only_short value rest short =
     let room : leb (1 + length value) (length ((length value ∷ value) ++ rest)) ≡ true = le-leb _ _ (omega (arith, length-append value rest)) in
     rw (other, room) (place_is 1 (length (length value ∷ value) - length value) (length value) (omega arith))
 
-only_long : (value a rest : List ℕ) → IsNumber 2 a (length value) → varlen_at ((255 ∷ (a ++ value)) ++ rest) ≡ Some (length (255 ∷ (a ++ value)) - length value, length value)
+only_long : (value a rest : List ℕ) → IsNumberIn 2 a (length value) → varlen_at ((255 ∷ (a ++ value)) ++ rest) ≡ Some (length (255 ∷ (a ++ value)) - length value, length value)
 unfolding varlen_at
 only_long value a rest n =
     let all : length ((a ++ value) ++ rest) ≡ 2 + length value + length rest = omega (arith, length-append (a ++ value) rest, length-append a value, n.wide) in

@@ -1,6 +1,6 @@
 -- Values of variable length: a length and the value (RFC 7011, section 7).
 use Rattle.std.specs.Prelude.{◌≡◌, ◌⊎◌, ℕ, ◌+◌, ◌<◌, List, [], ◌∷◌, ◌++◌, length, take, Option, Some, None, nat_lt, nat_le, ◌==◌, if◌then◌else◌}
-use Rattle.sequences.specs.Octets.{be_value, be_octets, IsNumber}
+use Rattle.sequences.specs.Octets.{be_value, be_octets, IsNumberIn}
 
 -- the longest value that a length of two octets can announce
 abbrev pub longest_value : ℕ
@@ -12,7 +12,7 @@ IsShortText text value = (length value < 255) × (text ≡ length value ∷ valu
 
 -- 255, two octets of length, and the value
 abbrev pub IsLongText : List ℕ → List ℕ → Type 0
-IsLongText text value = (a : List ℕ) × IsNumber 2 a (length value) × (text ≡ 255 ∷ (a ++ value))
+IsLongText text value = (a : List ℕ) × IsNumberIn 2 a (length value) × (text ≡ 255 ∷ (a ++ value))
 
 -- the text is one of the two texts of the value
 abbrev pub IsVarText : List ℕ → List ℕ → Type 0

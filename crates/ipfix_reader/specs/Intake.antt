@@ -2,13 +2,13 @@
 -- project's own rule; how its octets are cut into messages is the standard's (RFC 7011, sections 3.1 and 10.4).
 use Rattle.std.specs.Prelude.{◌≡◌, ◌⊎◌, ℕ, ◌+◌, ◌<◌, ◌≤◌, Bool, true, List, [], length, Option, Some, None}
 use Rattle.std.specs.Io.KnownBytes.{Consumes, IsAtEnd}
-use Rattle.ipfix_message.specs.declared.frame_error.FrameError.{FrameError}
-use Rattle.ipfix_message.specs.declared.frame_error.FrameError.TheVariants as frame
+use Rattle.ipfix_message.specs.declared.fault.Fault.{Fault as DecodeError}
+use Rattle.ipfix_message.specs.declared.fault.Fault.TheVariants as frame
 use Rattle.ipfix_message.specs.FramerState.{FramerState, nothing_fed, Continues}
 use Rattle.ipfix_reader.specs.declared.fault.FramingFault.{FramingFault}
 use Rattle.ipfix_reader.specs.declared.fault.FramingFault.TheVariants.{BadVersion, BadLength, CutOff}
-use Rattle.ipfix_reader.specs.declared.fault.IntakeFault.{IntakeFault}
-use Rattle.ipfix_reader.specs.declared.fault.IntakeFault.TheVariants.{Read, Framing, Turns, OutOfMemory}
+use Rattle.ipfix_reader.specs.declared.fault.Fault.{Fault}
+use Rattle.ipfix_reader.specs.declared.fault.Fault.TheVariants.{Read, Framing, Turns, OutOfMemory}
 
 -- how the octets that were read are framed so far, and how many reads are left
 pub record IntakeState : Type 0 where
@@ -30,7 +30,7 @@ abbrev pub UsesTurn : IntakeState → IntakeState → Type 0
 UsesTurn old new = new.turns + 1 ≡ old.turns
 
 -- a piece was read, and with it the stream goes on by these messages
-pub record Takes (old : IntakeState) (given left : Option (List ℕ)) (out : List (List ℕ)) (new : IntakeState) : Type 0 where
+pub record Yields (old : IntakeState) (given left : Option (List ℕ)) (out : List (List ℕ)) (new : IntakeState) : Type 0 where
   pub piece : List ℕ
   pub is_piece : IsPiece given left piece
   pub sound : old.framing.fault ≡ None
@@ -51,7 +51,7 @@ pub record IsIdle (old : IntakeState) (given left : Option (List ℕ)) (new : In
   pub same : new ≡ old
 
 -- a piece was read, and it shows this fault before any message more is whole
-pub record Faults (fault : FrameError) (old : IntakeState) (given left : Option (List ℕ)) (new : IntakeState) : Type 0 where
+pub record Faults (fault : DecodeError) (old : IntakeState) (given left : Option (List ℕ)) (new : IntakeState) : Type 0 where
   pub piece : List ℕ
   pub is_piece : IsPiece given left piece
   pub sound : old.framing.fault ≡ None
@@ -60,8 +60,8 @@ pub record Faults (fault : FrameError) (old : IntakeState) (given left : Option 
   pub turn : UsesTurn old new
 
 -- the stream has this fault: it showed behind the messages of an earlier piece, or it shows in the one that is read now
-abbrev pub HasFault : FrameError → IntakeState → Option (List ℕ) → Option (List ℕ) → IntakeState → Type 0
-HasFault fault old given left new = ((old.framing.fault ≡ Some fault) × IsIdle old given left new) ⊎ Faults fault old given left new
+abbrev pub StreamHasFault : DecodeError → IntakeState → Option (List ℕ) → Option (List ℕ) → IntakeState → Type 0
+StreamHasFault fault old given left new = ((old.framing.fault ≡ Some fault) × IsIdle old given left new) ⊎ Faults fault old given left new
 
 -- the stream ended inside a message
 pub record EndsInside (old : IntakeState) (given left : Option (List ℕ)) (new : IntakeState) : Type 0 where
@@ -88,23 +88,27 @@ pub record LosesPiece (old : IntakeState) (given left : Option (List ℕ)) (new 
   pub turn : UsesTurn old new
 
 -- why nothing more is handed out, by its cause
-abbrev pub Stops : IntakeFault → IntakeState → Option (List ℕ) → Option (List ℕ) → IntakeState → Type 0
-Stops Read old given left new = FailsToRead old given left new
-Stops (Framing BadVersion) old given left new = HasFault frame.BadVersion old given left new
-Stops (Framing BadLength) old given left new = HasFault frame.BadLength old given left new
-Stops (Framing CutOff) old given left new = EndsInside old given left new
-Stops Turns old given left new = (old.framing.fault ≡ None) × (old.turns ≡ 0) × IsIdle old given left new
-Stops OutOfMemory old given left new = LosesPiece old given left new
+abbrev pub StopsIntake : Fault → IntakeState → Option (List ℕ) → Option (List ℕ) → IntakeState → Type 0
+StopsIntake Read old given left new = FailsToRead old given left new
+StopsIntake (Framing BadVersion) old given left new = StreamHasFault frame.BadVersion old given left new
+StopsIntake (Framing BadLength) old given left new = StreamHasFault frame.BadLength old given left new
+StopsIntake (Framing CutOff) old given left new = EndsInside old given left new
+StopsIntake Turns old given left new = (old.framing.fault ≡ None) × (old.turns ≡ 0) × IsIdle old given left new
+StopsIntake OutOfMemory old given left new = LosesPiece old given left new
 
 -- whether the reader has failed after a fault: where its failure is the fault, and else as before
-abbrev pub reader_after : IntakeFault → Bool → Bool
+abbrev pub reader_after : Fault → Bool → Bool
 reader_after Read was = true
 reader_after (Framing why) was = was
 reader_after Turns was = was
 reader_after OutOfMemory was = was
 
--- what a framer's refusal is called here
-abbrev pub named : FrameError → IntakeFault
-named frame.BadVersion = Framing BadVersion
-named frame.BadLength = Framing BadLength
-named frame.OutOfMemory = OutOfMemory
+-- what a framer's refusal is called here; a framer refuses by BadVersion, BadLength and want of memory alone, and in the others a length is
+-- wrong too
+abbrev pub intake_fault : DecodeError → Fault
+intake_fault frame.BadVersion = Framing BadVersion
+intake_fault frame.BadLength = Framing BadLength
+intake_fault frame.ShortHeader = Framing BadLength
+intake_fault frame.BadSetLength = Framing BadLength
+intake_fault frame.TemplateOverrun = Framing BadLength
+intake_fault frame.OutOfMemory = OutOfMemory

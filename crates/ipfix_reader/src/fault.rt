@@ -33,7 +33,7 @@ impl Display for FramingFault {
 
 /// Why an intake hands out nothing more. Of each fault [`Intake::next`](crate::Intake::next) says what it leaves.
 #[derive(Clone, Copy, Debug, PartialEq, Eq)]
-pub enum IntakeFault {
+pub enum Fault {
     /// The reader failed.
     Read,
     /// What was read is no stream of messages.

@@ -1,11 +1,11 @@
 //! The intake: the messages of a source, in their order.
 ghost use Rattle.std.specs.Prelude.{◌≡◌, ◌≤◌, ◌<◌, [], length, take, IfOk, IfErr, OnOk, MatchOption};
 ghost use Rattle.std.specs.Io.KnownBytes.{Consumes, IsAtEnd};
-ghost use Rattle.ipfix_reader.specs.Intake.{nothing_read, Takes, Ends, Stops, reader_after};
+ghost use Rattle.ipfix_reader.specs.Intake.{nothing_read, Yields, Ends, StopsIntake, reader_after};
 
-use crate::fault::{FramingFault, IntakeFault};
+use crate::fault::{Fault, FramingFault};
 use bytes::Bytes;
-use ipfix_message::{FrameError, Framer};
+use ipfix_message::{Fault as DecodeError, Framer};
 use octet_io::{Failed, Source};
 use std::alloc::{AllocError, Global};
 use std::marker::Model;
@@ -58,26 +58,26 @@ impl Intake {
     /// memory. `reader` is the same at each call.
     ///
     /// # Errors
-    /// - [`IntakeFault::Read`]: the reader failed. Nothing was read.
-    /// - [`IntakeFault::Framing`]: the stream is faulty. All messages before the fault were handed out by then, and
+    /// - [`Fault::Read`]: the reader failed. Nothing was read.
+    /// - [`Fault::Framing`]: the stream is faulty. All messages before the fault were handed out by then, and
     ///   each later call answers this too. With `CutOff` the stream ended inside a message.
-    /// - [`IntakeFault::Turns`]: no read is left. Nothing was read.
-    /// - [`IntakeFault::OutOfMemory`]: what was read last is lost.
-    pub fn next<R: Source>(&mut self, reader: &mut R) -> Result<Option<Vec<Bytes>>, IntakeFault>
+    /// - [`Fault::Turns`]: no read is left. Nothing was read.
+    /// - [`Fault::OutOfMemory`]: what was read last is lost.
+    pub fn next<R: Source>(&mut self, reader: &mut R) -> Result<Option<Vec<Bytes>>, Fault>
         ensures ok { IfOk result (λ found. MatchOption found
             (Ends self.old (R.remaining reader.old) (R.remaining reader.new) self.new) (λ out.
-            Takes self.old (R.remaining reader.old) (R.remaining reader.new) out.items self.new)) }
+            Yields self.old (R.remaining reader.old) (R.remaining reader.new) out.items self.new)) }
         ensures sound { OnOk result (R.has_failed reader.new ≡ R.has_failed reader.old) }
         ensures fails { IfErr result (λ e.
             R.has_failed reader.new ≡ reader_after e (R.has_failed reader.old)) }
         ensures err { IfErr result (λ e.
-            Stops e self.old (R.remaining reader.old) (R.remaining reader.new) self.new) }
+            StopsIntake e self.old (R.remaining reader.old) (R.remaining reader.new) self.new) }
     {
         if let Some(fault) = self.framer.fault() {
             return Err(stream_fault(fault));
         }
         if self.turns == 0 {
-            return Err(IntakeFault::Turns);
+            return Err(Fault::Turns);
         }
         self.turns -= 1;
         let count = read_piece(reader, &mut self.buffer)?;
@@ -94,7 +94,7 @@ impl Intake {
     ///
     /// # Errors
     /// `CutOff` where the stream ended inside a message.
-    fn end(&self) -> Result<Option<Vec<Bytes>>, IntakeFault>
+    fn end(&self) -> Result<Option<Vec<Bytes>>, Fault>
         ensures ok { IfOk result (λ found. (is_none found ≡ true)
             × (self.now.framing.pending ≡ [])) }
         ensures err { IfErr result (λ e. (e ≡ Framing CutOff)
@@ -103,22 +103,22 @@ impl Intake {
         if self.framer.pending() == 0 {
             Ok(None)
         } else {
-            Err(IntakeFault::Framing(FramingFault::CutOff))
+            Err(Fault::Framing(FramingFault::CutOff))
         }
     }
 }
 
 ghost use Rattle.std.specs.Prelude.{true, is_none};
 ghost use Rattle.std.specs.Io.KnownBytes.{Keeps};
-ghost use Rattle.ipfix_reader.specs.declared.fault.IntakeFault.TheVariants.{Read, Framing};
+ghost use Rattle.ipfix_reader.specs.declared.fault.Fault.TheVariants.{Read, Framing};
 ghost use Rattle.ipfix_reader.specs.declared.fault.FramingFault.TheVariants.{CutOff};
-ghost use Rattle.ipfix_reader.specs.Intake.{named};
+ghost use Rattle.ipfix_reader.specs.Intake.{intake_fault};
 
 /// Reads octets from `reader` into the front of `buffer`, which has some, and answers how many: none only at the end.
 ///
 /// # Errors
 /// `Read` where the reader failed, and nothing was read.
-fn read_piece<R: Source>(reader: &mut R, buffer: &mut Vec<u8>) -> Result<usize, IntakeFault>
+fn read_piece<R: Source>(reader: &mut R, buffer: &mut Vec<u8>) -> Result<usize, Fault>
     requires { 0 < length buffer.old.items }
     // Octets are read into the front of the buffer, and none only at the end.
     ensures length { length buffer.new.items ≡ length buffer.old.items }
@@ -133,17 +133,21 @@ fn read_piece<R: Source>(reader: &mut R, buffer: &mut Vec<u8>) -> Result<usize, 
 {
     match reader.read(buffer.as_mut_slice()) {
         Ok(count) => Ok(count),
-        Err(Failed) => Err(IntakeFault::Read),
+        Err(Failed) => Err(Fault::Read),
     }
 }
 
-/// The fault of an intake for `fault`, the refusal of its framer.
-fn stream_fault(fault: FrameError) -> IntakeFault
-    ensures { result ≡ named fault }
+/// The fault of an intake for `fault`, the refusal of its framer. That refuses by `BadVersion`, `BadLength` and
+/// `OutOfMemory` alone; in the others a length is wrong too.
+fn stream_fault(fault: DecodeError) -> Fault
+    ensures { result ≡ intake_fault fault }
 {
     match fault {
-        FrameError::BadVersion => IntakeFault::Framing(FramingFault::BadVersion),
-        FrameError::BadLength => IntakeFault::Framing(FramingFault::BadLength),
-        FrameError::OutOfMemory => IntakeFault::OutOfMemory,
+        DecodeError::BadVersion => Fault::Framing(FramingFault::BadVersion),
+        DecodeError::BadLength
+        | DecodeError::ShortHeader
+        | DecodeError::BadSetLength
+        | DecodeError::TemplateOverrun => Fault::Framing(FramingFault::BadLength),
+        DecodeError::OutOfMemory => Fault::OutOfMemory,
     }
 }

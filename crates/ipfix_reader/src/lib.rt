@@ -2,7 +2,7 @@
 //! and 10.4). It knows no session: what the messages mean is said above.
 //!
 //! - `intake`: [`Intake`], which hands out the messages of a source.
-//! - `fault`: [`IntakeFault`], why nothing more is handed out, with [`FramingFault`].
+//! - `fault`: [`Fault`], why nothing more is handed out, with [`FramingFault`].
 //!
 //! Proved, over any `Source`: the octets that are read are framed into the messages that are handed out, and what is
 //! pending (`Intake::next`, `ok`); the answer None stands only at the end, with nothing pending; each fault stands only
@@ -13,5 +13,5 @@
 mod fault;
 mod intake;
 
-pub use fault::{FramingFault, IntakeFault};
+pub use fault::{Fault, FramingFault};
 pub use intake::Intake;

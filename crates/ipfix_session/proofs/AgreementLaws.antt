@@ -5,7 +5,7 @@ use Rattle.ipfix_template.specs.declared.template.Template.{Template}
 use Rattle.ipfix_message.specs.declared.item.Item.{Item}
 use Rattle.ipfix_message.specs.declared.item.Item.TheVariants.{Define, Withdraw, WithdrawAll, Refused, DataSet, Skipped}
 use Rattle.ipfix_message.specs.Reading.{items_of}
-use Rattle.ipfix_session.specs.declared.read_error.ReadError.{ReadError}
+use Rattle.ipfix_session.specs.declared.fault.Fault.{Fault}
 use Rattle.ipfix_session.specs.InForce.{template_in_force}
 use Rattle.ipfix_session.specs.Contents.{Contents, both, set_contents, item_contents, contents_after}
 use Rattle.ipfix_session.specs.Meaning.{domain_of, items_of_domain, contents_of}
@@ -41,8 +41,8 @@ pub same_contents : (older newer : List Item) (message : List ℕ) (items : List
 unfolding contents_after
 same_contents older newer message [] none agree = refl
 same_contents older newer message (item ∷ items) none agree =
-    ap (λ (r : Result Contents ReadError). r >>= λ f. contents_after (item ∷ older) message items >>= λ o. Ok (both f o)) (one_item older newer message item none.0 agree.0)
-    ∙ ap (λ (r : Result Contents ReadError). item_contents newer message item >>= λ f. r >>= λ o. Ok (both f o)) (same_contents (item ∷ older) (item ∷ newer) message items none.1 (still older newer item items none.0 agree.1))
+    ap (λ (r : Result Contents Fault). r >>= λ f. contents_after (item ∷ older) message items >>= λ o. Ok (both f o)) (one_item older newer message item none.0 agree.0)
+    ∙ ap (λ (r : Result Contents Fault). item_contents newer message item >>= λ f. r >>= λ o. Ok (both f o)) (same_contents (item ∷ older) (item ∷ newer) message items none.1 (still older newer item items none.0 agree.1))
 
 pub same_message : (older newer : List (List ℕ)) (message : List ℕ) (said : List Item) → items_of message ≡ Ok said → BringNoTemplates said → AgreeOn (in_force_after (domain_of message) older) (in_force_after (domain_of message) newer) said → contents_of older message ≡ contents_of newer message
 same_message older newer message said is none agree =

@@ -2,13 +2,13 @@
 use Rattle.std.proofs.Common.{◌≡◌, ℕ, List, [], ◌∷◌, ◌++◌, reverse, Result, Ok, Err, refl, sym, ap, ◌∙◌, append_assoc}
 use Rattle.std.proofs.lemmas.List.{reverse-append}
 use Rattle.ipfix_message.specs.declared.item.Item.{Item}
-use Rattle.ipfix_session.specs.declared.read_error.ReadError.{ReadError}
+use Rattle.ipfix_session.specs.declared.fault.Fault.{Fault}
 use Rattle.ipfix_session.specs.Contents.{Contents, both, nothing, item_contents, contents_after, both_read}
 use Rattle.sequences.specs.Results.{◌>>=◌}
 use Rattle.ipfix_session.proofs.WalkSteps.{both-nothing, nothing-both, both-both}
 
 abbrev Reading : Type 0
-Reading = Result Contents ReadError
+Reading = Result Contents Fault
 
 abbrev holds : Contents → Reading
 holds c = Ok c

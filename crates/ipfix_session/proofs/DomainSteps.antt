@@ -15,7 +15,7 @@ use Rattle.ipfix_session.specs.declared.tables.Tables.TheVariants.{Own, Shared}
 use Rattle.ipfix_session.specs.Keeping.{at_key}
 use Rattle.ipfix_session.specs.Places.{Places, HasPlaces, Tabled, shown_of}
 use Rattle.ipfix_session.specs.Standing.{templates_of}
-use Rattle.ipfix_session.specs.Domains.{some_of, templates_in, told, shown_tables, place_of, held_templates}
+use Rattle.ipfix_session.specs.Domains.{some_of, templates_in, some_templates, shown_tables, place_of, held_templates}
 use Rattle.ipfix_session.specs.Sharing.{tables_in}
 use Rattle.ipfix_session.specs.Expecting.{itself, shown_numbers, number_of}
 use Rattle.ipfix_session.proofs.PlaceSteps.{shown-at}
@@ -26,12 +26,12 @@ told-templates : (ts : List (ℕ × Template)) → unwrap_or (some_of ts) [] ≡
 told-templates [] = refl
 told-templates (t ∷ ts) = refl
 
-shown-templates : (found : Option Tabled) → unwrap_or (shown_of told found) [] ≡ unwrap_or (option_map templates_in found) []
+shown-templates : (found : Option Tabled) → unwrap_or (shown_of some_templates found) [] ≡ unwrap_or (option_map templates_in found) []
 shown-templates None = refl
 shown-templates (Some t) = told-templates t.templates
 
 pub kept-templates : (es : List (ℕ × Tabled)) (q : ℕ) → IsStrictlySortedBy nat_cmp (keys_of es) → templates_of q (shown_tables es) ≡ held_templates es q
-kept-templates es q ordered = ap (λ (o : Option (List (ℕ × Template))). unwrap_or o []) (shown-at told q es (IsDistinct-from_sorted nat_cmp (keys_of es) ordered)) ∙ shown-templates (at_key q es)
+kept-templates es q ordered = ap (λ (o : Option (List (ℕ × Template))). unwrap_or o []) (shown-at some_templates q es (IsDistinct-from_sorted nat_cmp (keys_of es) ordered)) ∙ shown-templates (at_key q es)
 
 ordered_in : (t : Tables) → IsStrictlySortedBy nat_cmp (keys_of (tables_in t))
 ordered_in (Own d) = d.ordered

@@ -14,14 +14,14 @@ use Rattle.ipfix_template.specs.declared.template.Refused.{Refused}
 use Rattle.ipfix_template.specs.declared.template.Refused.TheVariants.{BadId, BadLength, BadScope, EmptyRecord}
 use Rattle.ipfix_template.specs.Template.{specifier, specifier_of, record_head, template_record, has_allowed_length, has_bad_scope, refusal_of, is_options, shortest_record}
 use Rattle.ipfix_message.specs.declared.header.Header.{Header}
-use Rattle.ipfix_message.specs.declared.decode_error.DecodeError.{DecodeError}
+use Rattle.ipfix_message.specs.declared.fault.Fault.{Fault as DecodeError}
 use Rattle.ipfix_message.specs.declared.item.Item.{Item}
 use Rattle.ipfix_message.specs.Records.{set_id, bare_item, judged_item}
 use Rattle.ipfix_message.specs.Reading.{read_header, field_at, fields_at, scoped_at, template_at, found_template, template_front, set_items, found_set, set_front, after_header, items_of}
 use Rattle.ipfix_message.proofs.Shrinks.{set_takes, template_takes}
 use Rattle.sequences.specs.Options.{◌>>=◌}
 use Rattle.sequences.proofs.ListLaws.{AllByRecursion-append}
-use Rattle.ipfix_session.specs.Keeping.{IsKeepable, StandsIn, StandIn}
+use Rattle.ipfix_session.specs.Keeping.{IsKeepable, MayStandIn, StandIn}
 
 -- ---- what holds of each item at the front holds of all that are read
 
@@ -163,46 +163,46 @@ keepable_of id options t accepted few =
 
 -- ---- the items of a set of templates
 
-bare_stands : (total : ℕ) (options : Bool) (id : ℕ) → StandsIn total (bare_item options id)
+bare_stands : (total : ℕ) (options : Bool) (id : ℕ) → MayStandIn total (bare_item options id)
 bare_stands total options id =
-    cond_both (eqb id (set_id options)) _ _ (StandsIn total) (λ _. tt) (λ _. cond_both (ltb id 256) _ _ (StandsIn total) (λ _. tt) (λ _. tt))
+    cond_both (eqb id (set_id options)) _ _ (MayStandIn total) (λ _. tt) (λ _. cond_both (ltb id 256) _ _ (MayStandIn total) (λ _. tt) (λ _. tt))
 
-judged_stands : (total id : ℕ) (options : Bool) (t : Template) (refused : Option Refused) → refusal_of id options t ≡ refused → 24 + scope_size options + template_size t ≤ 65535 → StandsIn total (judged_item id t refused)
+judged_stands : (total id : ℕ) (options : Bool) (t : Template) (refused : Option Refused) → refusal_of id options t ≡ refused → 24 + scope_size options + template_size t ≤ 65535 → MayStandIn total (judged_item id t refused)
 judged_stands total id options t None is few = keepable_of id options t is few
 judged_stands total id options t (Some why) is few = tt
 
-template_stands : (total : ℕ) (options : Bool) (octets : List ℕ) → length octets ≤ 65515 → AllFront (StandsIn total) (template_front options octets)
+template_stands : (total : ℕ) (options : Bool) (octets : List ℕ) → length octets ≤ 65515 → AllFront (MayStandIn total) (template_front options octets)
 unfolding template_front
 template_stands total options octets few =
-    cond_both (ltb (length octets) 4) _ _ (AllFront (StandsIn total)) (λ _. tt)
-    (λ long. cond_both (eqb (number_at 2 2 octets) 0) _ _ (AllFront (StandsIn total))
+    cond_both (ltb (length octets) 4) _ _ (AllFront (MayStandIn total)) (λ _. tt)
+    (λ long. cond_both (eqb (number_at 2 2 octets) 0) _ _ (AllFront (MayStandIn total))
     (λ _. (bare_stands total options (number_at 0 2 octets), tt))
     (λ _. found (ltb-false _ _ long) (template_at options (number_at 2 2 octets) (drop 4 octets)) (template_shorter options (number_at 2 2 octets) (drop 4 octets)))) where
-      found : 4 ≤ length octets → (r : Option (Template × List ℕ)) → Shorter (λ t. scope_size options + template_size t) (length (drop 4 octets)) r → AllFront (StandsIn total) (found_template options (number_at 0 2 octets) r)
+      found : 4 ≤ length octets → (r : Option (Template × List ℕ)) → Shorter (λ t. scope_size options + template_size t) (length (drop 4 octets)) r → AllFront (MayStandIn total) (found_template options (number_at 0 2 octets) r)
       found long None h = tt
       found long (Some o) h = (judged_stands total (number_at 0 2 octets) options o.0 (refusal_of (number_at 0 2 octets) options o.0) refl (omega (arith, few, long, h, length-drop 4 octets)), tt)
 
 -- ---- sets
 
-content_stands : (total id place : ℕ) (content : List ℕ) → 20 ≤ place → place + length content ≤ total → total ≤ 65535 → AllRead (StandsIn total) (set_items id place content)
+content_stands : (total id place : ℕ) (content : List ℕ) → 20 ≤ place → place + length content ≤ total → total ≤ 65535 → AllRead (MayStandIn total) (set_items id place content)
 unfolding set_items
 content_stands total id place content low high few =
-    cond_both (eqb id 2) _ _ (AllRead (StandsIn total)) (λ _. all_read (StandsIn total) (template_front false) 65515 (template_takes false) (template_stands total false) content (omega (arith, low, high, few)))
-    (λ _. cond_both (eqb id 3) _ _ (AllRead (StandsIn total)) (λ _. all_read (StandsIn total) (template_front true) 65515 (template_takes true) (template_stands total true) content (omega (arith, low, high, few)))
-    (λ _. cond_both (ltb id 256) _ _ (AllRead (StandsIn total)) (λ _. (tt, tt)) (λ _. ((low, high), tt))))
+    cond_both (eqb id 2) _ _ (AllRead (MayStandIn total)) (λ _. all_read (MayStandIn total) (template_front false) 65515 (template_takes false) (template_stands total false) content (omega (arith, low, high, few)))
+    (λ _. cond_both (eqb id 3) _ _ (AllRead (MayStandIn total)) (λ _. all_read (MayStandIn total) (template_front true) 65515 (template_takes true) (template_stands total true) content (omega (arith, low, high, few)))
+    (λ _. cond_both (ltb id 256) _ _ (AllRead (MayStandIn total)) (λ _. (tt, tt)) (λ _. ((low, high), tt))))
 
-set_stands : (total : ℕ) → total ≤ 65535 → 16 ≤ total → (octets : List ℕ) → length octets ≤ total - 16 → AllFront (StandsIn total) (set_front total octets)
+set_stands : (total : ℕ) → total ≤ 65535 → 16 ≤ total → (octets : List ℕ) → length octets ≤ total - 16 → AllFront (MayStandIn total) (set_front total octets)
 unfolding set_front
 set_stands total few some octets within =
-    cond_both (eqb (length octets) 0) _ _ (AllFront (StandsIn total)) (λ _. tt)
-    (λ _. cond_both (ltb (length octets) 4) _ _ (AllFront (StandsIn total)) (λ _. tt)
-    (λ _. cond_both (ltb (number_at 2 2 octets) 4 || ltb (length octets) (number_at 2 2 octets)) _ _ (AllFront (StandsIn total)) (λ _. tt)
+    cond_both (eqb (length octets) 0) _ _ (AllFront (MayStandIn total)) (λ _. tt)
+    (λ _. cond_both (ltb (length octets) 4) _ _ (AllFront (MayStandIn total)) (λ _. tt)
+    (λ _. cond_both (ltb (number_at 2 2 octets) 4 || ltb (length octets) (number_at 2 2 octets)) _ _ (AllFront (MayStandIn total)) (λ _. tt)
     (λ fits. found (set_items (number_at 0 2 octets) (total - length octets + 4) (take (number_at 2 2 octets - 4) (drop 4 octets))) (stands (or_parts (ltb (number_at 2 2 octets) 4) (ltb (length octets) (number_at 2 2 octets)) fits))))) where
-      found : (r : Result (List Item) DecodeError) → AllRead (StandsIn total) r → AllFront (StandsIn total) (found_set r (drop (number_at 2 2 octets) octets))
+      found : (r : Result (List Item) DecodeError) → AllRead (MayStandIn total) r → AllFront (MayStandIn total) (found_set r (drop (number_at 2 2 octets) octets))
       found (Ok said) h = h
       found (Err e) h = tt
 
-      stands : (ltb (number_at 2 2 octets) 4 ≡ false) × (ltb (length octets) (number_at 2 2 octets) ≡ false) → AllRead (StandsIn total) (set_items (number_at 0 2 octets) (total - length octets + 4) (take (number_at 2 2 octets - 4) (drop 4 octets)))
+      stands : (ltb (number_at 2 2 octets) 4 ≡ false) × (ltb (length octets) (number_at 2 2 octets) ≡ false) → AllRead (MayStandIn total) (set_items (number_at 0 2 octets) (total - length octets + 4) (take (number_at 2 2 octets - 4) (drop 4 octets)))
       stands both =
           let least = ltb-false _ _ both.0 in
           let most = ltb-false _ _ both.1 in
@@ -211,10 +211,10 @@ set_stands total few some octets within =
 
 -- ---- a message
 
-read_stands : (octets : List ℕ) (header : Result Header DecodeError) → length octets ≤ 65535 → 16 ≤ length octets → AllRead (StandsIn (length octets)) (after_header octets header)
+read_stands : (octets : List ℕ) (header : Result Header DecodeError) → length octets ≤ 65535 → 16 ≤ length octets → AllRead (MayStandIn (length octets)) (after_header octets header)
 read_stands octets (Err e) few some = tt
 read_stands octets (Ok h) few some =
-    all_read (StandsIn (length octets)) (set_front (length octets)) (length octets - 16) (set_takes (length octets)) (set_stands (length octets) few some) (drop 16 octets) (omega (arith, length-drop 16 octets))
+    all_read (MayStandIn (length octets)) (set_front (length octets)) (length octets - 16) (set_takes (length octets)) (set_stands (length octets) few some) (drop 16 octets) (omega (arith, length-drop 16 octets))
 
 pub items_stand : (octets : List ℕ) (said : List Item) → length octets ≤ 65535 → 16 ≤ length octets → items_of octets ≡ Ok said → StandIn (length octets) said
 unfolding items_of

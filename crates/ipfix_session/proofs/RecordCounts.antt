@@ -12,12 +12,12 @@ use Rattle.ipfix_template.specs.declared.template.Refused.{Refused}
 use Rattle.ipfix_template.specs.Template.{refusal_of, shortest_record}
 use Rattle.ipfix_template.specs.Values.{values_at, found_record, record_front, records_in}
 use Rattle.ipfix_message.specs.declared.header.Header.{Header}
-use Rattle.ipfix_message.specs.declared.decode_error.DecodeError.{DecodeError}
+use Rattle.ipfix_message.specs.declared.fault.Fault.{Fault as DecodeError}
 use Rattle.ipfix_message.specs.declared.item.Item.{Item}
 use Rattle.ipfix_message.specs.declared.item.Item.TheVariants.{Define, Withdraw, WithdrawAll, Refused as RefusedItem, DataSet, Skipped}
 use Rattle.ipfix_message.specs.Records.{set_id, bare_item, judged_item, template_item}
 use Rattle.ipfix_message.specs.Reading.{read_header, template_at, found_template, template_front, set_items, found_set, set_front, after_header, items_of}
-use Rattle.ipfix_session.specs.declared.read_error.ReadError.{ReadError}
+use Rattle.ipfix_session.specs.declared.fault.Fault.{Fault as ReadError}
 use Rattle.ipfix_session.specs.Contents.{Contents, both, record_of, rows_of, set_contents, item_contents, contents_after}
 use Rattle.ipfix_session.specs.InForce.{template_in_force}
 use Rattle.sequences.specs.Results.{◌>>=◌}

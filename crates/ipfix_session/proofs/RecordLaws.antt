@@ -7,7 +7,7 @@ use Rattle.std.proofs.lemmas.List.{drop_at}
 use Rattle.sequences.proofs.OctetLaws.{AreOctets-drop}
 use Rattle.sequences.proofs.SequenceLaws.{read_all-step}
 use Rattle.ipfix_template.specs.declared.template.Template.{Template}
-use Rattle.ipfix_template.specs.Template.{IsAccepted, shortest_record}
+use Rattle.ipfix_template.specs.Template.{IsAcceptable, shortest_record}
 use Rattle.ipfix_template.specs.Values.{Splits, values_at, found_record, record_front, records_in}
 use Rattle.ipfix_template.proofs.SplitLaws.{values_at-found, Splits-least}
 use Rattle.ipfix_template.proofs.SplitClauses.{front_is}
@@ -22,7 +22,7 @@ front_end : (t : Template) (octets : List ℕ) → length octets < shortest_reco
 unfolding record_front
 front_end t octets short = rw (lt-ltb _ _ short) refl
 
-pub only : (t : Template) → IsAccepted t → (octets : List ℕ) (rows : List (List (List ℕ))) → AreRecords t octets rows → records_in t octets ≡ Ok rows
+pub only : (t : Template) → IsAcceptable t → (octets : List ℕ) (rows : List (List (List ℕ))) → AreRecords t octets rows → records_in t octets ≡ Ok rows
 only t accepted octets [] short = read_all-step (record_front t) (record_takes t accepted) octets ∙ ap (λ f. read_on f (read_all (record_front t))) (front_end t octets short)
 only t accepted octets (row ∷ rows) h =
     ap (records_in t) h.2
@@ -36,7 +36,7 @@ IsFrontOf t octets End = length octets < shortest_record t
 IsFrontOf t octets (Fault e) = Unit {0}
 IsFrontOf t octets (Next items rest) = (text : List ℕ) × (row : List (List ℕ)) × (items ≡ row ∷ []) × (octets ≡ text ++ rest) × Splits t.fields text row × (length rest < length octets)
 
-front_by : (t : Template) → IsAccepted t → (octets : List ℕ) → AreOctets octets → (short : Bool) → ltb (length octets) (shortest_record t) ≡ short → (v : Option (List (List ℕ) × List ℕ)) → values_at t.fields octets ≡ v → IsFrontOf t octets (cond short End (found_record v))
+front_by : (t : Template) → IsAcceptable t → (octets : List ℕ) → AreOctets octets → (short : Bool) → ltb (length octets) (shortest_record t) ≡ short → (v : Option (List (List ℕ) × List ℕ)) → values_at t.fields octets ≡ v → IsFrontOf t octets (cond short End (found_record v))
 front_by t accepted octets fits true is v e = ltb-true _ _ is
 front_by t accepted octets fits false is None e = tt
 front_by t accepted octets fits false is (Some f) e =
@@ -44,11 +44,11 @@ front_by t accepted octets fits false is (Some f) e =
     let least = Splits-least t.fields h.0 f.0 h.2 in
     (h.0, f.0, refl, h.1, h.2, omega (arith, least, shortest_some t accepted, ap length h.1, length-append h.0 f.1))
 
-front_found : (t : Template) → IsAccepted t → (octets : List ℕ) → AreOctets octets → IsFrontOf t octets (record_front t octets)
+front_found : (t : Template) → IsAcceptable t → (octets : List ℕ) → AreOctets octets → IsFrontOf t octets (record_front t octets)
 unfolding record_front
 front_found t accepted octets fits = front_by t accepted octets fits (ltb (length octets) (shortest_record t)) refl (values_at t.fields octets) refl
 
-found_in : (t : Template) → IsAccepted t → (n : ℕ) (octets : List ℕ) → length octets < n → AreOctets octets → (rows : List (List (List ℕ))) → records_in t octets ≡ Ok rows → AreRecords t octets rows
+found_in : (t : Template) → IsAcceptable t → (n : ℕ) (octets : List ℕ) → length octets < n → AreOctets octets → (rows : List (List (List ℕ))) → records_in t octets ≡ Ok rows → AreRecords t octets rows
 found_in t accepted zero octets few fits rows e = absurd (omega arith)
 found_in t accepted (suc n) octets few fits rows e = by (λ rest less fit more same. found_in t accepted n rest (omega arith) fit more same) (record_front t octets) (front_found t accepted octets fits) (sym (read_all-step (record_front t) (record_takes t accepted) octets) ∙ e) where
   by : ((rest : List ℕ) → length rest < length octets → AreOctets rest → (more : List (List (List ℕ))) → records_in t rest ≡ Ok more → AreRecords t rest more) → (f : Front (List (List ℕ)) (Unit {0})) → IsFrontOf t octets f → read_on f (read_all (record_front t)) ≡ Ok rows → AreRecords t octets rows
@@ -62,5 +62,5 @@ found_in t accepted (suc n) octets few fits rows e = by (λ rest less fit more s
         let here = rec rest is.5 (subst AreOctets (sym back) (AreOctets-drop (length is.0) octets fits)) more same in
         subst (λ rs. AreRecords t octets rs) (ap (λ xs. xs ++ more) (sym is.2) ∙ same_Ok (items ++ more) rows at2) (is.0, rest, is.3, is.4, here)
 
-pub found : (t : Template) → IsAccepted t → (octets : List ℕ) → AreOctets octets → (rows : List (List (List ℕ))) → records_in t octets ≡ Ok rows → AreRecords t octets rows
+pub found : (t : Template) → IsAcceptable t → (octets : List ℕ) → AreOctets octets → (rows : List (List (List ℕ))) → records_in t octets ≡ Ok rows → AreRecords t octets rows
 found t accepted octets fits rows e = found_in t accepted (suc (length octets)) octets (omega arith) fits rows e

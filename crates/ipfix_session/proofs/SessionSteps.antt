@@ -9,8 +9,8 @@ use Rattle.std.proofs.lemmas.Bool.{eqb-true, eq-eqb}
 use Rattle.sequences.specs.Octets.{number_at}
 use Rattle.ipfix_template.specs.DataRecord.{DataRecord}
 use Rattle.ipfix_message.specs.declared.header.Header.{Header}
-use Rattle.ipfix_message.specs.declared.decode_error.DecodeError.{DecodeError}
-use Rattle.ipfix_message.specs.declared.decode_error.DecodeError.TheVariants as decode
+use Rattle.ipfix_message.specs.declared.fault.Fault.{Fault as DecodeError}
+use Rattle.ipfix_message.specs.declared.fault.Fault.TheVariants as decode
 use Rattle.ipfix_message.specs.declared.item.Item.{Item}
 use Rattle.ipfix_message.specs.declared.item.Item.TheVariants.{Define, Withdraw, WithdrawAll, Refused, DataSet, Skipped}
 use Rattle.ipfix_template.specs.declared.template.Template.{Template}
@@ -21,14 +21,14 @@ use Rattle.sequences.proofs.ResultLaws.{same_Ok, fails_along}
 use Rattle.ipfix_message.proofs.ReadingSteps.{read_head}
 use Rattle.ipfix_session.specs.declared.read.Skips.{Skips}
 use Rattle.ipfix_session.specs.declared.read.Gap.{Gap}
-use Rattle.ipfix_session.specs.declared.read_error.ReadError.{ReadError}
-use Rattle.ipfix_session.specs.declared.read_error.ReadError.TheVariants.{Malformed}
+use Rattle.ipfix_session.specs.declared.fault.Fault.{Fault}
+use Rattle.ipfix_session.specs.declared.fault.Fault.TheVariants.{Malformed}
 use Rattle.ipfix_session.specs.InForce.{template_in_force}
 use Rattle.ipfix_session.specs.Contents.{Contents, contents_after}
 use Rattle.ipfix_session.specs.Meaning.{domain_of, items_or_none, items_of_domain, read_items, contents_of, number_after, number_past, next_number, expected_number, gap_between, Meaning, gap_of, meaning_of}
 use Rattle.ipfix_session.specs.Keeping.{at_key, Keeps, AreInForce}
-use Rattle.ipfix_session.specs.Standing.{Standing, Kept, Stands, Knows, kept_of, templates_of}
-use Rattle.ipfix_session.specs.Change.{changed, HasTables}
+use Rattle.ipfix_session.specs.Standing.{SessionStanding, KeptSession, SessionStands, Knows, kept_of, templates_of}
+use Rattle.ipfix_session.specs.Change.{changed_template, HasTables}
 use Rattle.ipfix_session.specs.ReadAhead.{Ahead, IsReadingOf, HasRoomFor}
 use Rattle.ipfix_session.specs.declared.by_domain.ByDomain.{ByDomain}
 use Rattle.ipfix_session.specs.declared.numbers.Numbers.{Numbers}
@@ -90,48 +90,48 @@ header_is message h e = header_by (ltb (length message) 16) (eqb (number_at 0 2 
 -- ---- a message
 
 -- what was read of a message, over what is kept of its domain
-pub record Found (held : Standing) (older : List (List ℕ)) (message : List ℕ) (h : Header) (said : List Item) : Type 0 where
+pub record Found (held : SessionStanding) (older : List (List ℕ)) (message : List ℕ) (h : Header) (said : List Item) : Type 0 where
   pub header : h ≡ header_of message
   pub items : items_of message ≡ Ok said
-  pub stands : Stands held older
+  pub stands : SessionStands held older
 
 -- the same, where the octets were lent as a slice
-pub found_in : (held : Standing) (older : List (List ℕ)) (octets message : List ℕ) (h : Header) (said : List Item) → octets ≡ message → Ok h ≡ read_header octets → items_of octets ≡ Ok said → Stands held older → Found held older message h said
+pub found_in : (held : SessionStanding) (older : List (List ℕ)) (octets message : List ℕ) (h : Header) (said : List Item) → octets ≡ message → Ok h ≡ read_header octets → items_of octets ≡ Ok said → SessionStands held older → Found held older message h said
 found_in held older octets message h said same header items stands = subst (λ (m : List ℕ). Found held older m h said) same (record { header = header_is octets h header; items = items; stands = stands })
 
 -- the items before a message of its domain
 abbrev pub before : List (List ℕ) → List ℕ → List Item
 before older message = items_of_domain (domain_of message) older
 
-keeps_before : (held : Standing) (older : List (List ℕ)) (message : List ℕ) (h : Header) (said : List Item) → Found held older message h said → Keeps (kept_of h.domain held).templates (before older message)
+keeps_before : (held : SessionStanding) (older : List (List ℕ)) (message : List ℕ) (h : Header) (said : List Item) → Found held older message h said → Keeps (kept_of h.domain held).templates (before older message)
 keeps_before held older message h said found id = found.stands.templates h.domain id ∙ ap (λ (g : Header). template_in_force id (items_of_domain g.domain older)) found.header
 
 pub contents_are : (older : List (List ℕ)) (message : List ℕ) (said : List Item) → items_of message ≡ Ok said → contents_of older message ≡ contents_after (before older message) message said
 unfolding contents_of
 contents_are older message said is = ap (read_items (before older message) message) is
 
-means_overrun : (older : List (List ℕ)) (message : List ℕ) (said : List Item) (e : ReadError) → items_of message ≡ Ok said → contents_after (before older message) message said ≡ Err e → meaning_of older message ≡ Err e
+means_overrun : (older : List (List ℕ)) (message : List ℕ) (said : List Item) (e : Fault) → items_of message ≡ Ok said → contents_after (before older message) message said ≡ Err e → meaning_of older message ≡ Err e
 unfolding meaning_of
 means_overrun older message said e is fails = rw (contents_are older message said is, fails) refl
 
-pub found_fault : (held : Standing) (older : List (List ℕ)) (message : List ℕ) (h : Header) (said : List Item) (e : ReadError) → Found held older message h said → ((done : List Item) → Keeps (kept_of h.domain held).templates done → Fails e (contents_after done message said)) → Fails e (meaning_of older message)
+pub found_fault : (held : SessionStanding) (older : List (List ℕ)) (message : List ℕ) (h : Header) (said : List Item) (e : Fault) → Found held older message h said → ((done : List Item) → Keeps (kept_of h.domain held).templates done → Fails e (contents_after done message said)) → Fails e (meaning_of older message)
 found_fault held older message h said e found fails = fails_along is_memory e (contents_after (before older message) message said) (meaning_of older message) (λ is. means_overrun older message said e found.items is) (fails (before older message) (keeps_before held older message h said found))
 
 abbrev pub meaning : Header → List DataRecord → Skips → Option Gap → Meaning
 meaning h records skips gap = record { header = h; records = records; skips = skips; gap = gap }
 
-abbrev pub means : Meaning → Result Meaning ReadError
+abbrev pub means : Meaning → Result Meaning Fault
 means m = Ok m
 
 -- the contents of the message
-contents_found : (held : Standing) (older : List (List ℕ)) (message : List ℕ) (h : Header) (said : List Item) (c : Contents) → Found held older message h said → ((done : List Item) → Keeps (kept_of h.domain held).templates done → contents_after done message said ≡ Ok c) → contents_of older message ≡ Ok c
+contents_found : (held : SessionStanding) (older : List (List ℕ)) (message : List ℕ) (h : Header) (said : List Item) (c : Contents) → Found held older message h said → ((done : List Item) → Keeps (kept_of h.domain held).templates done → contents_after done message said ≡ Ok c) → contents_of older message ≡ Ok c
 contents_found held older message h said c found reads = contents_are older message said found.items ∙ reads (before older message) (keeps_before held older message h said found)
 
 means_contents : (older : List (List ℕ)) (message : List ℕ) (c : Contents) → contents_of older message ≡ Ok c → meaning_of older message ≡ Ok (meaning (header_of message) c.records c.skips (gap_of older message))
 unfolding meaning_of
 means_contents older message c is = rw is refl
 
-pub found_meaning : (held : Standing) (older : List (List ℕ)) (message : List ℕ) (h g : Header) (said : List Item) (c : Contents) (gap : Option Gap) → Found held older message h said → ((done : List Item) → Keeps (kept_of h.domain held).templates done → contents_after done message said ≡ Ok c) → g ≡ h → gap ≡ gap_between (kept_of h.domain held).expected h.sequence → meaning_of older message ≡ Ok (meaning g c.records c.skips gap)
+pub found_meaning : (held : SessionStanding) (older : List (List ℕ)) (message : List ℕ) (h g : Header) (said : List Item) (c : Contents) (gap : Option Gap) → Found held older message h said → ((done : List Item) → Keeps (kept_of h.domain held).templates done → contents_after done message said ≡ Ok c) → g ≡ h → gap ≡ gap_between (kept_of h.domain held).expected h.sequence → meaning_of older message ≡ Ok (meaning g c.records c.skips gap)
 found_meaning held older message h g said c gap found reads same gap_is =
     let number : (kept_of h.domain held).expected ≡ expected_number (domain_of message) older = found.stands.expected h.domain ∙ ap (λ (x : Header). expected_number x.domain older) found.header in
     let gap_means : gap ≡ gap_of older message = gap_is ∙ ap (λ (o : Option ℕ). gap_between o h.sequence) number ∙ ap (λ (x : Header). gap_between (expected_number (domain_of message) older) x.sequence) found.header in
@@ -177,7 +177,7 @@ other_number q message older other = expected_then q message older ∙ ap (λ (b
 
 -- ---- what was read, after those messages
 
-pub found_reading : (held : Standing) (older : List (List ℕ)) (message : List ℕ) (h : Header) (said : List Item) (r : Ahead) → Found held older message h said
+pub found_reading : (held : SessionStanding) (older : List (List ℕ)) (message : List ℕ) (h : Header) (said : List Item) (r : Ahead) → Found held older message h said
     → ((done : List Item) → Keeps (kept_of h.domain held).templates done → contents_after done message said ≡ Ok (contents_read r))
     → ((done : List Item) → Keeps (kept_of h.domain held).templates done → AreInForce (afterwards r (kept_of h.domain held).templates) (reverse said ++ done))
     → r.meaning.header ≡ h → r.meaning.gap ≡ gap_between (kept_of h.domain held).expected h.sequence → r.next ≡ number_after h (contents_read r) → IsReadingOf older message r
@@ -186,7 +186,7 @@ found_reading held older message h said r found reads keeps same gap_is next_is 
     let items : items_or_none (items_of message) ≡ said = ap items_or_none found.items in
     record {
       means = found_meaning held older message h r.meaning.header said (contents_read r) r.meaning.gap found reads same gap_is;
-      templates = λ id. ap (changed r.change id) (sym (kept id))
+      templates = λ id. ap (changed_template r.change id) (sym (kept id))
           ∙ keeps (before older message) kept id
           ∙ ap (λ (xs : List Item). template_in_force id (reverse xs ++ before older message)) (sym items)
           ∙ ap (template_in_force id) (sym (own_items message older));
@@ -197,13 +197,13 @@ found_reading held older message h said r found reads keeps same gap_is next_is 
     }
 
 -- the answer is the meaning, or the first fault
-pub read_means : (held : Standing) (older : List (List ℕ)) (message : List ℕ) (h : Header) (said : List Item) (r : Result Ahead ReadError) → Found held older message h said
+pub read_means : (held : SessionStanding) (older : List (List ℕ)) (message : List ℕ) (h : Header) (said : List Item) (r : Result Ahead Fault) → Found held older message h said
     → ((done : List Item) → Keeps (kept_of h.domain held).templates done → Gives contents_read r (contents_after done message said))
     → IfOk r (λ x. x.meaning.header ≡ h) → IfOk r (λ x. x.meaning.gap ≡ gap_between (kept_of h.domain held).expected h.sequence) → Gives (λ x. x.meaning) r (meaning_of older message)
 read_means held older message h said (Ok x) found reads same gap_is = found_meaning held older message h x.meaning.header said (contents_read x) x.meaning.gap found reads same gap_is
 read_means held older message h said (Err e) found reads same gap_is = found_fault held older message h said e found reads
 
-pub read_follows : (held : Standing) (older : List (List ℕ)) (message : List ℕ) (h : Header) (said : List Item) (r : Result Ahead ReadError) → Found held older message h said
+pub read_follows : (held : SessionStanding) (older : List (List ℕ)) (message : List ℕ) (h : Header) (said : List Item) (r : Result Ahead Fault) → Found held older message h said
     → ((done : List Item) → Keeps (kept_of h.domain held).templates done → Gives contents_read r (contents_after done message said))
     → ((done : List Item) → Keeps (kept_of h.domain held).templates done → IfOk r (λ x. AreInForce (afterwards x (kept_of h.domain held).templates) (reverse said ++ done)))
     → IfOk r (λ x. x.meaning.header ≡ h) → IfOk r (λ x. x.meaning.gap ≡ gap_between (kept_of h.domain held).expected h.sequence) → IfOk r (λ x. x.next ≡ number_after h (contents_read x)) → IfOk r (IsReadingOf older message)
@@ -216,7 +216,7 @@ read_follows held older message h said (Err e) found reads keeps same gap_is nex
 pub header_meant : (older : List (List ℕ)) (message : List ℕ) (m : Meaning) → meaning_of older message ≡ Ok m → m.header ≡ header_of message
 unfolding meaning_of
 header_meant older message m is = by_contents (contents_of older message) is where
-  by_contents : (c : Result Contents ReadError) → (c >>= λ c. means (meaning (header_of message) c.records c.skips (gap_of older message))) ≡ Ok m → m.header ≡ header_of message
+  by_contents : (c : Result Contents Fault) → (c >>= λ c. means (meaning (header_of message) c.records c.skips (gap_of older message))) ≡ Ok m → m.header ≡ header_of message
   by_contents (Ok c) e = ap (λ (x : Meaning). x.header) (sym (same_Ok (meaning (header_of message) c.records c.skips (gap_of older message)) m e))
   by_contents (Err w) e = absurd cc
 
@@ -227,7 +227,7 @@ settled_by false q d here there target same h t = t refl
 pub kept_stands : (old_numbers new_numbers : Numbers) (old new : Tables) (older : List (List ℕ)) (message : List ℕ) (r : Ahead)
     → ((q : ℕ) → number_of new_numbers q ≡ cond (eqb q r.meaning.header.domain) r.next (number_of old_numbers q))
     → Settles (tables_in old) (tables_in new) r.meaning.header.domain (afterwards r (held_templates (tables_in old) r.meaning.header.domain))
-    → Stands (standing_of old_numbers old) older → IsReadingOf older message r → Stands (standing_of new_numbers new) (message ∷ older)
+    → SessionStands (standing_of old_numbers old) older → IsReadingOf older message r → SessionStands (standing_of new_numbers new) (message ∷ older)
 kept_stands old_numbers new_numbers old new older message r numbers settles stands reading =
     let d = r.meaning.header.domain in
     let own : d ≡ domain_of message = ap (λ (h : Header). h.domain) (header_meant older message r.meaning reading.means) in
@@ -235,9 +235,9 @@ kept_stands old_numbers new_numbers old new older message r numbers settles stan
     record {
       templates = λ q id. ap (at_key id) (kept-tables new q)
           ∙ settles.templates q id
-          ∙ settled_by (eqb q d) q d (changed r.change id (at_key id (held_templates (tables_in old) d))) (at_key id (held_templates (tables_in old) q)) (λ (n : ℕ). template_in_force id (items_of_domain n (message ∷ older))) (eqb-true q d)
-          (ap (changed r.change id) (before_it d id)
-          ∙ ap (λ (n : ℕ). changed r.change id (template_in_force id (items_of_domain n older))) own
+          ∙ settled_by (eqb q d) q d (changed_template r.change id (at_key id (held_templates (tables_in old) d))) (at_key id (held_templates (tables_in old) q)) (λ (n : ℕ). template_in_force id (items_of_domain n (message ∷ older))) (eqb-true q d)
+          (ap (changed_template r.change id) (before_it d id)
+          ∙ ap (λ (n : ℕ). changed_template r.change id (template_in_force id (items_of_domain n older))) own
           ∙ reading.templates id
           ∙ ap (λ (n : ℕ). template_in_force id (items_of_domain n (message ∷ older))) (sym own))
           (λ other. before_it q id ∙ ap (template_in_force id) (sym (other_items q message older (ap (eqb q) (sym own) ∙ other))));
@@ -250,27 +250,27 @@ kept_stands old_numbers new_numbers old new older message r numbers settles stan
 
 -- ---- what a session keeps, as it was seen
 
-pub templates_now : (n : Numbers) (t : Tables) (now : Kept) → session_of n t ≡ now → (domain : ℕ) → held_templates (tables_in t) domain ≡ templates_of domain now.standing.templates
-templates_now n t now is domain = sym (kept-tables t domain) ∙ ap (λ (s : Kept). templates_of domain s.standing.templates) is
+pub templates_now : (n : Numbers) (t : Tables) (now : KeptSession) → session_of n t ≡ now → (domain : ℕ) → held_templates (tables_in t) domain ≡ templates_of domain now.standing.templates
+templates_now n t now is domain = sym (kept-tables t domain) ∙ ap (λ (s : KeptSession). templates_of domain s.standing.templates) is
 
-pub number_now : (n : Numbers) (t : Tables) (now : Kept) → session_of n t ≡ now → (domain : ℕ) → number_of n domain ≡ (kept_of domain now.standing).expected
-number_now n t now is domain = sym (kept-number n domain) ∙ ap (λ (s : Kept). at_key domain s.standing.expected) is
+pub number_now : (n : Numbers) (t : Tables) (now : KeptSession) → session_of n t ≡ now → (domain : ℕ) → number_of n domain ≡ (kept_of domain now.standing).expected
+number_now n t now is domain = sym (kept-number n domain) ∙ ap (λ (s : KeptSession). at_key domain s.standing.expected) is
 
-pub template_is : (n : Numbers) (t : Tables) (now : Kept) → session_of n t ≡ now → (domain id : ℕ) (messages : List (List ℕ)) → Stands now.standing messages → at_key id (held_templates (tables_in t) domain) ≡ template_in_force id (items_of_domain domain messages)
+pub template_is : (n : Numbers) (t : Tables) (now : KeptSession) → session_of n t ≡ now → (domain id : ℕ) (messages : List (List ℕ)) → SessionStands now.standing messages → at_key id (held_templates (tables_in t) domain) ≡ template_in_force id (items_of_domain domain messages)
 template_is n t now is domain id messages stands = ap (at_key id) (templates_now n t now is domain) ∙ stands.templates domain id
 
 -- ---- room
 
 -- a domain's number has the place that was made for what was read
-pub number_place : (n : Numbers) (t : Tables) (now : Kept) (r s : Ahead) → session_of n t ≡ now → r ≡ s → HasRoomFor now s → has_number n r.meaning.header.domain ≡ true
+pub number_place : (n : Numbers) (t : Tables) (now : KeptSession) (r s : Ahead) → session_of n t ≡ now → r ≡ s → HasRoomFor now s → has_number n r.meaning.header.domain ≡ true
 number_place n t now r s is same room =
-    let there : HasRoomFor (session_of n t) r = subst (λ (k : Kept). HasRoomFor k r) (sym is) (subst (HasRoomFor now) (sym same) room) in
+    let there : HasRoomFor (session_of n t) r = subst (λ (k : KeptSession). HasRoomFor k r) (sym is) (subst (HasRoomFor now) (sym same) room) in
     among-keys r.meaning.header.domain n.by_domain.entries ∙ there.number
 
 -- the tables have the places that were made for what was read
-pub tables_place : (n : Numbers) (t : Tables) (now : Kept) (r s : Ahead) → session_of n t ≡ now → r ≡ s → HasRoomFor now s → HasTables (own_places t) r.meaning.header.domain r.change
+pub tables_place : (n : Numbers) (t : Tables) (now : KeptSession) (r s : Ahead) → session_of n t ≡ now → r ≡ s → HasRoomFor now s → HasTables (own_places t) r.meaning.header.domain r.change
 tables_place n t now r s is same room =
-    let there : HasRoomFor (session_of n t) r = subst (λ (k : Kept). HasRoomFor k r) (sym is) (subst (HasRoomFor now) (sym same) room) in
+    let there : HasRoomFor (session_of n t) r = subst (λ (k : KeptSession). HasRoomFor k r) (sym is) (subst (HasRoomFor now) (sym same) room) in
     there.templates
 
 pub room_made : {E : Type 0} (answer : Result (Unit {0}) E) (n : Numbers) (t : Tables) (r s : Ahead) → r ≡ s → has_number n r.meaning.header.domain ≡ true
@@ -328,9 +328,9 @@ pub numbers_noted : (old new : Numbers) (d : ℕ) (next past : Option ℕ) → n
 numbers_noted old new d next past is numbers q = kept-number new q ∙ numbers q ∙ (λ i. cond (eqb q d) (is i) (sym (kept-number old q) i))
 
 -- what a session stands for where such a message is noted
-pub noted_stands : (old new : Standing) (older : List (List ℕ)) (message : List ℕ) (h : Header) (c : Contents) (records : ℕ) (unknown : Bool)
+pub noted_stands : (old new : SessionStanding) (older : List (List ℕ)) (message : List ℕ) (h : Header) (c : Contents) (records : ℕ) (unknown : Bool)
     → new.templates ≡ old.templates → ((q : ℕ) → at_key q new.expected ≡ cond (eqb q h.domain) (number_past h records unknown) (at_key q old.expected))
-    → Stands old older → header_of message ≡ h → HasNoTemplates message → contents_of older message ≡ Ok c → length c.records ≡ records → unknown ≡ not (eqb c.skips.unknown 0) → Stands new (message ∷ older)
+    → SessionStands old older → header_of message ≡ h → HasNoTemplates message → contents_of older message ≡ Ok c → length c.records ≡ records → unknown ≡ not (eqb c.skips.unknown 0) → SessionStands new (message ∷ older)
 noted_stands old new older message h c records unknown same numbers stands header none contents count is =
     let d = h.domain in
     let own : d ≡ domain_of message = ap (λ (x : Header). x.domain) (sym header) in
@@ -343,10 +343,10 @@ noted_stands old new older message h c records unknown same numbers stands heade
     }
 
 -- what was read elsewhere of such a message is its reading
-pub unchanging_reading : (held : Standing) (older : List (List ℕ)) (message : List ℕ) (h : Header) (c : Contents) (r : Ahead) → Stands held older
+pub unchanging_reading : (held : SessionStanding) (older : List (List ℕ)) (message : List ℕ) (h : Header) (c : Contents) (r : Ahead) → SessionStands held older
     → header_of message ≡ h → HasNoTemplates message → contents_of older message ≡ Ok c
     → r.meaning ≡ meaning h c.records c.skips (gap_between (kept_of h.domain held).expected h.sequence)
-    → ((found : Option Template) (id : ℕ) → changed r.change id found ≡ found) → r.next ≡ number_after h c → IsReadingOf older message r
+    → ((found : Option Template) (id : ℕ) → changed_template r.change id found ≡ found) → r.next ≡ number_after h c → IsReadingOf older message r
 unchanging_reading held older message h c r stands header none contents meaning_is nothing next =
     let number : (kept_of h.domain held).expected ≡ expected_number (domain_of message) older = stands.expected h.domain ∙ ap (λ (x : Header). expected_number x.domain older) (sym header) in
     let gap : gap_between (kept_of h.domain held).expected h.sequence ≡ gap_of older message =

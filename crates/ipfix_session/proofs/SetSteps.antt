@@ -17,7 +17,7 @@ use Rattle.ipfix_records.specs.Pieces.{pieces, AreEnds}
 use Rattle.ipfix_records.specs.Runs.{RunOf, records_of}
 use Rattle.ipfix_records.proofs.PieceLaws.{length_pieces, ends_push, pieces_push, pieces_written, pieces_longer, place_within, place_shows, next_end}
 use Rattle.ipfix_records.proofs.RunLaws.{all_at}
-use Rattle.ipfix_session.specs.declared.read_error.ReadError.{ReadError}
+use Rattle.ipfix_session.specs.declared.fault.Fault.{Fault as ReadError}
 use Rattle.ipfix_session.specs.declared.data_set.RecordEnds.{RecordEnds}
 use Rattle.ipfix_session.specs.Contents.{record_of}
 use Rattle.ipfix_session.specs.Keeping.{IsKeepable}

@@ -11,7 +11,7 @@ use Rattle.ipfix_octets.specs.Variable.{IsVarText, shortest_text, value_within, 
 use Rattle.ipfix_template.specs.declared.field.FieldSpec.{FieldSpec}
 use Rattle.ipfix_template.specs.declared.template.Template.{Template}
 use Rattle.ipfix_template.specs.declared.template.Refused.TheVariants.{BadLength, BadScope, EmptyRecord}
-use Rattle.ipfix_template.specs.Template.{is_variable, least_octets, shortest_record, has_allowed_length, has_bad_scope, refusal_of, is_options, IsAccepted}
+use Rattle.ipfix_template.specs.Template.{is_variable, least_octets, shortest_record, has_allowed_length, has_bad_scope, refusal_of, is_options, IsAcceptable}
 use Rattle.ipfix_template.specs.Values.{IsText, Splits, span_at, values_at, found_record, record_front, fits_field, fit_fields, value_text, record_text}
 use Rattle.ipfix_template.specs.DataRecord.{IsSound}
 use Rattle.sequences.specs.Options.{◌>>=◌}
@@ -88,7 +88,7 @@ some_by true false true n is e = absurd cc
 some_by true true empty n is e = absurd cc
 some_by false scope empty n is e = absurd cc
 
-pub shortest_some : (t : Template) → IsAccepted t → 0 < shortest_record t
+pub shortest_some : (t : Template) → IsAcceptable t → 0 < shortest_record t
 unfolding refusal_of
 shortest_some t e = some_by (list_all has_allowed_length t.fields) (has_bad_scope (is_options t) t) (eqb (shortest_record t) 0) (shortest_record t) refl e
 
@@ -131,7 +131,7 @@ values_take (f ∷ fs) octets = first (λ rest. values_take fs rest) (span_at f 
   first more None fits = tt
   first more (Some s) fits = others s (take s.1 (drop s.0 octets)) (values_at fs (drop (s.0 + s.1) octets)) fits (more (drop (s.0 + s.1) octets))
 
-record_lessens : (t : Template) → IsAccepted t → (octets : List ℕ) → Lessens (length octets) (record_front t octets)
+record_lessens : (t : Template) → IsAcceptable t → (octets : List ℕ) → Lessens (length octets) (record_front t octets)
 unfolding record_front
 record_lessens t accepted octets =
     cond_both (ltb (length octets) (shortest_record t)) _ _ (Lessens (length octets)) (λ _. tt)
@@ -140,5 +140,5 @@ record_lessens t accepted octets =
       found None h = tt
       found (Some o) h = let some = shortest_some t accepted in omega (arith, some, h)
 
-pub record_takes : (t : Template) → IsAccepted t → TakesSome (record_front t)
+pub record_takes : (t : Template) → IsAcceptable t → TakesSome (record_front t)
 record_takes t accepted = takes_some (record_front t) (record_lessens t accepted)

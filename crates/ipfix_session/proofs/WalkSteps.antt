@@ -12,20 +12,20 @@ use Rattle.ipfix_message.specs.declared.item.Item.TheVariants.{Define, Withdraw,
 use Rattle.sequences.specs.Results.{◌>>=◌}
 use Rattle.sequences.proofs.ResultLaws.{fails_along}
 use Rattle.ipfix_session.specs.declared.read.Skips.{Skips}
-use Rattle.ipfix_session.specs.declared.read_error.ReadError.{ReadError}
-use Rattle.ipfix_session.specs.declared.read_error.ReadError.TheVariants.{Malformed, RecordOverrun, OutOfMemory}
+use Rattle.ipfix_session.specs.declared.fault.Fault.{Fault}
+use Rattle.ipfix_session.specs.declared.fault.Fault.TheVariants.{Malformed, RecordOverrun, OutOfMemory}
 use Rattle.ipfix_session.specs.InForce.{template_in_force, unless_of_kind}
 use Rattle.ipfix_session.specs.Contents.{Contents, nothing, skips_of, both, only_skips, only_records, record_of, rows_of, set_contents, item_contents, contents_after}
 use Rattle.ipfix_session.specs.Keeping.{AreInForce}
 use Rattle.ipfix_session.specs.declared.changes.Changes.{Changes}
 use Rattle.ipfix_session.specs.Changing.{after}
 use Rattle.ipfix_session.specs.Answers.{is_memory, Fails}
-use Rattle.ipfix_session.specs.Walking.{Adds, IsCounted}
+use Rattle.ipfix_session.specs.Walking.{AddsContents, SkipsAtMost}
 use Rattle.ipfix_session.specs.DataSets.{AddsRecords}
 
 -- ---- the contents so far, and those of the items that are left
 
-abbrev pub with_contents : Contents → Result Contents ReadError → Result Contents ReadError
+abbrev pub with_contents : Contents → Result Contents Fault → Result Contents Fault
 with_contents before (Ok others) = Ok (both before others)
 with_contents before (Err e) = Err e
 
@@ -77,13 +77,13 @@ on_any : {T E P : Type 0} (r : Result T E) → P → OnOk r P
 on_any (Ok x) p = p
 on_any (Err e) p = tt
 
-pub keeps_data : (r : Result (Unit {0}) ReadError) (base : List (ℕ × Template)) (old new : Changes) (item : Item) (id start len : ℕ) → item ≡ DataSet id start len → new ≡ old → (done : List Item) → AreInForce (after old base) done → OnOk r (AreInForce (after new base) (item ∷ done))
+pub keeps_data : (r : Result (Unit {0}) Fault) (base : List (ℕ × Template)) (old new : Changes) (item : Item) (id start len : ℕ) → item ≡ DataSet id start len → new ≡ old → (done : List Item) → AreInForce (after old base) done → OnOk r (AreInForce (after new base) (item ∷ done))
 keeps_data r base old new item id start len is same done keeps =
     on_any r (subst (λ (o : Changes). AreInForce (after o base) (item ∷ done)) (sym same) (keeps_data_set (after old base) item id start len is done keeps))
 
 -- ---- what an item holds
 
-abbrev Added : Contents → Contents → Result Contents ReadError → Type 0
+abbrev Added : Contents → Contents → Result Contents Fault → Type 0
 Added old new read = (first : Contents) × (read ≡ Ok first) × (new ≡ both old first)
 
 pub added_reserved : (done : List Item) (message : List ℕ) (item : Item) (set : ℕ) (records : List DataRecord) (s : Skips) → item ≡ Skipped set → Added (contents records s) (contents records (skips_of s.unknown (s.reserved + 1) s.refused)) (item_contents done message item)
@@ -109,7 +109,7 @@ added_nothing done message item so_far is = (nothing, is, sym (both-nothing so_f
 rows_read : (t : Template) (content : List ℕ) (found : Option Template) → Some t ≡ found → set_contents found content ≡ rows_of t (records_in t content)
 rows_read t content found is = ap (λ (o : Option Template). set_contents o content) (sym is)
 
-pub added_records : (t : Template) (found : Option Template) (content expected : List ℕ) (old new : List DataRecord) (s : Skips) (r : Result (Unit {0}) ReadError) → Some t ≡ found → content ≡ expected → AddsRecords t content old new r → Adds (contents old s) (contents new s) (set_contents found expected) r
+pub added_records : (t : Template) (found : Option Template) (content expected : List ℕ) (old new : List DataRecord) (s : Skips) (r : Result (Unit {0}) Fault) → Some t ≡ found → content ≡ expected → AddsRecords t content old new r → AddsContents (contents old s) (contents new s) (set_contents found expected) r
 added_records t found content expected old new s (Ok u) is same adds =
     let first = only_records (map (record_of t) adds.0) in (
       first,
@@ -121,10 +121,10 @@ added_records t found content expected old new s (Err RecordOverrun) is same add
 added_records t found content expected old new s (Err (Malformed why)) is same adds = absurd adds
 
 -- a Data Set is read by the template in force
-pub in_force : (done : List Item) (message : List ℕ) (item : Item) (id start len : ℕ) (found : ℕ → Option Template) (old new : Contents) (r : Result (Unit {0}) ReadError) → item ≡ DataSet id start len → AreInForce found done → Adds old new (set_contents (found id) (take len (drop start message))) r → Adds old new (item_contents done message item) r
+pub in_force : (done : List Item) (message : List ℕ) (item : Item) (id start len : ℕ) (found : ℕ → Option Template) (old new : Contents) (r : Result (Unit {0}) Fault) → item ≡ DataSet id start len → AreInForce found done → AddsContents old new (set_contents (found id) (take len (drop start message))) r → AddsContents old new (item_contents done message item) r
 in_force done message item id start len found old new r is keeps adds =
     let same : set_contents (found id) (take len (drop start message)) ≡ item_contents done message item = ap (λ (o : Option Template). set_contents o (take len (drop start message))) (keeps id) ∙ ap (item_contents done message) (sym is) in
-    subst (λ (read : Result Contents ReadError). Adds old new read r) same adds
+    subst (λ (read : Result Contents Fault). AddsContents old new read r) same adds
 
 -- what a look-up found
 pub none_there : {X : Type 0} (f : X → Template) (r : Option X) (o : Option Template) → ((x : X) → r ≡ Some x → ⊥) → option_map f r ≡ o → o ≡ None
@@ -140,23 +140,23 @@ pub record Walks (message : List ℕ) (found : ℕ → Option Template) (rest : 
   pub read : with_contents so_far (contents_after done message rest) ≡ contents_after older message said
   pub order : reverse rest ++ done ≡ reverse said ++ older
 
-abbrev pub read_contents : Contents → Result Contents ReadError
+abbrev pub read_contents : Contents → Result Contents Fault
 read_contents c = Ok c
 
-with_nothing : (r : Result Contents ReadError) → with_contents nothing r ≡ r
+with_nothing : (r : Result Contents Fault) → with_contents nothing r ≡ r
 with_nothing (Ok c) = ap read_contents (nothing-both c)
 with_nothing (Err e) = refl
 
 pub walks_first : (message : List ℕ) (found : ℕ → Option Template) (older said : List Item) → AreInForce found older → Walks message found said nothing older said
 walks_first message found older said keeps = record { done = older; keeps = keeps; read = with_nothing (contents_after older message said); order = refl }
 
-with_both : (a b : Contents) (r : Result Contents ReadError) → with_contents (both a b) r ≡ with_contents a (r >>= λ o. Ok (both b o))
+with_both : (a b : Contents) (r : Result Contents Fault) → with_contents (both a b) r ≡ with_contents a (r >>= λ o. Ok (both b o))
 with_both a b (Ok c) = ap read_contents (both-both a b c)
 with_both a b (Err e) = refl
 
 at_item : (done : List Item) (message : List ℕ) (item : Item) (rest : List Item) (first : Contents) → item_contents done message item ≡ Ok first → contents_after done message (item ∷ rest) ≡ (contents_after (item ∷ done) message rest >>= λ o. Ok (both first o))
 unfolding contents_after
-at_item done message item rest first is = ap (λ (r : Result Contents ReadError). r >>= λ f. contents_after (item ∷ done) message rest >>= λ o. Ok (both f o)) is
+at_item done message item rest first is = ap (λ (r : Result Contents Fault). r >>= λ f. contents_after (item ∷ done) message rest >>= λ o. Ok (both f o)) is
 
 pub walks_more : (message : List ℕ) (found then : ℕ → Option Template) (item : Item) (rest : List Item) (so_far new : Contents) (older said : List Item) → ((done : List Item) → AreInForce found done → Added so_far new (item_contents done message item)) → ((done : List Item) → AreInForce found done → AreInForce then (item ∷ done)) → Walks message found (item ∷ rest) so_far older said → Walks message then rest new older said
 walks_more message found then item rest so_far new older said reads keeps walks =
@@ -170,12 +170,12 @@ walks_more message found then item rest so_far new older said reads keeps walks 
       order = sym (append_assoc (reverse rest) (item ∷ []) walks.done) ∙ ap (λ (xs : List Item). xs ++ walks.done) (sym (reverse-append (item ∷ []) rest)) ∙ walks.order;
     }
 
-fault_is : (message : List ℕ) (found : ℕ → Option Template) (item : Item) (rest : List Item) (so_far : Contents) (older said : List Item) (e : ReadError) (walks : Walks message found (item ∷ rest) so_far older said) → item_contents walks.done message item ≡ Err e → contents_after older message said ≡ Err e
+fault_is : (message : List ℕ) (found : ℕ → Option Template) (item : Item) (rest : List Item) (so_far : Contents) (older said : List Item) (e : Fault) (walks : Walks message found (item ∷ rest) so_far older said) → item_contents walks.done message item ≡ Err e → contents_after older message said ≡ Err e
 unfolding contents_after
 fault_is message found item rest so_far older said e walks is =
-    sym walks.read ∙ ap (λ (r : Result Contents ReadError). with_contents so_far (r >>= λ f. contents_after (item ∷ walks.done) message rest >>= λ o. Ok (both f o))) is
+    sym walks.read ∙ ap (λ (r : Result Contents Fault). with_contents so_far (r >>= λ f. contents_after (item ∷ walks.done) message rest >>= λ o. Ok (both f o))) is
 
-pub walks_fault : (message : List ℕ) (found : ℕ → Option Template) (item : Item) (rest : List Item) (so_far : Contents) (older said : List Item) (e : ReadError) → ((done : List Item) → AreInForce found done → Fails e (item_contents done message item)) → Walks message found (item ∷ rest) so_far older said → Fails e (contents_after older message said)
+pub walks_fault : (message : List ℕ) (found : ℕ → Option Template) (item : Item) (rest : List Item) (so_far : Contents) (older said : List Item) (e : Fault) → ((done : List Item) → AreInForce found done → Fails e (item_contents done message item)) → Walks message found (item ∷ rest) so_far older said → Fails e (contents_after older message said)
 walks_fault message found item rest so_far older said e fails walks = fails_along is_memory e (item_contents walks.done message item) (contents_after older message said) (λ is. fault_is message found item rest so_far older said e walks is) (fails walks.done walks.keeps)
 
 pub walks_read : (message : List ℕ) (found : ℕ → Option Template) (so_far : Contents) (older said : List Item) → Walks message found [] so_far older said → contents_after older message said ≡ Ok so_far
@@ -188,6 +188,6 @@ walks_keeps message found so_far older said walks = subst (λ (items : List Item
 -- the counts stay below the number of items, which fits
 pub record HasRoom (s : Skips) (left total : ℕ) : Type 0 where
   pub done : ℕ
-  pub counted : IsCounted s done
+  pub counted : SkipsAtMost s done
   pub all : done + left ≡ total
   pub fits : total < 2 ^ 64

@@ -14,8 +14,8 @@ pub record Change : Type 0 where
   pub options_withdrawn : Bool
 
 -- the template of an ID after the change, by the one before it
-abbrev pub changed : Change → ℕ → Option Template → Option Template
-changed c id before = template_after (at_key id c.defined.templates) (is_among id c.decided) c.plain_withdrawn c.options_withdrawn before
+abbrev pub changed_template : Change → ℕ → Option Template → Option Template
+changed_template c id before = template_after (at_key id c.defined.templates) (is_among id c.decided) c.plain_withdrawn c.options_withdrawn before
 
 abbrev pub decides_none : List ℕ → Bool
 decides_none [] = true

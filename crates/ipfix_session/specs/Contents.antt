@@ -9,8 +9,8 @@ use Rattle.ipfix_message.specs.declared.item.Item.TheVariants.{Define, Withdraw,
 use Rattle.sequences.specs.Results.{◌>>=◌}
 use Rattle.ipfix_session.specs.InForce.{template_in_force}
 use Rattle.ipfix_session.specs.declared.read.Skips.{Skips}
-use Rattle.ipfix_session.specs.declared.read_error.ReadError.{ReadError}
-use Rattle.ipfix_session.specs.declared.read_error.ReadError.TheVariants.{RecordOverrun}
+use Rattle.ipfix_session.specs.declared.fault.Fault.{Fault}
+use Rattle.ipfix_session.specs.declared.fault.Fault.TheVariants.{RecordOverrun}
 
 -- records, and how many sets and templates were skipped
 pub record Contents : Type 0 where
@@ -40,17 +40,17 @@ abbrev pub record_of : Template → List (List ℕ) → DataRecord
 record_of t values = record { template = t; values = values }
 
 -- each row of values is a record of the template
-abbrev pub rows_of : Template → Result (List (List (List ℕ))) (Unit {0}) → Result Contents ReadError
+abbrev pub rows_of : Template → Result (List (List (List ℕ))) (Unit {0}) → Result Contents Fault
 rows_of t (Ok rows) = Ok (only_records (map (record_of t) rows))
 rows_of t (Err e) = Err RecordOverrun
 
 -- a Data Set's records by the template in force; without one the set is skipped
-abbrev pub set_contents : Option Template → List ℕ → Result Contents ReadError
+abbrev pub set_contents : Option Template → List ℕ → Result Contents Fault
 set_contents None content = Ok (only_skips (skips_of 1 0 0))
 set_contents (Some t) content = rows_of t (records_in t content)
 
 -- what an item of a message holds, after items of its session and domain that stand newest first
-abbrev pub item_contents : List Item → List ℕ → Item → Result Contents ReadError
+abbrev pub item_contents : List Item → List ℕ → Item → Result Contents Fault
 item_contents older message (DataSet id start len) = set_contents (template_in_force id older) (take len (drop start message))
 item_contents older message (Skipped set) = Ok (only_skips (skips_of 0 1 0))
 item_contents older message (Refused id why) = Ok (only_skips (skips_of 0 0 1))
@@ -59,7 +59,7 @@ item_contents older message (Withdraw id) = Ok nothing
 item_contents older message (WithdrawAll options) = Ok nothing
 
 -- what items of a message hold one after another, or the fault of the first that has one
-unfoldable pub contents_after : List Item → List ℕ → List Item → Result Contents ReadError
+unfoldable pub contents_after : List Item → List ℕ → List Item → Result Contents Fault
 contents_after older message [] = Ok nothing
 contents_after older message (item ∷ items) = do
   first ← item_contents older message item
@@ -67,7 +67,7 @@ contents_after older message (item ∷ items) = do
   Ok (both first others)
 
 -- what two parts of a message hold together, or the fault of the first that has one
-abbrev pub both_read : Result Contents ReadError → Result Contents ReadError → Result Contents ReadError
+abbrev pub both_read : Result Contents Fault → Result Contents Fault → Result Contents Fault
 both_read (Ok first) (Ok others) = Ok (both first others)
 both_read (Ok first) (Err e) = Err e
 both_read (Err e) others = Err e

@@ -5,13 +5,13 @@ use Rattle.ipfix_template.specs.declared.template.Template.{Template}
 use Rattle.ipfix_template.specs.Values.{Splits, records_in, values_in}
 use Rattle.ipfix_template.specs.DataRecord.{DataRecord, IsSound, IsKept, kept_record}
 use Rattle.ipfix_records.specs.Pieces.{pieces, AreEnds}
-use Rattle.ipfix_session.specs.declared.read_error.ReadError.{ReadError}
-use Rattle.ipfix_session.specs.declared.read_error.ReadError.TheVariants.{Malformed, RecordOverrun, OutOfMemory}
+use Rattle.ipfix_session.specs.declared.fault.Fault.{Fault}
+use Rattle.ipfix_session.specs.declared.fault.Fault.TheVariants.{Malformed, RecordOverrun, OutOfMemory}
 use Rattle.ipfix_session.specs.declared.data_set.RecordEnds.{RecordEnds}
 use Rattle.ipfix_session.specs.Contents.{record_of}
 
 -- a record that runs past the end is there, unless memory ran out
-abbrev pub IsOverrun : {A : Type 0} → ReadError → A → A → Type 0
+abbrev pub IsOverrun : {A : Type 0} → Fault → A → A → Type 0
 IsOverrun OutOfMemory read overrun = Unit {0}
 IsOverrun RecordOverrun read overrun = read ≡ overrun
 IsOverrun (Malformed why) read overrun = ⊥
@@ -29,11 +29,11 @@ pub record AreFound (t : Template) (content : List ℕ) (found : RecordEnds) : T
   pub kept : found.is_shortest ≡ true → AllByRecursion (IsKept t) (pieces content 0 found.ends.items)
 
 -- the ends of all records of the content are found, unless one runs past its end
-abbrev pub FindsEnds : Template → List ℕ → Result RecordEnds ReadError → Type 0
+abbrev pub FindsEnds : Template → List ℕ → Result RecordEnds Fault → Type 0
 FindsEnds t content (Ok found) = AreFound t content found × (records_in t content ≡ Ok (map (values_in t.fields) (pieces content 0 found.ends.items)))
 FindsEnds t content (Err e) = IsOverrun e (records_in t content) (Err tt)
 
 -- the records of the content are added to those before
-abbrev pub AddsRecords : Template → List ℕ → List DataRecord → List DataRecord → Result (Unit {0}) ReadError → Type 0
+abbrev pub AddsRecords : Template → List ℕ → List DataRecord → List DataRecord → Result (Unit {0}) Fault → Type 0
 AddsRecords t content old new (Ok _) = (rows : List (List (List ℕ))) × (records_in t content ≡ Ok rows) × (new ≡ old ++ map (record_of t) rows)
 AddsRecords t content old new (Err e) = IsOverrun e (records_in t content) (Err tt)

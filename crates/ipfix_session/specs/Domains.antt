@@ -14,12 +14,12 @@ abbrev pub templates_in : Tabled → List (ℕ × Template)
 templates_in t = t.templates
 
 -- the templates of a domain; nothing, where there is no more than room
-abbrev pub told : Tabled → Option (List (ℕ × Template))
-told t = some_of t.templates
+abbrev pub some_templates : Tabled → Option (List (ℕ × Template))
+some_templates t = some_of t.templates
 
 -- the templates of each domain that has some
 abbrev pub shown_tables : List (ℕ × Tabled) → List (ℕ × List (ℕ × Template))
-shown_tables tables = shown_in told tables
+shown_tables tables = shown_in some_templates tables
 
 abbrev pub place_of : ℕ × Tabled → ℕ × Places
 place_of e = (e.0, e.1.places)

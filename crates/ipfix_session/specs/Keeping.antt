@@ -6,7 +6,7 @@ use Rattle.std.specs.BTreeMap.{is_at}
 use Rattle.std.specs.List.{AllByRecursion}
 use Rattle.ipfix_octets.specs.MessageFormat.{header_octets, set_header_octets, least_template_id}
 use Rattle.ipfix_template.specs.declared.template.Template.{Template}
-use Rattle.ipfix_template.specs.Template.{IsAccepted, is_options, template_record}
+use Rattle.ipfix_template.specs.Template.{IsAcceptable, is_options, template_record}
 use Rattle.ipfix_template.specs.DataRecord.{FitsOneMessage}
 use Rattle.ipfix_message.specs.declared.item.Item.{Item}
 use Rattle.ipfix_message.specs.declared.item.Item.TheVariants.{Define, Withdraw, WithdrawAll, Refused, DataSet, Skipped}
@@ -18,7 +18,7 @@ at_key key entries = lookup (is_at (nat_cmp key)) entries
 
 -- a template of which records may be made: it is accepted, and its record fits one message
 pub record IsKeepable (t : Template) : Type 0 where
-  pub accepted : IsAccepted t
+  pub accepted : IsAcceptable t
   pub fits : FitsOneMessage (template_record least_template_id (is_options t) t)
 
 -- each ID has the template that is in force after these items, newest first
@@ -31,13 +31,13 @@ Keeps kept items = AreInForce (λ id. at_key id kept) items
 
 -- an item that stands in a message of so many octets: what it defines may be kept, and its Data Set lies behind the
 -- headers of message and set
-abbrev pub StandsIn : ℕ → Item → Type 0
-StandsIn total (Define id t) = IsKeepable t
-StandsIn total (DataSet id start len) = (header_octets + set_header_octets ≤ start) × (start + len ≤ total)
-StandsIn total (Withdraw id) = Unit {0}
-StandsIn total (WithdrawAll options) = Unit {0}
-StandsIn total (Refused id why) = Unit {0}
-StandsIn total (Skipped set) = Unit {0}
+abbrev pub MayStandIn : ℕ → Item → Type 0
+MayStandIn total (Define id t) = IsKeepable t
+MayStandIn total (DataSet id start len) = (header_octets + set_header_octets ≤ start) × (start + len ≤ total)
+MayStandIn total (Withdraw id) = Unit {0}
+MayStandIn total (WithdrawAll options) = Unit {0}
+MayStandIn total (Refused id why) = Unit {0}
+MayStandIn total (Skipped set) = Unit {0}
 
 abbrev pub StandIn : ℕ → List Item → Type 0
-StandIn total items = AllByRecursion (StandsIn total) items
+StandIn total items = AllByRecursion (MayStandIn total) items

@@ -3,7 +3,7 @@ use Rattle.std.specs.Prelude.{ℕ, List, Option}
 use Rattle.ipfix_template.specs.declared.template.Template.{Template}
 use Rattle.ipfix_session.specs.Contents.{Contents}
 use Rattle.ipfix_session.specs.Keeping.{at_key}
-use Rattle.ipfix_session.specs.Change.{changed}
+use Rattle.ipfix_session.specs.Change.{changed_template}
 use Rattle.ipfix_session.specs.ReadAhead.{Ahead}
 
 -- what was read
@@ -12,4 +12,4 @@ contents_read r = record { records = r.meaning.records; skips = r.meaning.skips 
 
 -- the template of an ID after the message, by the templates before it
 abbrev pub afterwards : Ahead → List (ℕ × Template) → ℕ → Option Template
-afterwards r before id = changed r.change id (at_key id before)
+afterwards r before id = changed_template r.change id (at_key id before)

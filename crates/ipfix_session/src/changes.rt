@@ -9,7 +9,7 @@ ghost use Rattle.ipfix_template.specs.Template.{is_options};
 ghost use Rattle.ipfix_session.specs.InForce.{unless_of_kind};
 ghost use Rattle.ipfix_session.specs.Keeping.{at_key, IsKeepable};
 ghost use Rattle.ipfix_session.specs.Places.{HasPlaces};
-ghost use Rattle.ipfix_session.specs.Change.{changed, changes_none};
+ghost use Rattle.ipfix_session.specs.Change.{changed_template, changes_none};
 
 use crate::table::Table;
 use ipfix_template::Template;
@@ -41,7 +41,7 @@ impl Changes {
         ensures same { (before : List (ℕ × Template)) (q : ℕ)
             → after result before q ≡ at_key q before }
         ensures nothing { (found : Option Template) (q : ℕ)
-            → changed (change_of result) q found ≡ found }
+            → changed_template (change_of result) q found ≡ found }
     {
         Changes {
             alloc,

@@ -7,7 +7,7 @@ ghost use Rattle.ipfix_records.specs.Runs.{records_of};
 ghost use Rattle.ipfix_session.specs.Keeping.{IsKeepable};
 ghost use Rattle.ipfix_session.specs.DataSets.{AddsRecords, AreFound, FindsEnds};
 
-use crate::read_error::ReadError;
+use crate::fault::Fault;
 use bytes::Bytes;
 use ipfix_records::{Layout, Records, Run};
 use ipfix_template::{Extent, Record, Template};
@@ -34,7 +34,7 @@ pub(crate) fn read_set(
     template: &Arc<Template>,
     content: &Bytes,
     records: &mut Records,
-) -> Result<(), ReadError>
+) -> Result<(), Fault>
     requires keepable { IsKeepable (arc_value template.now) }
     requires fits { FitsOneMessage content.now }
     ensures { AddsRecords (arc_value template.now) content.now records.old records.new result }
@@ -50,7 +50,7 @@ pub(crate) fn read_set(
 }
 
 /// Finds where the records of a content end: the longest record that stands at each place, until only padding is left.
-fn find_ends(alloc: Global, layout: &Layout, content: &[u8]) -> Result<RecordEnds, ReadError>
+fn find_ends(alloc: Global, layout: &Layout, content: &[u8]) -> Result<RecordEnds, Fault>
     requires keepable { IsKeepable layout.now }
     requires fits { FitsOneMessage content.now }
     ensures { FindsEnds layout.now content.now result }
@@ -68,7 +68,7 @@ fn find_ends(alloc: Global, layout: &Layout, content: &[u8]) -> Result<RecordEnd
                     is_shortest,
                 });
             }
-            Extent::Overrun => return Err(ReadError::RecordOverrun),
+            Extent::Overrun => return Err(Fault::RecordOverrun),
             Extent::Record {
                 used: size,
                 is_shortest: as_written,

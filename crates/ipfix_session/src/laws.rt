@@ -1,6 +1,6 @@
 //! What the messages of a session mean: laws over the definitions alone.
 ghost use Rattle.std.specs.Prelude.{◌≡◌, ◌++◌, ◌∷◌, [], ℕ, List, reverse};
-ghost use Rattle.ipfix_session.specs.Meaning.{domain_of, expected_number, meaning_of, records_after, joined, records_meant};
+ghost use Rattle.ipfix_session.specs.Meaning.{domain_of, expected_number, meaning_of, records_after, both_records, records_meant};
 
 /// Reading message by message is the meaning's step: what further messages of a session mean is
 /// what the first of them mean, and then the others by a session that stands for the first too. One
@@ -8,7 +8,7 @@ ghost use Rattle.ipfix_session.specs.Meaning.{domain_of, expected_number, meanin
 pub fn messages_join()
     ensures joined { (older first others : List (List ℕ))
         → records_after older (first ++ others)
-        ≡ joined (records_after older first) (records_after (reverse first ++ older) others) }
+        ≡ both_records (records_after older first) (records_after (reverse first ++ older) others) }
     ensures step { (older : List (List ℕ)) (message : List ℕ)
         → records_after older (message ∷ [])
         ≡ records_meant (domain_of message) (meaning_of older message) }
@@ -28,7 +28,7 @@ pub fn items_join()
 ghost use Rattle.std.specs.Prelude.{Some, Ok, ◌↔◌};
 ghost use Rattle.sequences.specs.Octets.{AreOctets};
 ghost use Rattle.ipfix_template.specs.declared.template.Template.{Template};
-ghost use Rattle.ipfix_template.specs.Template.{IsAccepted};
+ghost use Rattle.ipfix_template.specs.Template.{IsAcceptable};
 ghost use Rattle.ipfix_template.specs.Values.{records_in};
 ghost use Rattle.ipfix_message.specs.declared.item.Item.{Item};
 ghost use Rattle.ipfix_session.specs.InForce.{template_in_force};
@@ -56,9 +56,9 @@ pub fn last_message_sets_the_number()
 /// records are read (RFC 7011, sections 3.3.1 and 3.4.3). Where the content is no such list, a
 /// record runs past the end.
 pub fn records_are_read()
-    ensures found { (t : Template) (octets : List ℕ) (rows : List (List (List ℕ))) → IsAccepted t
+    ensures found { (t : Template) (octets : List ℕ) (rows : List (List (List ℕ))) → IsAcceptable t
         → AreOctets octets → records_in t octets ≡ Ok rows → AreRecords t octets rows }
-    ensures only { (t : Template) (octets : List ℕ) (rows : List (List (List ℕ))) → IsAccepted t
+    ensures only { (t : Template) (octets : List ℕ) (rows : List (List (List ℕ))) → IsAcceptable t
         → AreRecords t octets rows → records_in t octets ≡ Ok rows }
 {}
 

@@ -10,7 +10,7 @@
 //! - [`contents`]: `Contents`, what a message holds that was read so.
 //! - [`reading`]: `Reading`, what was read of a message and is not yet kept.
 //! - [`read`]: `Read`, what a message brings, with `Skips` and `Gap`.
-//! - [`read_error`]: `ReadError`, why a message is refused.
+//! - [`fault`]: `Fault`, why a message is refused.
 //! - [`laws`]: messages mean what the first of them mean, and then the others (`messages_join`), and so do a
 //!   message's items (`items_join`); and, in the standard's words, which template is in force
 //!   (`last_definition_is_in_force`), which Sequence Number is expected (`last_message_sets_the_number`) and
@@ -38,10 +38,10 @@ mod by_domain;
 mod changes;
 pub mod contents;
 mod data_set;
+pub mod fault;
 pub mod laws;
 mod numbers;
 pub mod read;
-pub mod read_error;
 pub mod reading;
 pub mod session;
 mod table;
@@ -51,12 +51,12 @@ pub mod templates;
 mod walk;
 
 pub use contents::Contents;
+pub use fault::Fault;
 pub use laws::{
     items_join, last_definition_is_in_force, last_message_sets_the_number, messages_join,
     records_are_read, same_templates_read_the_same,
 };
 pub use read::{Gap, Read, Skips};
-pub use read_error::ReadError;
 pub use reading::Reading;
 pub use session::Session;
 pub use templates::Templates;

@@ -23,10 +23,10 @@ impl Model for Reading {
 
     ghost Value = { Ahead };
 
-    ghost use Rattle.ipfix_session.specs.Answers.{shown};
+    ghost use Rattle.ipfix_session.specs.Answers.{as_meaning};
     ghost use Rattle.ipfix_session.specs.Changing.{change_of};
 
-    ghost view = { λ r. record { meaning = shown r.read; change = change_of r.changes; next = r.next } };
+    ghost view = { λ r. record { meaning = as_meaning r.read; change = change_of r.changes; next = r.next } };
 }
 
 impl Reading {

@@ -12,13 +12,13 @@ ghost use Rattle.ipfix_session.specs.Standing.{kept_of, templates_of, StandsFor,
 ghost use Rattle.ipfix_session.specs.Unchanging.{HasNoTemplates};
 ghost use Rattle.ipfix_session.specs.ReadAhead.{IsReadingOf, HasRoomFor};
 ghost use Rattle.ipfix_message.specs.Reading as decoding;
-ghost use Rattle.ipfix_session.specs.Answers.{Gives, NamesFault, shown};
+ghost use Rattle.ipfix_session.specs.Answers.{Gives, NamesFault, as_meaning};
 ghost use Rattle.ipfix_session.specs.Settling.{contents_read, afterwards};
 
 use crate::changes::Changes;
+use crate::fault::Fault;
 use crate::numbers::Numbers;
 use crate::read::{Gap, Read, Skips};
-use crate::read_error::ReadError;
 use crate::reading::Reading;
 use crate::table::Table;
 use crate::tables::Tables;
@@ -56,9 +56,9 @@ impl Drop for Session {
 }
 
 impl Model for Session {
-    ghost use Rattle.ipfix_session.specs.Standing.{Kept};
+    ghost use Rattle.ipfix_session.specs.Standing.{KeptSession};
 
-    ghost Value = { Kept };
+    ghost Value = { KeptSession };
 
     ghost use Rattle.ipfix_session.specs.Session.{session_of};
 
@@ -111,10 +111,10 @@ impl Session {
     /// };
     /// assert!(rt; next.gap == Some(gap));
     /// ```
-    pub fn apply(&mut self, message: &[u8]) -> Result<Read, ReadError>
+    pub fn apply(&mut self, message: &[u8]) -> Result<Read, Fault>
         // The answer is what the message means after those before it, or its first fault.
         ensures meaning { (older : List (List ℕ)) → StandsFor self.old older
-            → Gives shown result (meaning_of older message.now) }
+            → Gives as_meaning result (meaning_of older message.now) }
         // After it the session stands for those messages and this one.
         ensures stands { (older : List (List ℕ)) → StandsFor self.old older
             → OnOk result (StandsFor self.new (message.now ∷ older)) }
@@ -137,7 +137,7 @@ impl Session {
     /// - `Malformed` with its cause, where the octets are no message.
     /// - `RecordOverrun` where a Data Record goes past its set.
     /// - `OutOfMemory` for want of memory.
-    pub fn read(&self, message: &Bytes) -> Result<Reading, ReadError>
+    pub fn read(&self, message: &Bytes) -> Result<Reading, Fault>
         // The answer is what the message means after those before it, or its first fault.
         ensures meaning { (older : List (List ℕ)) → StandsFor self.now older
             → Gives (λ r. r.meaning) result (meaning_of older message.now) }
@@ -171,7 +171,7 @@ impl Session {
     /// answers what the message brings, and takes no memory.
     pub fn keep(&mut self, reading: Reading) -> Read
         requires room { HasRoomFor self.old reading }
-        ensures read { shown result ≡ reading.meaning }
+        ensures read { as_meaning result ≡ reading.meaning }
         // Where it was read after those messages that the session stands for, the session then stands for them and
         // this one.
         ensures stands { (older : List (List ℕ)) (message : List ℕ) → StandsFor self.old older
@@ -308,7 +308,7 @@ impl Session {
         header: Header,
         message: &Bytes,
         said: Vec<Item>,
-    ) -> Result<Reading, ReadError>
+    ) -> Result<Reading, Fault>
         requires few { length message.now ≤ longest_message }
         requires stand { StandIn (length message.now) said.items }
         // What is answered is what these items hold after any others that leave the domain's

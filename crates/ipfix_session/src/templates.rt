@@ -10,11 +10,11 @@ ghost use Rattle.ipfix_session.specs.Meaning.{domain_of, contents_of};
 ghost use Rattle.ipfix_session.specs.Keeping.{at_key, Keeps, StandIn};
 ghost use Rattle.ipfix_session.specs.Standing.{templates_of, Knows};
 ghost use Rattle.ipfix_session.specs.Domains.{shown_tables};
-ghost use Rattle.ipfix_session.specs.Answers.{Gives, held};
+ghost use Rattle.ipfix_session.specs.Answers.{Gives, as_contents};
 
 use crate::by_domain::ByDomain;
 use crate::contents::Contents;
-use crate::read_error::ReadError;
+use crate::fault::Fault;
 use crate::table::Table;
 use crate::walk::walk_items;
 use bytes::Bytes;
@@ -89,15 +89,15 @@ impl Templates {
     /// # Errors
     /// - `RecordOverrun` where a Data Record goes past its set.
     /// - `OutOfMemory` for want of memory.
-    pub fn read(&self, message: &Bytes, said: Vec<Item>) -> Result<Contents, ReadError>
+    pub fn read(&self, message: &Bytes, said: Vec<Item>) -> Result<Contents, Fault>
         requires said { items_of message.now ≡ Ok said.items }
         // The answer is what the message holds after those messages, or its first fault.
         ensures messages { (older : List (List ℕ)) → Knows self.now older
-            → Gives held result (contents_of older message.now) }
+            → Gives as_contents result (contents_of older message.now) }
         // So it is after any items that leave these templates in force.
         ensures items { (older : List Item)
             → Keeps (templates_of (domain_of message.now) self.now) older
-            → Gives held result (contents_after older message.now said.items) }
+            → Gives as_contents result (contents_after older message.now said.items) }
     {
         let octets: &[u8] = message;
         let header = read_header(octets)?;
@@ -105,16 +105,11 @@ impl Templates {
     }
 
     /// Reads the items of a message by the templates of a domain.
-    fn read_items(
-        &self,
-        domain: u32,
-        message: &Bytes,
-        said: Vec<Item>,
-    ) -> Result<Contents, ReadError>
+    fn read_items(&self, domain: u32, message: &Bytes, said: Vec<Item>) -> Result<Contents, Fault>
         requires few { length message.now ≤ longest_message }
         requires stand { StandIn (length message.now) said.items }
         ensures { (older : List Item) → Keeps (templates_of domain self.now) older
-            → Gives held result (contents_after older message.now said.items) }
+            → Gives as_contents result (contents_after older message.now said.items) }
     {
         let empty = Table::new(self.alloc);
         let base = self.tables.table(domain, &empty);

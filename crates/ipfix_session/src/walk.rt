@@ -3,15 +3,15 @@ ghost use Rattle.std.specs.Prelude.{◌≡◌, ◌+◌, ◌-◌, ◌≤◌, ◌<
 ghost use Rattle.ipfix_octets.specs.MessageFormat.{longest_message, header_octets, set_header_octets};
 ghost use Rattle.ipfix_message.specs.declared.item.Item.{Item};
 ghost use Rattle.ipfix_session.specs.Contents.{set_contents, item_contents, contents_after};
-ghost use Rattle.ipfix_session.specs.Keeping.{Keeps, AreInForce, StandsIn, StandIn};
+ghost use Rattle.ipfix_session.specs.Keeping.{Keeps, AreInForce, MayStandIn, StandIn};
 ghost use Rattle.ipfix_session.specs.Answers.{Gives};
-ghost use Rattle.ipfix_session.specs.Walking.{contents_in, Adds, IsCounted};
+ghost use Rattle.ipfix_session.specs.Walking.{contents_in, AddsContents, SkipsAtMost};
 ghost use Rattle.ipfix_session.specs.Changing.{after};
 
 use crate::changes::Changes;
 use crate::data_set::read_set;
+use crate::fault::Fault;
 use crate::read::Skips;
-use crate::read_error::ReadError;
 use crate::table::Table;
 use bytes::Bytes;
 use ipfix_message::Item;
@@ -37,7 +37,7 @@ pub(crate) fn walk_items(
     base: &Table,
     message: &Bytes,
     said: Vec<Item>,
-) -> Result<Walk, ReadError>
+) -> Result<Walk, Fault>
     requires few { length message.now ≤ longest_message }
     requires stand { StandIn (length message.now) said.items }
     ensures reads { (older : List Item) → Keeps base.now.templates older
@@ -70,21 +70,21 @@ fn read_item(
     message: &Bytes,
     item: Item,
     state: &mut Walk,
-) -> Result<(), ReadError>
+) -> Result<(), Fault>
     requires few { length message.now ≤ longest_message }
-    requires stands { StandsIn (length message.now) item }
-    requires room { IsCounted state.old.skips (2 ^ 64 - 2) }
+    requires stands { MayStandIn (length message.now) item }
+    requires room { SkipsAtMost state.old.skips (2 ^ 64 - 2) }
     // The item adds what it holds after those that were read, and changes the templates so.
     ensures reads { (done : List Item)
         → AreInForce (after state.old.changes base.now.templates) done
-        → Adds (contents_in state.old) (contents_in state.new)
+        → AddsContents (contents_in state.old) (contents_in state.new)
         (item_contents done message.now item) result }
     ensures keeps { (done : List Item)
         → AreInForce (after state.old.changes base.now.templates) done
         → OnOk result (AreInForce (after state.new.changes base.now.templates) (item ∷ done)) }
     // Each item is counted once at most.
-    ensures counts { (n : ℕ) → IsCounted state.old.skips n
-        → OnOk result (IsCounted state.new.skips (n + 1)) }
+    ensures counts { (n : ℕ) → SkipsAtMost state.old.skips n
+        → OnOk result (SkipsAtMost state.new.skips (n + 1)) }
 {
     match item {
         Item::DataSet { id, start, len } => {
@@ -124,19 +124,19 @@ fn read_data_set(
     start: usize,
     len: usize,
     state: &mut Walk,
-) -> Result<(), ReadError>
+) -> Result<(), Fault>
     requires few { length message.now ≤ longest_message }
     requires stands { (header_octets + set_header_octets ≤ start)
         × (start + len ≤ length message.now) }
-    requires room { IsCounted state.old.skips (2 ^ 64 - 2) }
+    requires room { SkipsAtMost state.old.skips (2 ^ 64 - 2) }
     // The set adds what it holds by the template in force, and changes no template.
-    ensures reads { Adds (contents_in state.old) (contents_in state.new)
+    ensures reads { AddsContents (contents_in state.old) (contents_in state.new)
         (set_contents (after state.old.changes base.now.templates id)
         (take len (drop start message.now))) result }
     ensures changes { state.new.changes ≡ state.old.changes }
     // Each set is counted once at most.
-    ensures counts { (n : ℕ) → IsCounted state.old.skips n
-        → OnOk result (IsCounted state.new.skips (n + 1)) }
+    ensures counts { (n : ℕ) → SkipsAtMost state.old.skips n
+        → OnOk result (SkipsAtMost state.new.skips (n + 1)) }
 {
     let Some(template) = state.changes.get(base, id) else {
         state.skips.unknown += 1;

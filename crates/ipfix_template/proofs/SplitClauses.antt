@@ -10,7 +10,7 @@ use Rattle.ipfix_template.specs.declared.spans.Split.{Split}
 use Rattle.ipfix_template.specs.declared.spans.Split.TheVariants.{Record, Padding, Overrun}
 use Rattle.ipfix_template.specs.Template.{shortest_record}
 use Rattle.ipfix_template.specs.Values.{Splits, values_at, found_record, record_front}
-use Rattle.ipfix_template.specs.Shown.{values_shown, Shows, IsSplitBy, IsFound, IsPadding}
+use Rattle.ipfix_template.specs.Shown.{values_shown, Shows, IsSplitBy, IsRecordFound, IsPadding}
 use Rattle.ipfix_template.proofs.SplitLaws.{values_at-found, values_at-only, Splits-least, found_values}
 
 abbrev pub RecordFront : Type 0
@@ -48,7 +48,7 @@ front_is t octets text rest values parts is =
 abbrev pub next_front : List (List ℕ) → List ℕ → RecordFront
 next_front values rest = Next (values ∷ []) rest
 
-shown_is : (octets text rest : List ℕ) (values : List (List ℕ)) (front : RecordFront) → octets ≡ text ++ rest → front ≡ next_front values rest → (s : Split) → Shows octets front s → IsFound octets values (length text) s
+shown_is : (octets text rest : List ℕ) (values : List (List ℕ)) (front : RecordFront) → octets ≡ text ++ rest → front ≡ next_front values rest → (s : Split) → Shows octets front s → IsRecordFound octets values (length text) s
 shown_is octets text rest values front parts is Padding h = absurd cc
 shown_is octets text rest values front parts is Overrun h = absurd cc
 shown_is octets text rest values front parts is (Record spans used) h =
@@ -57,7 +57,7 @@ shown_is octets text rest values front parts is (Record spans used) h =
     let rests : drop used octets ≡ rest = cc in
     (vs, omega (arith, ap length rests, ap length parts, length-append text rest, length-drop used octets, h.2))
 
-pub shows_found : (t : Template) (octets text rest : List ℕ) (values : List (List ℕ)) → octets ≡ text ++ rest → Splits t.fields text values → (s : Split) → Shows octets (record_front t octets) s → IsFound octets values (length text) s
+pub shows_found : (t : Template) (octets text rest : List ℕ) (values : List (List ℕ)) → octets ≡ text ++ rest → Splits t.fields text values → (s : Split) → Shows octets (record_front t octets) s → IsRecordFound octets values (length text) s
 shows_found t octets text rest values parts is s h = shown_is octets text rest values (record_front t octets) parts (front_is t octets text rest values parts is) s h
 
 not_end : (found : Option (List (List ℕ) × List ℕ)) → found_record found ≡ End → ⊥

@@ -2,7 +2,7 @@
 use Rattle.std.specs.Prelude.{◌≡◌, ℕ, ◌+◌, ◌≤◌, true, List, length}
 use Rattle.ipfix_octets.specs.MessageFormat.{longest_message, header_octets, set_header_octets, least_template_id}
 use Rattle.ipfix_template.specs.declared.template.Template.{Template}
-use Rattle.ipfix_template.specs.Template.{IsAccepted, is_options, template_record}
+use Rattle.ipfix_template.specs.Template.{IsAcceptable, is_options, template_record}
 use Rattle.ipfix_template.specs.Values.{fit_fields, record_text, values_in}
 
 -- a template and values for its fields
@@ -16,7 +16,7 @@ FitsOneMessage content = header_octets + set_header_octets + length content ≤ 
 
 -- the template may be announced, the values are its fields', and each of the two fits one message
 pub record IsSound (r : DataRecord) : Type 0 where
-  pub accepted : IsAccepted r.template
+  pub accepted : IsAcceptable r.template
   pub fit : fit_fields r.template.fields r.values ≡ true
   pub template_fits : FitsOneMessage (template_record least_template_id (is_options r.template) r.template)
   pub record_fits : FitsOneMessage (record_text r.template.fields r.values)

@@ -48,10 +48,10 @@ IsLaid fields octets Padding = Unit {0}
 IsLaid fields octets Overrun = Unit {0}
 
 -- a record of these values is found, of so many octets
-abbrev pub IsFound : List ℕ → List (List ℕ) → ℕ → Split → Type 0
-IsFound octets values size (Record spans used) = (values_shown octets spans.items ≡ values) × (used ≡ size)
-IsFound octets values size Padding = ⊥
-IsFound octets values size Overrun = ⊥
+abbrev pub IsRecordFound : List ℕ → List (List ℕ) → ℕ → Split → Type 0
+IsRecordFound octets values size (Record spans used) = (values_shown octets spans.items ≡ values) × (used ≡ size)
+IsRecordFound octets values size Padding = ⊥
+IsRecordFound octets values size Overrun = ⊥
 
 abbrev pub IsPadding : Split → Type 0
 IsPadding (Record spans used) = ⊥

@@ -48,8 +48,8 @@ refusal_of id options t =
 abbrev pub is_options : Template → Bool
 is_options t = nat_lt 0 t.scope
 
-abbrev pub IsAccepted : Template → Type 0
-IsAccepted t = refusal_of least_template_id (is_options t) t ≡ None
+abbrev pub IsAcceptable : Template → Type 0
+IsAcceptable t = refusal_of least_template_id (is_options t) t ≡ None
 
 -- an element number, its enterprise bit, the field's length, and the enterprise number where the bit is set
 abbrev pub specifier_of : Option ℕ → ℕ → ℕ → List ℕ

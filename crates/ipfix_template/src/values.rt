@@ -2,7 +2,7 @@
 ghost use Rattle.std.specs.Prelude.{◌≡◌, ◌≤◌, ◌+◌, ◌++◌, ℕ, List, length, IsOk, IfOk, IfSome, ◌↔◌, ◌<◌};
 ghost use Rattle.ipfix_template.specs.Values.{Splits, span_at, values_at, record_front};
 ghost use Rattle.ipfix_template.specs.Template.{shortest_record};
-ghost use Rattle.ipfix_template.specs.Shown.{Shows, IsSplitBy, IsLaid, IsFound, spans_shown, AreFoundLaid, AreFoundWithin, IsPadding};
+ghost use Rattle.ipfix_template.specs.Shown.{Shows, IsSplitBy, IsLaid, IsRecordFound, spans_shown, AreFoundLaid, AreFoundWithin, IsPadding};
 
 use crate::field::FieldSpec;
 use crate::spans::{Span, Split};
@@ -24,7 +24,7 @@ pub fn split(alloc: Global, template: &Template, octets: &[u8]) -> Result<Split,
     // What is split so by the fields is found, whatever follows it.
     ensures only { (text rest : List ℕ) (values : List (List ℕ)) → octets.now ≡ text ++ rest
         → Splits template.now.fields text values
-        → IfOk result (IsFound octets.now values (length text)) }
+        → IfOk result (IsRecordFound octets.now values (length text)) }
     ensures padding { IfOk result
         (λ s. IsPadding s ↔ (length octets.now < shortest_record template.now)) }
     ensures exact { IfOk result (Shows octets.now (record_front template.now octets.now)) }

@@ -2,12 +2,12 @@
 use Rattle.std.proofs.Common.{◌≡◌, ℕ, List, Bool, Option, inl, inr, ap, subst}
 use Rattle.std.specs.Borrow.{Bor}
 use Rattle.octet_io.specs.Moments.{writer_of}
-use Rattle.ipmd_command_line.specs.CommandLine.{AsksFor}
+use Rattle.ipmd_command_line.specs.CommandLine.{AsksForTask}
 use Rattle.ipmd_command_line.specs.declared.task.OfflineOptions.{OfflineOptions}
 use Rattle.ipmd_command_line.specs.declared.task.VerifyOptions.{VerifyOptions}
 use Rattle.ipmd_command_line.specs.declared.task.ExplainOptions.{ExplainOptions}
 use Rattle.ipmd_command_line.specs.declared.task.Task.TheVariants.{Offline, Serve, Verify, Explain}
-use Rattle.ipmd_commands.specs.declared.fault.ProgramFault.{ProgramFault}
+use Rattle.ipmd_commands.specs.declared.fault.Fault.{Fault as ProgramFault}
 use Rattle.ipmd_commands.specs.Runs.{RefusesToFilter}
 use Rattle.ipmd_commands.specs.Status.{Blames}
 use Rattle.ipmd_verify.specs.Verifying.{RefusesToVerifyFile}
@@ -17,23 +17,23 @@ use Rattle.ipmd.specs.Serving.{FailsToServe}
 
 -- nothing was served, or a server failed
 pub unserved : {D : Type 0} (words : List (List ℕ)) (path : Bor (List ℕ)) (e : ProgramFault) (given held holds : Option (List ℕ)) (before after : D)
-    → AsksFor words (Serve path) → FailsToServe path.now e held holds before after → FailsFor words e given held holds before after
+    → AsksForTask words (Serve path) → FailsToServe path.now e held holds before after → FailsFor words e given held holds before after
 unserved words path e given held holds before after asks (inl (same, refuses, keeps)) = inl (same, inr (inr (inr (inr (inl (path, asks, refuses, keeps))))))
 unserved words path e given held holds before after asks (inr refuses) = inr (path, asks, refuses)
 
 -- a stream was not filtered
 pub unfiltered : {D : Type 0} (words : List (List ℕ)) (options : OfflineOptions) (e : ProgramFault) (given held holds : Option (List ℕ)) (before after : D)
-    → after ≡ before → AsksFor words (Offline options) → RefusesToFilter options e given held holds → FailsFor words e given held holds before after
+    → after ≡ before → AsksForTask words (Offline options) → RefusesToFilter options e given held holds → FailsFor words e given held holds before after
 unfiltered words options e given held holds before after same asks refuses = inl (same, inr (inr (inl (options, asks, refuses))))
 
 -- a journal was not verified
 pub unverified : {D : Type 0} (words : List (List ℕ)) (options : VerifyOptions) (e : ProgramFault) (given held holds : Option (List ℕ)) (before after : D)
-    → after ≡ before → AsksFor words (Verify options) → RefusesToVerifyFile options e held holds → FailsFor words e given held holds before after
+    → after ≡ before → AsksForTask words (Verify options) → RefusesToVerifyFile options e held holds → FailsFor words e given held holds before after
 unverified words options e given held holds before after same asks refuses = inl (same, inr (inr (inr (inr (inr (inl (options, asks, refuses)))))))
 
 -- or not explained
 pub unexplained : {D : Type 0} (words : List (List ℕ)) (options : ExplainOptions) (e : ProgramFault) (given held holds : Option (List ℕ)) (before after : D)
-    → after ≡ before → AsksFor words (Explain options) → RefusesToExplainFile options e held holds → FailsFor words e given held holds before after
+    → after ≡ before → AsksForTask words (Explain options) → RefusesToExplainFile options e held holds → FailsFor words e given held holds before after
 unexplained words options e given held holds before after same asks refuses = inl (same, inr (inr (inr (inr (inr (inr (inl (options, asks, refuses))))))))
 
 -- it was a fault, and then that was said

@@ -5,24 +5,25 @@ use Rattle.std.specs.Io.KnownBytes.{Appends}
 use Rattle.std.specs.Borrow.{Bor}
 use Rattle.std.proofs.KnownBytes.{Keeps-refl}
 use Rattle.ipmd_command_line.specs.declared.task.ReplayOptions.{ReplayOptions}
-use Rattle.ipmd_commands.specs.declared.fault.ProgramFault.{ProgramFault}
+use Rattle.ipmd_commands.specs.declared.fault.Fault.{Fault as ProgramFault}
 use Rattle.ipmd_commands.specs.declared.failure.Place.TheVariants.{File, Output}
 use Rattle.ipmd_commands.specs.Failures.{FailedAt, FailedAtFile, IsFileFault, failed_at}
-use Rattle.mediator_calls.specs.declared.fault.RunFault.{RunFault}
-use Rattle.mediator_calls.specs.declared.fault.RunFault.TheVariants.{BadLimits, OutOfMemory}
+use Rattle.mediator_state.specs.declared.fault.Fault.{Fault}
+use Rattle.mediator_state.specs.declared.fault.Fault.TheVariants as fault
 use Rattle.mediator_calls.specs.Limited.{RefusesLimits}
 use Rattle.replay_text.specs.declared.call_list.CallList.{CallList}
-use Rattle.replay_text.specs.Lists.{asked, list_of}
+use Rattle.replay_text.specs.Lists.{asked_calls, list_of}
 use Rattle.replay_text.specs.Answers.{answers_text}
 use Rattle.mediator_core.specs.declared.transcript.Transcript.{Transcript}
-use Rattle.ipmd_commands.specs.Status.{run_fault_of}
-use Rattle.ipmd_commands.specs.HexText.{WritesSome}
+use Rattle.ipmd_commands.specs.Status.{mediator_fault_of}
+use Rattle.ipmd_commands.specs.HexText.{WritesSomeOf}
 use Rattle.ipmd.specs.Replays.{BeginsToAnswer, RefusesText, RefusesToReplay, Replays, RunsText}
 
 -- its limits are at fault, or memory ran out
-pub no_run : (text : List ℕ) (list : CallList) (why : RunFault) → list_of text ≡ Ok (asked list) → RefusesLimits why list.limits → RefusesText (run_fault_of why) text
-no_run text list BadLimits read refused = record { list = list; read = read; bad = refused }
-no_run text list OutOfMemory read refused = tt
+pub no_run : (text : List ℕ) (list : CallList) (why : Fault) → list_of text ≡ Ok (asked_calls list) → RefusesLimits why list.limits → RefusesText (mediator_fault_of why) text
+no_run text list fault.BadLimits read refused = record { list = list; read = read; bad = refused }
+no_run text list fault.OutOfMemory read refused = tt
+no_run text list _ read refused = absurd refused
 
 -- the file of the calls can't be read
 pub no_calls : (options : ReplayOptions) (e : ProgramFault) (held : Option (List ℕ)) → IsFileFault options.calls.now e → RefusesToReplay options e held held
@@ -31,9 +32,9 @@ no_calls options e held (inr (text, same, (why, is))) = subst (λ x. RefusesToRe
 
 -- that of the journal can't be kept
 pub no_journal : (options : ReplayOptions) (path : Bor (List ℕ)) (e : ProgramFault) (held : Option (List ℕ)) → options.journal ≡ Some path → IsFileFault path.now e → RefusesToReplay options e held held
-no_journal options path e held asked (inl is) = subst (λ x. RefusesToReplay options x held held) (sym is) (([], tt), Keeps-refl held)
-no_journal options path e held asked (inr (text, same, (why, is))) = subst (λ x. RefusesToReplay options x held held) (sym is)
-    (inl (inr (subst (λ journal. IfSome journal (λ p. FailedAtFile p.now (failed_at (File text) why))) (sym asked) (text, same, (why, refl))), Keeps-refl held))
+no_journal options path e held asked_calls (inl is) = subst (λ x. RefusesToReplay options x held held) (sym is) (([], tt), Keeps-refl held)
+no_journal options path e held asked_calls (inr (text, same, (why, is))) = subst (λ x. RefusesToReplay options x held held) (sym is)
+    (inl (inr (subst (λ journal. IfSome journal (λ p. FailedAtFile p.now (failed_at (File text) why))) (sym asked_calls) (text, same, (why, refl))), Keeps-refl held))
 
 -- the output failed
 pub no_answer : (options : ReplayOptions) (e : ProgramFault) (held holds : Option (List ℕ)) → FailedAt Output e → BeginsToAnswer held holds → RefusesToReplay options e held holds
@@ -45,7 +46,7 @@ answered (Ok x) held holds text written t runs is appends = record { text = text
 answered (Err e) held holds text written t runs is appends = tt
 
 -- or the output failed behind a front of them
-pub unanswered : {X : Type 0} (r : Result X ProgramFault) (options : ReplayOptions) (held holds : Option (List ℕ)) (text written : List ℕ) (t : Transcript) → RunsText text t → written ≡ answers_text t.replies.items → IfErr r (λ e. FailedAt Output e × WritesSome written held holds) → IfErr r (λ e. RefusesToReplay options e held holds)
+pub unanswered : {X : Type 0} (r : Result X ProgramFault) (options : ReplayOptions) (held holds : Option (List ℕ)) (text written : List ℕ) (t : Transcript) → RunsText text t → written ≡ answers_text t.replies.items → IfErr r (λ e. FailedAt Output e × WritesSomeOf written held holds) → IfErr r (λ e. RefusesToReplay options e held holds)
 unanswered (Ok x) options held holds text written t runs is fails = tt
 unanswered (Err e) options held holds text written t runs is fails =
-    no_answer options e held holds fails.0 (record { text = text; transcript = t; runs = runs; written = subst (λ w. WritesSome w held holds) is fails.1 })
+    no_answer options e held holds fails.0 (record { text = text; transcript = t; runs = runs; written = subst (λ w. WritesSomeOf w held holds) is fails.1 })

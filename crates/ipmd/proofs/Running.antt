@@ -5,25 +5,24 @@ use Rattle.std.specs.List.{flat_map}
 use Rattle.std.proofs.KnownBytes.{Appends-trans, Appends-nil, Keeps-refl}
 use Rattle.std.proofs.lemmas.List.{length-append}
 use Rattle.std.proofs.lemmas.List.Concat.{flat_map-append}
-use Rattle.ipmd_settings.specs.Asked.{Asked}
-use Rattle.mediator_server.specs.declared.plan.Plan.{Plan}
+use Rattle.ipmd_settings.specs.Asked.{AskedService}
+use Rattle.mediator_server.specs.declared.plan.RunPlan.{RunPlan}
 use Rattle.mediator_server.specs.Listening.{IsServed}
-use Rattle.mediator_calls.specs.declared.fault.RunFault.{RunFault}
-use Rattle.mediator_calls.specs.declared.fault.RunFault.TheVariants as run
 use Rattle.mediator_calls.specs.declared.limits.Limits.{Limits}
 use Rattle.mediator_calls.specs.Limited.{AreAllowed, RefusesLimits}
+use Rattle.mediator_state.specs.declared.fault.Fault.{Fault}
 use Rattle.mediator_state.specs.declared.fault.Fault.TheVariants as fault
-use Rattle.mediator_server.specs.declared.listening.ListenFault.TheVariants as listen
-use Rattle.ipmd_commands.specs.declared.fault.ProgramFault.{ProgramFault}
-use Rattle.ipmd_commands.specs.declared.fault.ProgramFault.TheVariants.{OutOfMemory}
+use Rattle.mediator_server.specs.declared.listening.Fault.TheVariants as listen
+use Rattle.ipmd_commands.specs.declared.fault.Fault.{Fault as ProgramFault}
+use Rattle.ipmd_commands.specs.declared.fault.Fault.TheVariants.{OutOfMemory}
 use Rattle.ipmd_commands.specs.declared.failure.Place.TheVariants.{Output, RandomNumbers}
 use Rattle.ipmd_commands.specs.Failures.{FailedAt}
-use Rattle.ipmd_commands.specs.HexText.{WritesSome}
-use Rattle.ipmd_commands.specs.Status.{run_fault_of}
+use Rattle.ipmd_commands.specs.HexText.{WritesSomeOf}
+use Rattle.ipmd_commands.specs.Status.{mediator_fault_of}
 use Rattle.ipmd_run_journals.specs.Keeping.{IsKeepingFault, IsSomeFileFault, part_name}
 use Rattle.ipmd_run_journals.specs.Numbering.{file_name}
 use Rattle.ipmd.specs.declared.serve.Service.{Service}
-use Rattle.ipmd.specs.Serving.{IsAskedFor, Run, IsRun, AreFull, policy_after, served, MakesRun, Serves, StopsBehind, StopsRun, StopsServing, IsBeginFault, IsListenFault, RefusesToTell, IsToRun}
+use Rattle.ipmd.specs.Serving.{IsAskedFor, Run, IsRun, AreFull, policy_after, run_line, MakesRun, ServesRuns, StopsBehindRuns, StopsRun, StopsServingRuns, IsBeginFault, IsListenFault, RefusesToTell, IsToRun}
 
 -- the first run is to be made
 pub begins : (service : Service) (held : Option (List ℕ)) → IsAskedFor service → IsToRun service.plan service.runs 1 held held
@@ -43,11 +42,11 @@ begins service held asked = record {
 }
 
 -- a run by the plan
-pub is_run : (plan : Plan) (runs run : ℕ) (held holds : Option (List ℕ)) (made : Run) (so : IsToRun plan runs run held holds) → IsServed plan [] made.history made.accepted made.handed → IsRun so.asked so.policy made
+pub is_run : (plan : RunPlan) (runs run : ℕ) (held holds : Option (List ℕ)) (made : Run) (so : IsToRun plan runs run held holds) → IsServed plan [] made.history made.accepted made.handed → IsRun so.asked so.policy made
 is_run plan runs run held holds made so is_served = record { plan = plan; plan_is = so.plan_is; is_served = is_served }
 
 -- a run more whose journal was full
-full_more : (asked : Asked) (first : List ℕ) (before : List Run) (policy : List ℕ) (made : Run) → AreFull asked first before policy → IsRun asked policy made → made.full ≡ true → made.stopped ≡ false
+full_more : (asked : AskedService) (first : List ℕ) (before : List Run) (policy : List ℕ) (made : Run) → AreFull asked first before policy → IsRun asked policy made → made.full ≡ true → made.stopped ≡ false
     → AreFull asked first (before ++ made ∷ []) (policy_after policy made.history)
 full_more asked first [] policy made are is full unstopped = (subst (λ p. IsRun asked p made) are is, full, unstopped, ap (λ p. policy_after p made.history) are)
 full_more asked first (run ∷ before) policy made are is full unstopped = (are.0, are.1, are.2, full_more asked (policy_after first run.history) before policy made are.3 is full unstopped)
@@ -64,12 +63,12 @@ unfollowed false stopped is = inl refl
 unfollowed true true is = inr refl
 unfollowed true false is = absurd (true≢false (sym is))
 
-told_more : (before : List Run) (made : Run) (held holds writes : Option (List ℕ)) → Appends held holds (flat_map served before) → Appends holds writes (served made) → Appends held writes (flat_map served (before ++ made ∷ []))
+told_more : (before : List Run) (made : Run) (held holds writes : Option (List ℕ)) → Appends held holds (flat_map run_line before) → Appends holds writes (run_line made) → Appends held writes (flat_map run_line (before ++ made ∷ []))
 told_more before made held holds writes so more =
-    subst (Appends held writes) (sym (flat_map-append served before (made ∷ []) ∙ ap (λ t. flat_map served before ++ t) (append-nil (served made)))) (Appends-trans held holds writes (flat_map served before) (served made) so more)
+    subst (Appends held writes) (sym (flat_map-append run_line before (made ∷ []) ∙ ap (λ t. flat_map run_line before ++ t) (append-nil (run_line made)))) (Appends-trans held holds writes (flat_map run_line before) (run_line made) so more)
 
 -- another run is to follow
-pub goes_on : (plan next : Plan) (runs run : ℕ) (held holds writes : Option (List ℕ)) → IsToRun plan runs run held holds → MakesRun true plan next holds writes → run < runs → IsToRun next runs (run + 1) held writes
+pub goes_on : (plan next : RunPlan) (runs run : ℕ) (held holds writes : Option (List ℕ)) → IsToRun plan runs run held holds → MakesRun true plan next holds writes → run < runs → IsToRun next runs (run + 1) held writes
 goes_on plan next runs run held holds writes so makes more = record {
   text = so.text;
   asked = so.asked;
@@ -88,7 +87,7 @@ goes_on plan next runs run held holds writes so makes more = record {
   follows = followed makes.made.full makes.made.stopped makes.more_is
 
 -- it was the last one
-ends : (plan next : Plan) (runs run : ℕ) (more : Bool) (held holds writes : Option (List ℕ)) → IsToRun plan runs run held holds → MakesRun more plan next holds writes → (more ≡ false) ⊎ (runs ≤ run) → Serves held writes
+ends : (plan next : RunPlan) (runs run : ℕ) (more : Bool) (held holds writes : Option (List ℕ)) → IsToRun plan runs run held holds → MakesRun more plan next holds writes → (more ≡ false) ⊎ (runs ≤ run) → ServesRuns held writes
 ends plan next runs run more held holds writes so makes last = record {
   text = so.text;
   asked = so.asked;
@@ -111,14 +110,14 @@ ends plan next runs run more held holds writes so makes last = record {
   ended (inl none) = unmade (unfollowed makes.made.full makes.made.stopped (sym none ∙ makes.more_is))
   ended (inr all) = inr (inr (omega (arith, so.counted, so.allowed, so.runs_are, all)))
 
-pub ends_early : (plan next : Plan) (runs run : ℕ) (more : Bool) (held holds writes : Option (List ℕ)) → IsToRun plan runs run held holds → MakesRun more plan next holds writes → more ≡ false → Serves held writes
+pub ends_early : (plan next : RunPlan) (runs run : ℕ) (more : Bool) (held holds writes : Option (List ℕ)) → IsToRun plan runs run held holds → MakesRun more plan next holds writes → more ≡ false → ServesRuns held writes
 ends_early plan next runs run more held holds writes so makes none = ends plan next runs run more held holds writes so makes (inl none)
 
-pub ends_at_last : (plan next : Plan) (runs run : ℕ) (more : Bool) (held holds writes : Option (List ℕ)) → IsToRun plan runs run held holds → MakesRun more plan next holds writes → runs ≤ run → Serves held writes
+pub ends_at_last : (plan next : RunPlan) (runs run : ℕ) (more : Bool) (held holds writes : Option (List ℕ)) → IsToRun plan runs run held holds → MakesRun more plan next holds writes → runs ≤ run → ServesRuns held writes
 ends_at_last plan next runs run more held holds writes so makes all = ends plan next runs run more held holds writes so makes (inr all)
 
 -- it stops behind the runs that were told
-pub stops : (plan : Plan) (runs run : ℕ) (held holds writes : Option (List ℕ)) (e : ProgramFault) → IsToRun plan runs run held holds → StopsRun e plan holds writes → StopsServing e held writes
+pub stops : (plan : RunPlan) (runs run : ℕ) (held holds writes : Option (List ℕ)) (e : ProgramFault) → IsToRun plan runs run held holds → StopsRun e plan holds writes → StopsServingRuns e held writes
 stops plan runs run held holds writes e so stopped = record {
   text = so.text;
   asked = so.asked;
@@ -131,12 +130,12 @@ stops plan runs run held holds writes e so stopped = record {
   written = so.written;
   stops = behind stopped;
 } where
-  behind : StopsRun e plan holds writes → StopsBehind e so.asked so.policy holds writes
+  behind : StopsRun e plan holds writes → StopsBehindRuns e so.asked so.policy holds writes
   behind (inl fault) = inl fault
   behind (inr (made, is_served, refuses)) = inr (made, is_run plan runs run held holds made so is_served, refuses)
 
 -- no run is made
-pub stops_first : (service : Service) (held : Option (List ℕ)) (e : ProgramFault) → IsAskedFor service → IsBeginFault e → StopsServing e held held
+pub stops_first : (service : Service) (held : Option (List ℕ)) (e : ProgramFault) → IsAskedFor service → IsBeginFault e → StopsServingRuns e held held
 stops_first service held e asked fault = stops service.plan service.runs 1 held held held e (begins service held asked) (inl (fault, Keeps-refl held))
 
 -- ---- faults
@@ -156,16 +155,17 @@ kept_somewhere path number e (inl fault) = (part_name (file_name path number), f
 kept_somewhere path number e (inr fault) = (file_name path number, fault)
 
 -- a mediator with limits that it may have is refused for memory alone
-pub new_refused : (why : RunFault) (limits : Limits) → RefusesLimits why limits → AreAllowed limits → IsListenFault (run_fault_of why)
-new_refused run.BadLimits limits refused allowed = absurd (refused allowed)
-new_refused run.OutOfMemory limits refused allowed = (listen.Core fault.OutOfMemory, refl)
+pub new_refused : (why : Fault) (limits : Limits) → RefusesLimits why limits → AreAllowed limits → IsListenFault (mediator_fault_of why)
+new_refused fault.BadLimits limits refused allowed = absurd (refused allowed)
+new_refused fault.OutOfMemory limits refused allowed = (listen.Mediator fault.OutOfMemory, refl)
+new_refused _ limits refused allowed = absurd refused
 
 -- nothing was written of a run's line, some of it, or all of it
 pub told_nothing : (made : Run) (held : Option (List ℕ)) → RefusesToTell OutOfMemory made held held
 told_nothing made held = inl (refl, Keeps-refl held)
 
-pub told_some : (e : ProgramFault) (made : Run) (held holds : Option (List ℕ)) → FailedAt Output e → WritesSome (served made) held holds → RefusesToTell e made held holds
+pub told_some : (e : ProgramFault) (made : Run) (held holds : Option (List ℕ)) → FailedAt Output e → WritesSomeOf (run_line made) held holds → RefusesToTell e made held holds
 told_some e made held holds failed some = inr (inl (failed, some))
 
-pub told_all : (e : ProgramFault) (made : Run) (held holds : Option (List ℕ)) → IsSomeFileFault e → Appends held holds (served made) → RefusesToTell e made held holds
+pub told_all : (e : ProgramFault) (made : Run) (held holds : Option (List ℕ)) → IsSomeFileFault e → Appends held holds (run_line made) → RefusesToTell e made held holds
 told_all e made held holds is told = inr (inr (is, told))

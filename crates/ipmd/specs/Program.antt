@@ -6,33 +6,33 @@ use Rattle.octet_io.specs.Moments.{Writer}
 use Rattle.clap.specs.Words.{kind_of}
 use Rattle.clap.specs.declared.error.Error.{Error}
 use Rattle.mediator_offline.specs.declared.job.OfflineReport.{OfflineReport}
-use Rattle.ipmd_command_line.specs.CommandLine.{AsksFor, RefusesWords}
-use Rattle.ipmd_command_line.specs.declared.fault.CommandLineFault.{CommandLineFault}
+use Rattle.ipmd_command_line.specs.CommandLine.{AsksForTask, RefusesWords}
+use Rattle.ipmd_command_line.specs.declared.fault.Fault.{Fault as CommandLineFault}
 use Rattle.ipmd_command_line.specs.declared.task.ReplayOptions.{ReplayOptions}
 use Rattle.ipmd_command_line.specs.declared.task.OfflineOptions.{OfflineOptions}
 use Rattle.ipmd_command_line.specs.declared.task.VerifyOptions.{VerifyOptions}
 use Rattle.ipmd_command_line.specs.declared.task.ExplainOptions.{ExplainOptions}
 use Rattle.ipmd_command_line.specs.declared.task.Task.TheVariants.{Offline, CheckPolicy, Replay, Serve, Verify, Explain, Show}
 use Rattle.ipmd_command_line.specs.declared.task.PolicySource.{PolicySource}
-use Rattle.ipmd_commands.specs.declared.fault.ProgramFault.{ProgramFault}
-use Rattle.ipmd_commands.specs.Runs.{CountsPolicy, Filters, RefusesToCount, RefusesToFilter, RefusesToShow, Shows, line_of_report}
-use Rattle.ipmd_commands.specs.Status.{command_line_fault_of, Blames, Tells}
+use Rattle.ipmd_commands.specs.declared.fault.Fault.{Fault as ProgramFault}
+use Rattle.ipmd_commands.specs.Runs.{CountsPolicy, FiltersInput, RefusesToCount, RefusesToFilter, RefusesToShow, ShowsText, line_of_report}
+use Rattle.ipmd_commands.specs.Status.{command_line_fault_of, Blames, TellsLine}
 use Rattle.ipmd_verify.specs.Verifying.{VerifiesFile, RefusesToVerifyFile}
 use Rattle.ipmd_explain.specs.Answers.{ExplainsFile, RefusesToExplainFile, question_of}
 use Rattle.ipmd.specs.Replays.{Replays, RefusesToReplay}
-use Rattle.ipmd.specs.Serving.{Serves, RefusesToPrepare, StopsServing}
+use Rattle.ipmd.specs.Serving.{ServesRuns, RefusesToPrepare, StopsServingRuns}
 
 -- ---- what leaves the stream for errors alone
 
 -- a report comes from filtering
 abbrev pub DoesAlone : List (List ℕ) → Option OfflineReport → Option (List ℕ) → Option (List ℕ) → Option (List ℕ) → Type 0
-DoesAlone words (Some report) given held holds = (options : OfflineOptions) × AsksFor words (Offline options) × Filters options report given held holds
+DoesAlone words (Some report) given held holds = (options : OfflineOptions) × AsksForTask words (Offline options) × FiltersInput options report given held holds
 DoesAlone words None given held holds =
-    ((source : PolicySource) × AsksFor words (CheckPolicy source) × CountsPolicy source held holds)
-    ⊎ (((options : ReplayOptions) × AsksFor words (Replay options) × Replays held holds)
-    ⊎ (((options : VerifyOptions) × AsksFor words (Verify options) × VerifiesFile options.quiet held holds)
-    ⊎ (((options : ExplainOptions) × AsksFor words (Explain options) × ExplainsFile (question_of options) held holds)
-    ⊎ ((shown : Error) × AsksFor words (Show shown) × Shows (kind_of shown) held holds))))
+    ((source : PolicySource) × AsksForTask words (CheckPolicy source) × CountsPolicy source held holds)
+    ⊎ (((options : ReplayOptions) × AsksForTask words (Replay options) × Replays held holds)
+    ⊎ (((options : VerifyOptions) × AsksForTask words (Verify options) × VerifiesFile options.quiet held holds)
+    ⊎ (((options : ExplainOptions) × AsksForTask words (Explain options) × ExplainsFile (question_of options) held holds)
+    ⊎ ((shown : Error) × AsksForTask words (Show shown) × ShowsText (kind_of shown) held holds))))
 
 -- the words ask for nothing, or memory ran out
 abbrev pub RefusesCommandLine : List (List ℕ) → ProgramFault → Type 0
@@ -42,22 +42,22 @@ RefusesCommandLine words e = (fault : CommandLineFault) × (e ≡ command_line_f
 abbrev pub FailsAlone : List (List ℕ) → ProgramFault → Option (List ℕ) → Option (List ℕ) → Option (List ℕ) → Type 0
 FailsAlone words e given held holds =
     (RefusesCommandLine words e × Keeps held holds)
-    ⊎ (((source : PolicySource) × AsksFor words (CheckPolicy source) × RefusesToCount source e held holds)
-    ⊎ (((options : OfflineOptions) × AsksFor words (Offline options) × RefusesToFilter options e given held holds)
-    ⊎ (((options : ReplayOptions) × AsksFor words (Replay options) × RefusesToReplay options e held holds)
-    ⊎ (((path : Bor (List ℕ)) × AsksFor words (Serve path) × RefusesToPrepare path.now e × Keeps held holds)
-    ⊎ (((options : VerifyOptions) × AsksFor words (Verify options) × RefusesToVerifyFile options e held holds)
-    ⊎ (((options : ExplainOptions) × AsksFor words (Explain options) × RefusesToExplainFile options e held holds)
-    ⊎ ((shown : Error) × AsksFor words (Show shown) × RefusesToShow (kind_of shown) e held holds)))))))
+    ⊎ (((source : PolicySource) × AsksForTask words (CheckPolicy source) × RefusesToCount source e held holds)
+    ⊎ (((options : OfflineOptions) × AsksForTask words (Offline options) × RefusesToFilter options e given held holds)
+    ⊎ (((options : ReplayOptions) × AsksForTask words (Replay options) × RefusesToReplay options e held holds)
+    ⊎ (((path : Bor (List ℕ)) × AsksForTask words (Serve path) × RefusesToPrepare path.now e × Keeps held holds)
+    ⊎ (((options : VerifyOptions) × AsksForTask words (Verify options) × RefusesToVerifyFile options e held holds)
+    ⊎ (((options : ExplainOptions) × AsksForTask words (Explain options) × RefusesToExplainFile options e held holds)
+    ⊎ ((shown : Error) × AsksForTask words (Show shown) × RefusesToShow (kind_of shown) e held holds)))))))
 
 -- ---- what is done
 
 -- a server was run
 abbrev pub DoesServe : List (List ℕ) → Option (List ℕ) → Option (List ℕ) → Type 0
-DoesServe words held holds = (path : Bor (List ℕ)) × AsksFor words (Serve path) × Serves held holds
+DoesServe words held holds = (path : Bor (List ℕ)) × AsksForTask words (Serve path) × ServesRuns held holds
 
 abbrev pub FailsServing : List (List ℕ) → ProgramFault → Option (List ℕ) → Option (List ℕ) → Type 0
-FailsServing words e held holds = (path : Bor (List ℕ)) × AsksFor words (Serve path) × StopsServing e held holds
+FailsServing words e held holds = (path : Bor (List ℕ)) × AsksForTask words (Serve path) × StopsServingRuns e held holds
 
 -- a server's run has notes, so nothing is told of what the stream for errors holds after it; anything else leaves it as it was
 abbrev pub Does : {D : Type 0} → List (List ℕ) → Option OfflineReport → Option (List ℕ) → Option (List ℕ) → Option (List ℕ) → D → D → Type 0
@@ -72,7 +72,7 @@ FailsFor words e given held holds before after =
 
 -- a stream that was filtered is reported, and of anything else nothing is said
 abbrev pub Reports : Option OfflineReport → Bool → Option (List ℕ) → Option (List ℕ) → Type 0
-Reports (Some report) has_failed held holds = Tells (Some (line_of_report report)) has_failed held holds
+Reports (Some report) has_failed held holds = TellsLine (Some (line_of_report report)) has_failed held holds
 Reports None has_failed held holds = Keeps held holds
 
 -- what the words ask for was done, and was reported; a server's notes aren't told

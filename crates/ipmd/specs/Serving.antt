@@ -1,41 +1,32 @@
 -- What `ipmd serve` does, as far as it can be told: what comes from other threads, from sockets and from files isn't told here.
-use Rattle.std.specs.Prelude.{◌≡◌, ◌⊎◌, ℕ, ◌+◌, ◌≤◌, ◌<◌, Bool, true, false, not, ◌&&◌, List, ◌∷◌, [], ◌++◌, length, map, codes, string_bytes, Vec, Option, None, Ok, unwrap_or}
+use Rattle.std.specs.Prelude.{◌≡◌, ◌⊎◌, ℕ, ◌+◌, ◌≤◌, ◌<◌, Bool, true, false, not, ◌&&◌, List, ◌∷◌, [], ◌++◌, length, codes, string_bytes, Option, None, Ok, unwrap_or}
 use Rattle.std.specs.List.{flat_map}
-use Rattle.std.specs.declared.alloc.Global.{Global}
 use Rattle.std.specs.Fmt.{decimal}
 use Rattle.std.specs.Io.KnownBytes.{Appends, Keeps}
 use Rattle.event_journal.specs.declared.entry.Entry.{Entry}
 use Rattle.event_journal.specs.LastEdit.{last_edit}
 use Rattle.mediator_calls.specs.Limited.{AreAllowed}
-use Rattle.ipmd_settings.specs.Asked.{Asked, Pair}
-use Rattle.ipmd_settings.specs.Faults.{IsFaultOf}
+use Rattle.ipmd_settings.specs.Asked.{AskedService, pairs}
+use Rattle.ipmd_settings.specs.Faults.{IsSettingsFault}
 use Rattle.ipmd_settings.specs.Reading.{settings_of}
 use Rattle.mediator_server.specs.Listening.{IsServed}
-use Rattle.mediator_server.specs.declared.plan.Plan.{Plan}
-use Rattle.mediator_server.specs.declared.plan.Collector.{Collector}
+use Rattle.mediator_server.specs.declared.plan.RunPlan.{RunPlan}
 use Rattle.mediator_server.specs.declared.listening.Ended.{Ended}
-use Rattle.mediator_server.specs.declared.listening.ListenFault.{ListenFault}
-use Rattle.mediator_server.specs.declared.listening.ListenFault.TheVariants as listen
-use Rattle.ipmd_commands.specs.declared.fault.ProgramFault.{ProgramFault}
-use Rattle.ipmd_commands.specs.declared.fault.ProgramFault.TheVariants.{CommandLine, Settings, Policy, Hex, Framing, Core, Cut, Calls, BadLimits, Journal, History, Absent, Close, OutOfMemory, Device}
+use Rattle.mediator_server.specs.declared.listening.Fault.{Fault as ListenFault}
+use Rattle.mediator_server.specs.declared.listening.Fault.TheVariants as listen
+use Rattle.ipmd_commands.specs.declared.fault.Fault.{Fault as ProgramFault}
+use Rattle.ipmd_commands.specs.declared.fault.Fault.TheVariants.{CommandLine, Settings, Policy, Hex, Framing, Mediator, Cut, Calls, Journal, History, Absent, Close, OutOfMemory, Device}
 use Rattle.ipmd_commands.specs.declared.failure.Place.TheVariants as placed
 use Rattle.ipmd_commands.specs.Failures.{FailedAt, FailedAtFile, IsFileFault}
-use Rattle.ipmd_commands.specs.HexText.{WritesSome}
-use Rattle.ipmd_commands.specs.Status.{core_fault_of}
+use Rattle.ipmd_commands.specs.HexText.{WritesSomeOf}
+use Rattle.ipmd_commands.specs.Status.{mediator_fault_of}
 use Rattle.ipmd_run_journals.specs.Keeping.{IsSomeFileFault}
 use Rattle.ipmd.specs.declared.serve.Service.{Service}
 
 -- ---- before anything is served
 
--- to whom a plan delivers: names and addresses, in their order
-abbrev pub collector_pair : Collector → Pair
-collector_pair collector = (string_bytes collector.name, string_bytes collector.address)
-
-abbrev pub collectors_in : Vec Collector Global → List Pair
-collectors_in collectors = map collector_pair collectors.items
-
 -- the plan is the one that settings ask for, with a policy of this text
-pub record IsPlanOf (asked : Asked) (policy : List ℕ) (plan : Plan) : Type 0 where
+pub record IsPlanOf (asked : AskedService) (policy : List ℕ) (plan : RunPlan) : Type 0 where
   pub exporters : string_bytes plan.exporters ≡ asked.exporters
   pub admin : string_bytes plan.admin ≡ asked.admin
   pub policy_is : string_bytes plan.policy ≡ policy
@@ -49,10 +40,10 @@ pub record IsPlanOf (asked : Asked) (policy : List ℕ) (plan : Plan) : Type 0 w
   pub hold : plan.hold ≡ asked.hold
   pub drain : plan.drain ≡ asked.drain
   pub limits : plan.limits ≡ asked.limits
-  pub deliver : collectors_in plan.deliver ≡ asked.collectors
+  pub deliver : pairs plan.deliver ≡ asked.collectors
 
 -- what these settings ask for, with a policy of this text
-pub record IsServiceOf (asked : Asked) (policy : List ℕ) (service : Service) : Type 0 where
+pub record IsServiceOf (asked : AskedService) (policy : List ℕ) (service : Service) : Type 0 where
   pub plan_is : IsPlanOf asked policy service.plan
   pub limits_are : service.limits ≡ asked.limits
   pub runs_are : service.runs ≡ asked.runs
@@ -60,7 +51,7 @@ pub record IsServiceOf (asked : Asked) (policy : List ℕ) (service : Service) :
 -- a text of settings asks for this, with some policy; and a mediator takes its limits
 pub record IsAskedFor (service : Service) : Type 0 where
   pub text : List ℕ
-  pub asked : Asked
+  pub asked : AskedService
   pub read : settings_of text ≡ Ok asked
   pub policy : List ℕ
   pub is : IsServiceOf asked policy service
@@ -69,21 +60,20 @@ pub record IsAskedFor (service : Service) : Type 0 where
 
 -- the policy's file, as some settings have it, can't be read, or isn't text; or memory ran out
 abbrev pub IsPolicyFault : ProgramFault → Type 0
-IsPolicyFault e = (text : List ℕ) × (asked : Asked) × (settings_of text ≡ Ok asked) × IsFileFault asked.policy e
+IsPolicyFault e = (text : List ℕ) × (asked : AskedService) × (settings_of text ≡ Ok asked) × IsFileFault asked.policy e
 
 -- why nothing is served by the settings of this path: their text has this fault, a file can't be read or is no text, or memory ran out
 abbrev pub RefusesToPrepare : List ℕ → ProgramFault → Type 0
-RefusesToPrepare path (Settings why) = (text : List ℕ) × IsFaultOf why text
+RefusesToPrepare path (Settings why) = (text : List ℕ) × IsSettingsFault why text
 RefusesToPrepare path OutOfMemory = Unit {0}
 RefusesToPrepare path (Device which) = FailedAtFile path (Device which) ⊎ IsPolicyFault (Device which)
 RefusesToPrepare path (CommandLine e) = ⊥
 RefusesToPrepare path (Policy why) = ⊥
 RefusesToPrepare path Hex = ⊥
 RefusesToPrepare path (Framing why) = ⊥
-RefusesToPrepare path (Core why) = ⊥
+RefusesToPrepare path (Mediator why) = ⊥
 RefusesToPrepare path Cut = ⊥
 RefusesToPrepare path (Calls n) = ⊥
-RefusesToPrepare path BadLimits = ⊥
 RefusesToPrepare path (Journal why) = ⊥
 RefusesToPrepare path (History position) = ⊥
 RefusesToPrepare path (Absent what) = ⊥
@@ -111,14 +101,14 @@ run_of ended = record {
 
 -- a plan that these settings ask for, with a policy of this text, was served to its end: in the journal, which began empty, each entry
 -- that is to have a receipt has one, and as many messages and records as the receipts have are the run's counts
-pub record IsRun (asked : Asked) (policy : List ℕ) (run : Run) : Type 0 where
-  pub plan : Plan
+pub record IsRun (asked : AskedService) (policy : List ℕ) (run : Run) : Type 0 where
+  pub plan : RunPlan
   pub plan_is : IsPlanOf asked policy plan
   pub is_served : IsServed plan [] run.history run.accepted run.handed
 
 -- what is said of a run that has ended
-abbrev pub served : Run → List ℕ
-served run = codes "accepted " ++ decimal run.accepted ++ codes " handed " ++ decimal run.handed ++ 10 ∷ []
+abbrev pub run_line : Run → List ℕ
+run_line run = codes "accepted " ++ decimal run.accepted ++ codes " handed " ++ decimal run.handed ++ 10 ∷ []
 
 -- ---- runs that follow each other
 
@@ -128,15 +118,15 @@ policy_after policy h = unwrap_or (last_edit h) policy
 
 -- these runs follow each other, the first of them with this policy; the journal of each was full and none was stopped, and another
 -- run is to follow with the policy at the end
-abbrev pub AreFull : Asked → List ℕ → List Run → List ℕ → Type 0
+abbrev pub AreFull : AskedService → List ℕ → List Run → List ℕ → Type 0
 AreFull asked policy [] next = next ≡ policy
 AreFull asked policy (run ∷ runs) next = IsRun asked policy run × (run.full ≡ true) × (run.stopped ≡ false) × AreFull asked (policy_after policy run.history) runs next
 
 -- runs were made as settings ask for: another one behind each whose journal was full and that was not stopped, but no more than are
 -- allowed; and the line of each was written
-pub record Serves (held holds : Option (List ℕ)) : Type 0 where
+pub record ServesRuns (held holds : Option (List ℕ)) : Type 0 where
   pub text : List ℕ
-  pub asked : Asked
+  pub asked : AskedService
   pub read : settings_of text ≡ Ok asked
   pub first : List ℕ
   pub before : List Run
@@ -146,7 +136,7 @@ pub record Serves (held holds : Option (List ℕ)) : Type 0 where
   pub is_run : IsRun asked policy last
   pub few : length before < asked.runs
   pub ends : (last.full ≡ false) ⊎ ((last.stopped ≡ true) ⊎ (asked.runs ≡ length before + 1))
-  pub written : Appends held holds (flat_map served (before ++ last ∷ []))
+  pub written : Appends held holds (flat_map run_line (before ++ last ∷ []))
 
 -- ---- where it stops
 
@@ -155,7 +145,7 @@ abbrev pub IsMadeOf : ListenFault → ProgramFault → Type 0
 IsMadeOf listen.Bind e = e ≡ Device None
 IsMadeOf (listen.Connect place) e = e ≡ Device None
 IsMadeOf listen.NoThread e = FailedAt placed.Threads e
-IsMadeOf (listen.Core why) e = e ≡ core_fault_of why
+IsMadeOf (listen.Mediator why) e = e ≡ mediator_fault_of why
 IsMadeOf (listen.Close why) e = e ≡ Close
 
 abbrev pub IsListenFault : ProgramFault → Type 0
@@ -170,29 +160,29 @@ IsBeginFault e = IsListenFault e ⊎ (FailedAt placed.RandomNumbers e ⊎ IsSome
 abbrev pub RefusesToTell : ProgramFault → Run → Option (List ℕ) → Option (List ℕ) → Type 0
 RefusesToTell e run held holds =
     ((e ≡ OutOfMemory) × Keeps held holds)
-    ⊎ ((FailedAt placed.Output e × WritesSome (served run) held holds) ⊎ (IsSomeFileFault e × Appends held holds (served run)))
+    ⊎ ((FailedAt placed.Output e × WritesSomeOf (run_line run) held holds) ⊎ (IsSomeFileFault e × Appends held holds (run_line run)))
 
 -- behind these runs no other one can be made, and nothing more was written; or a run more was made, and isn't told whole or kept
-abbrev pub StopsBehind : ProgramFault → Asked → List ℕ → Option (List ℕ) → Option (List ℕ) → Type 0
-StopsBehind e asked policy held holds =
+abbrev pub StopsBehindRuns : ProgramFault → AskedService → List ℕ → Option (List ℕ) → Option (List ℕ) → Type 0
+StopsBehindRuns e asked policy held holds =
     (IsBeginFault e × Keeps held holds) ⊎ ((run : Run) × IsRun asked policy run × RefusesToTell e run held holds)
 
 -- runs were made and told, and behind them it stops
-pub record StopsServing (e : ProgramFault) (held holds : Option (List ℕ)) : Type 0 where
+pub record StopsServingRuns (e : ProgramFault) (held holds : Option (List ℕ)) : Type 0 where
   pub text : List ℕ
-  pub asked : Asked
+  pub asked : AskedService
   pub read : settings_of text ≡ Ok asked
   pub first : List ℕ
   pub before : List Run
   pub policy : List ℕ
   pub are_full : AreFull asked first before policy
   pub between : Option (List ℕ)
-  pub written : Appends held between (flat_map served before)
-  pub stops : StopsBehind e asked policy between holds
+  pub written : Appends held between (flat_map run_line before)
+  pub stops : StopsBehindRuns e asked policy between holds
 
 -- nothing was served, and the stream for errors is as it was; or a server was run
 abbrev pub FailsToServe : {D : Type 0} → List ℕ → ProgramFault → Option (List ℕ) → Option (List ℕ) → D → D → Type 0
-FailsToServe path e held holds before after = ((after ≡ before) × RefusesToPrepare path e × Keeps held holds) ⊎ StopsServing e held holds
+FailsToServe path e held holds before after = ((after ≡ before) × RefusesToPrepare path e × Keeps held holds) ⊎ StopsServingRuns e held holds
 
 -- ---- what no public clause cites
 
@@ -201,22 +191,22 @@ abbrev pub is_followed : Run → Bool
 is_followed run = run.full && not run.stopped
 
 -- a run was made by the plan and told; where another is to follow, the plan begins with its last policy then
-pub record MakesRun (more : Bool) (old new : Plan) (held holds : Option (List ℕ)) : Type 0 where
+pub record MakesRun (more : Bool) (old new : RunPlan) (held holds : Option (List ℕ)) : Type 0 where
   pub made : Run
   pub is_served : IsServed old [] made.history made.accepted made.handed
-  pub told : Appends held holds (served made)
+  pub told : Appends held holds (run_line made)
   pub more_is : more ≡ is_followed made
-  pub renewed : more ≡ true → (asked : Asked) (policy : List ℕ) → IsPlanOf asked policy old → IsPlanOf asked (policy_after policy made.history) new
+  pub renewed : more ≡ true → (asked : AskedService) (policy : List ℕ) → IsPlanOf asked policy old → IsPlanOf asked (policy_after policy made.history) new
 
 -- no run was made, and nothing was written; or a run was made, and isn't told whole or kept
-abbrev pub StopsRun : ProgramFault → Plan → Option (List ℕ) → Option (List ℕ) → Type 0
+abbrev pub StopsRun : ProgramFault → RunPlan → Option (List ℕ) → Option (List ℕ) → Type 0
 StopsRun e plan held holds =
     (IsBeginFault e × Keeps held holds) ⊎ ((made : Run) × IsServed plan [] made.history made.accepted made.handed × RefusesToTell e made held holds)
 
 -- runs were made and told, and another one of this number is to follow by this plan
-pub record IsToRun (plan : Plan) (runs run : ℕ) (held holds : Option (List ℕ)) : Type 0 where
+pub record IsToRun (plan : RunPlan) (runs run : ℕ) (held holds : Option (List ℕ)) : Type 0 where
   pub text : List ℕ
-  pub asked : Asked
+  pub asked : AskedService
   pub read : settings_of text ≡ Ok asked
   pub first : List ℕ
   pub before : List Run
@@ -226,4 +216,4 @@ pub record IsToRun (plan : Plan) (runs run : ℕ) (held holds : Option (List ℕ
   pub runs_are : runs ≡ asked.runs
   pub counted : run ≡ length before + 1
   pub allowed : run ≤ runs
-  pub written : Appends held holds (flat_map served before)
+  pub written : Appends held holds (flat_map run_line before)

@@ -1,7 +1,7 @@
 //! Warns where the system lets the program have fewer descriptors than a service may need.
 
 use log::{Log, warn};
-use mediator_server::Plan;
+use mediator_server::RunPlan;
 use std::fs;
 use std::rt::Files;
 
@@ -13,7 +13,7 @@ const OTHERS: u64 = 20;
 
 /// Warns where the descriptors that the program may have are fewer than the exporters and the collectors of a plan need. The
 /// program can't raise that limit. Where nothing says it, nothing is said.
-pub(crate) fn warn_of_few<R: Files + AllocGlobal>(rt: &R, noting: &impl Log, plan: &Plan) {
+pub(crate) fn warn_of_few<R: Files + AllocGlobal>(rt: &R, noting: &impl Log, plan: &RunPlan) {
     match fs::read_to_string(rt, LIMITS) {
         Ok(limits) => warn_within(noting, limits.as_str(), plan),
         Err(_) => {}
@@ -21,7 +21,7 @@ pub(crate) fn warn_of_few<R: Files + AllocGlobal>(rt: &R, noting: &impl Log, pla
 }
 
 /// Warns by `limits`, the text of what the system allows, where the descriptors are too few.
-fn warn_within(noting: &impl Log, limits: &str, plan: &Plan) {
+fn warn_within(noting: &impl Log, limits: &str, plan: &RunPlan) {
     let (connections, collectors) = (plan.connections, plan.deliver.len() as u64);
     let needed = connections
         .saturating_add(collectors)

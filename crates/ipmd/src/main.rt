@@ -31,7 +31,7 @@ ghost use Rattle.std.specs.Prelude.{◌≡◌, ◌≢◌, map, IfErr, IfOk};
 ghost use Rattle.octet_io.specs.Device.{device_failed, device_inner};
 ghost use Rattle.octet_io.specs.Moments.{writer_of};
 ghost use Rattle.ipmd_commands.specs.Status.{status_of};
-ghost use Rattle.ipmd_commands.specs.declared.fault.ProgramFault.{ProgramFault};
+ghost use Rattle.ipmd_commands.specs.declared.fault.Fault.{Fault as ProgramFault};
 ghost use Rattle.ipmd.specs.Program.{Does, FailsFor, IsDone, IsFault};
 
 mod descriptors;
@@ -46,7 +46,7 @@ use crate::replay::replay;
 use crate::serve::serve;
 use crate::system::System;
 use ipmd_command_line::{Task, read_command_line};
-use ipmd_commands::{Place, ProgramFault, check_policy, filter, show, tell};
+use ipmd_commands::{Fault as ProgramFault, Place, check_policy, filter, show, tell};
 use ipmd_explain::explain;
 use ipmd_verify::{OnTerminal, Progress, verify};
 use mediator_offline::OfflineReport;

@@ -7,7 +7,7 @@ ghost use Rattle.ipmd.specs.Replays.{RefusesText, RefusesToReplay, Replays, Runs
 
 use event_journal::Journal;
 use ipmd_command_line::ReplayOptions;
-use ipmd_commands::{ProgramFault, of_file, read_text, write_text};
+use ipmd_commands::{Fault as ProgramFault, of_file, read_text, write_text};
 use ipmd_run_journals::put_journal;
 use mediator_core::{Transcript, run};
 use octet_io::Device;
@@ -26,8 +26,8 @@ const JOURNAL_BUFFER: usize = 65_536;
 ///
 /// # Errors
 /// `Device`, of the list's file where that can't be read or isn't UTF-8, of the journal's where that can't be written, or of the
-/// output; `Calls` where the text is no list of calls; `BadLimits` where the limits that it sets are out of their ranges; or
-/// `OutOfMemory`. Only where the output fails a front of the answers may have been written.
+/// output; `Calls` where the text is no list of calls; `Mediator`, with `BadLimits`, where the limits that it sets are out of
+/// their ranges; or `OutOfMemory`. Only where the output fails a front of the answers may have been written.
 #[tactic(auto, using(ipmd_commands::proofs::Lines::kept, crate::proofs::Replaying::no_calls, crate::proofs::Replaying::no_journal, crate::proofs::Replaying::no_answer))]
 pub fn replay<R: Files + AllocGlobal, O: Write>(
     rt: &R,

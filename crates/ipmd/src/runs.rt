@@ -5,19 +5,19 @@ ghost use Rattle.std.specs.Io.KnownBytes.{Appends};
 ghost use Rattle.mediator_calls.specs.Limited.{AreAllowed};
 ghost use Rattle.mediator_server.specs.Listening.{IsServed};
 ghost use Rattle.octet_io.specs.Device.{device_inner};
-ghost use Rattle.ipmd_settings.specs.Asked.{Asked};
+ghost use Rattle.ipmd_settings.specs.Asked.{AskedService};
 ghost use Rattle.ipmd_run_journals.specs.Keeping.{IsSomeFileFault};
-ghost use Rattle.ipmd.specs.Serving.{IsAskedFor, IsBeginFault, IsListenFault, IsMadeOf, IsPlanOf, MakesRun, RefusesToTell, Serves, StopsRun, StopsServing, is_followed, policy_after, run_of, served};
+ghost use Rattle.ipmd.specs.Serving.{IsAskedFor, IsBeginFault, IsListenFault, IsMadeOf, IsPlanOf, MakesRun, RefusesToTell, ServesRuns, StopsRun, StopsServingRuns, is_followed, policy_after, run_of, run_line};
 
 use crate::serve::Service;
 use crate::system::System;
 use event_journal::Journal;
 use hash_keys::HashKeys;
-use ipmd_commands::{Place, ProgramFault, write_text};
+use ipmd_commands::{Fault as ProgramFault, Place, write_text};
 use ipmd_run_journals::{first_free, keep_run};
 use log::{Log, info};
 use mediator_calls::{Limits, Mediator};
-use mediator_server::{Ended, ListenFault, Plan, listen};
+use mediator_server::{Ended, Fault as ListenFault, RunPlan, listen};
 use octet_io::Device;
 use std::alloc::{AllocError, Global};
 use std::hash::RandomState;
@@ -51,9 +51,9 @@ pub(crate) fn serve_runs<
     O: Write,
 >(rt: &R, noting: &N, service: Service, output: &mut Device<O>) -> Result<(), ProgramFault>
     requires asked { IsAskedFor service }
-    ensures ok { OnOk result (Serves
+    ensures ok { OnOk result (ServesRuns
         (O.contents (device_inner output.old)) (O.contents (device_inner output.new))) }
-    ensures err { IfErr result (λ e. StopsServing e
+    ensures err { IfErr result (λ e. StopsServingRuns e
         (O.contents (device_inner output.old)) (O.contents (device_inner output.new))) }
 {
     let Service {
@@ -93,7 +93,7 @@ fn serve_run<
     noting: &N,
     limits: Limits,
     keys: HashKeys,
-    plan: &mut Plan,
+    plan: &mut RunPlan,
     keeping: &mut Keeping,
     output: &mut Device<O>,
 ) -> Result<bool, ProgramFault>
@@ -163,7 +163,7 @@ fn make_run<
 >(
     noting: &N,
     alloc: Global,
-    plan: &Plan,
+    plan: &RunPlan,
     limits: Limits,
     keys: HashKeys,
 ) -> Result<Ended, ProgramFault>
@@ -190,7 +190,7 @@ fn fault_of(fault: ListenFault) -> ProgramFault
         ListenFault::NoThread => {
             ProgramFault::failed(Place::Threads, io::Error::other("the system refuses one"))
         }
-        ListenFault::Core(why) => ProgramFault::from(why),
+        ListenFault::Mediator(why) => ProgramFault::from(why),
         ListenFault::Close(_) => ProgramFault::Close,
     }
 }
@@ -210,7 +210,7 @@ fn end_run<R: Files + AllocGlobal, O: Write>(
 ) -> Result<Journal, ProgramFault>
     ensures told { OnOk result (Appends
         (O.contents (device_inner output.old)) (O.contents (device_inner output.new))
-        (served (run_of ended))) }
+        (run_line (run_of ended))) }
     ensures journal { IfOk result (λ journal. journal.entries ≡ ended.closed.mediator.history) }
     ensures err { IfErr result (λ e. RefusesToTell e (run_of ended)
         (O.contents (device_inner output.old)) (O.contents (device_inner output.new))) }
@@ -249,8 +249,8 @@ fn keep<R: Files + AllocGlobal>(
 ///
 /// # Errors
 /// `OutOfMemory`.
-fn renew_policy(alloc: Global, plan: &mut Plan, journal: &Journal) -> Result<(), AllocError>
-    ensures { OnOk result ((asked : Asked) (policy : List ℕ) → IsPlanOf asked policy plan.old
+fn renew_policy(alloc: Global, plan: &mut RunPlan, journal: &Journal) -> Result<(), AllocError>
+    ensures { OnOk result ((asked : AskedService) (policy : List ℕ) → IsPlanOf asked policy plan.old
         → IsPlanOf asked (policy_after policy journal.now.entries) plan.new) }
 {
     if let Some(text) = journal.last_edit() {
@@ -262,7 +262,7 @@ fn renew_policy(alloc: Global, plan: &mut Plan, journal: &Journal) -> Result<(),
 
 /// How many messages were accepted, and how many records were handed out, as a line.
 fn line_of(alloc: Global, ended: &Ended) -> Result<String, AllocError>
-    ensures { IfOk result (λ line. string_bytes line ≡ served (run_of ended.now)) }
+    ensures { IfOk result (λ line. string_bytes line ≡ run_line (run_of ended.now)) }
 {
     let accepted = ended.closed.accepted;
     let handed = ended.closed.handed;

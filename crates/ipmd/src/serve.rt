@@ -1,23 +1,21 @@
 //! Does what `ipmd serve` is asked for.
 
-ghost use Rattle.std.specs.Prelude.{◌≡◌, IfErr, IfOk, OnOk, string_bytes};
+ghost use Rattle.std.specs.Prelude.{IfErr, IfOk, OnOk, string_bytes};
 ghost use Rattle.octet_io.specs.Device.{device_inner};
-ghost use Rattle.ipmd_settings.specs.Asked.{asked, pairs};
-ghost use Rattle.ipmd_commands.specs.declared.fault.ProgramFault.TheVariants.{OutOfMemory};
-ghost use Rattle.ipmd.specs.Serving.{FailsToServe, IsAskedFor, IsServiceOf, RefusesToPrepare, Serves, collectors_in};
+ghost use Rattle.ipmd_settings.specs.Asked.{asked_service};
+ghost use Rattle.ipmd.specs.Serving.{FailsToServe, IsAskedFor, IsServiceOf, RefusesToPrepare, ServesRuns};
 
 use crate::descriptors::warn_of_few;
 use crate::notes::Notes;
 use crate::noting::Noting;
 use crate::runs::serve_runs;
 use crate::system::System;
-use ipmd_commands::{ProgramFault, read_text};
+use ipmd_commands::{Fault as ProgramFault, read_text};
 use ipmd_settings::{Settings, read_settings};
 use log::Log;
 use mediator_calls::Limits;
-use mediator_server::{Collector, Plan};
+use mediator_server::RunPlan;
 use octet_io::Device;
-use std::alloc::{AllocError, Global};
 use std::env::{self, Env};
 use std::io::Write;
 use std::net::{Net, TcpListener, TcpStream};
@@ -28,7 +26,7 @@ use std::rt::Files;
 #[derive(Drop)]
 pub(crate) struct Service {
     /// How the next run is to serve.
-    pub(crate) plan: Plan,
+    pub(crate) plan: RunPlan,
     /// The limits of each run's mediator.
     pub(crate) limits: Limits,
     /// The path under which the runs' journals are kept, where they are.
@@ -45,7 +43,7 @@ pub(crate) struct Service {
 ///
 /// # Errors
 /// In this order: `Device` where the settings' file can't be read or isn't UTF-8, `Settings`, and `Device` for the policy's file
-/// and the journals' folder, each with its path; then of a run the refusals of `listen`: `Policy` or `Core` where the mediator
+/// and the journals' folder, each with its path; then of a run the refusals of `listen`: `Policy` or `Mediator` where the mediator
 /// refuses the policy or a subscriber, `Device` where an address can't be listened on or connected to or a thread is refused,
 /// `Close`; `Device` where the output fails, and, behind the run's line, where its journal can't be kept; `OutOfMemory`.
 #[tactic(auto, using(ipmd_commands::proofs::Lines::kept))]
@@ -60,7 +58,7 @@ pub(crate) fn serve<
     errors: &mut Device<E>,
     descriptor: RawFd,
 ) -> Result<(), ProgramFault>
-    ensures ok { OnOk result (Serves
+    ensures ok { OnOk result (ServesRuns
         (O.contents (device_inner output.old)) (O.contents (device_inner output.new))) }
     ensures err { IfErr result (λ e. FailsToServe path.now e
         (O.contents (device_inner output.old)) (O.contents (device_inner output.new))
@@ -92,14 +90,12 @@ fn prepare<R: Files + AllocGlobal>(rt: &R, path: &str) -> Result<Service, Progra
     let text = read_text(rt, path)?;
     let settings = read_settings(rt.alloc(), text.as_str())?;
     let policy = read_text(rt, settings.policy.as_str())?;
-    service_of(rt.alloc(), settings, policy)
+    Ok(service_of(settings, policy))
 }
 
 /// What settings ask for, with this policy.
-fn service_of(alloc: Global, settings: Settings, policy: String) -> Result<Service, ProgramFault>
-    ensures is { IfOk result (λ service.
-        IsServiceOf (asked settings) (string_bytes policy) service) }
-    ensures err { IfErr result (λ e. e ≡ OutOfMemory) }
+fn service_of(settings: Settings, policy: String) -> Service
+    ensures { IsServiceOf (asked_service settings) (string_bytes policy) result }
 {
     let Settings {
         exporters,
@@ -119,7 +115,7 @@ fn service_of(alloc: Global, settings: Settings, policy: String) -> Result<Servi
         drain,
         endless,
     } = settings;
-    let plan = Plan {
+    let plan = RunPlan {
         run: 1,
         exporters,
         admin,
@@ -134,33 +130,12 @@ fn service_of(alloc: Global, settings: Settings, policy: String) -> Result<Servi
         hold,
         drain,
         limits,
-        deliver: collectors_of(alloc, collectors)?,
+        deliver: collectors,
     };
-    Ok(Service {
+    Service {
         plan,
         limits,
         journal,
         runs,
-    })
-}
-
-/// The collectors of settings as those of a plan.
-fn collectors_of(
-    alloc: Global,
-    named: Vec<ipmd_settings::Collector>,
-) -> Result<Vec<Collector>, AllocError>
-    ensures { IfOk result (λ collectors. collectors_in collectors ≡ pairs named) }
-{
-    let mut collectors = Vec::with_capacity(alloc, named.len())?;
-    'collectors: for one in named {
-        let ipmd_settings::Collector {
-            subscriber,
-            address,
-        } = one;
-        collectors.push(Collector {
-            name: subscriber,
-            address,
-        })?;
     }
-    Ok(collectors)
 }

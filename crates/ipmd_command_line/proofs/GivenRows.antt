@@ -9,7 +9,7 @@ use Rattle.clap.specs.declared.error.Error.{Error}
 use Rattle.ipmd_command_line.specs.declared.task.ExplainOptions.{ExplainOptions}
 use Rattle.ipmd_command_line.specs.declared.task.Task.{Task}
 use Rattle.ipmd_command_line.specs.declared.task.Task.TheVariants.{Offline, CheckPolicy, Replay, Serve, Verify, Explain, Show}
-use Rattle.ipmd_command_line.specs.CommandLine.{AreExplainOptions, AsksFor, IsCommand, IsCommandIn, IsMaybeNumber, IsNumber, IsSource, ipmd_command}
+use Rattle.ipmd_command_line.specs.CommandLine.{AreExplainOptions, AsksForTask, IsCommand, IsCommandIn, IsMaybeNumber, IsOptionNumber, IsSource, ipmd_command}
 use Rattle.ipmd_command_line.specs.declared.task.PolicySource.{PolicySource}
 use Rattle.ipmd_command_line.specs.declared.task.PolicySource.TheVariants.{File, Text as PolicyText}
 use Rattle.clap.proofs.WalkLemmas.{first_value-rows, one_text-rows}
@@ -26,15 +26,15 @@ one_row m id = one_text-rows (found_of m) id
 pub number_row : {E : Type 0} (G : List ℕ → Result ℕ E → Type 0) (k : ℕ) (m : ArgMatches) (id : Text) (got : Option ℕ) (n : ℕ)
     → ((t : List ℕ) (r : Result ℕ E) → G t r → ParsesUnsigned k 10 t r)
     → (one_text (found_of m) id ≡ None → got ≡ None) → ((t : List ℕ) → one_text (found_of m) id ≡ Some t → ReadsOne G t got)
-    → got ≡ Some n → IsNumber k id (rows_of (found_of m)) n
+    → got ≡ Some n → IsOptionNumber k id (rows_of (found_of m)) n
 number_row {E} G k m id got n parses none reads same = from (one_text (found_of m) id) refl
   where
-    read : (t : List ℕ) → one_text (found_of m) id ≡ Some t → ReadsOne G t (Some n) → IsNumber k id (rows_of (found_of m)) n
+    read : (t : List ℕ) → one_text (found_of m) id ≡ Some t → ReadsOne G t (Some n) → IsOptionNumber k id (rows_of (found_of m)) n
     read t is given =
         let parsed = parses t (Ok n) given in
         record { numeral = t; given = sym (one_row m id) ∙ is; digits = parsed.0.0; value = sym parsed.1; fits = rw parsed.1 parsed.0.1 }
 
-    from : (o : Option (List ℕ)) → one_text (found_of m) id ≡ o → IsNumber k id (rows_of (found_of m)) n
+    from : (o : Option (List ℕ)) → one_text (found_of m) id ≡ o → IsOptionNumber k id (rows_of (found_of m)) n
     from None is =
         let bad : None ≡ Some n = sym (none is) ∙ same in
         cc
@@ -44,7 +44,7 @@ number_row {E} G k m id got n parses none reads same = from (one_text (found_of 
 pub number_read : {E : Type 0} (G : List ℕ → Result ℕ E → Type 0) (k : ℕ) (m : ArgMatches) (id : Text) (got : Option ℕ) (n : ℕ)
     → ((t : List ℕ) (r : Result ℕ E) → G t r → ParsesUnsigned k 10 t r)
     → ((t : List ℕ) → one_text (found_of m) id ≡ Some t → ReadsOne G t got)
-    → IsNumber k id (rows_of (found_of m)) n → got ≡ None → ⊥
+    → IsOptionNumber k id (rows_of (found_of m)) n → got ≡ None → ⊥
 number_read {E} G k m id got n parses reads is missed = refuted (subst (ReadsOne G is.numeral) missed (reads is.numeral (one_row m id ∙ is.given)))
   where
     refuted : ReadsOne G is.numeral None → ⊥
@@ -77,7 +77,7 @@ given_value m id got value is has missed =
 
 -- an option that was given has a value, so it is a number or the rows have none
 pub maybe_missed : (k : ℕ) (m : ArgMatches) (id : Text) (got : Option (Bor (List ℕ))) (s : Bor (List ℕ)) → option_map (λ s. s.now) got ≡ first_value (found_of m) id → got ≡ Some s
-    → ((n : ℕ) → IsNumber k id (rows_of (found_of m)) n → ⊥) → (o : Option ℕ) → IsMaybeNumber k id (rows_of (found_of m)) o → ⊥
+    → ((n : ℕ) → IsOptionNumber k id (rows_of (found_of m)) n → ⊥) → (o : Option ℕ) → IsMaybeNumber k id (rows_of (found_of m)) o → ⊥
 maybe_missed k m id got s is given none (Some n) so = none n so
 maybe_missed k m id got s is given none None so =
     let bad : None ≡ Some s.now = sym so ∙ given_row m id got (Some s) is given in
@@ -104,7 +104,7 @@ shows_none text None is = is
 shows_none text (Some command) is = is
 
 -- the command that the words name is asked for
-pub asks_for : (words : List Text) (task : Task) → IsCommandIn task (subcommand_of ipmd_command words) → AsksFor words task
+pub asks_for : (words : List Text) (task : Task) → IsCommandIn task (subcommand_of ipmd_command words) → AsksForTask words task
 asks_for words (Offline options) is = is
 asks_for words (CheckPolicy source) is = is
 asks_for words (Replay path) is = is

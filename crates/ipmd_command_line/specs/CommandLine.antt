@@ -13,24 +13,24 @@ use Rattle.ipmd_command_line.specs.declared.task.VerifyOptions.{VerifyOptions}
 use Rattle.ipmd_command_line.specs.declared.task.ExplainOptions.{ExplainOptions}
 use Rattle.ipmd_command_line.specs.declared.task.Task.{Task}
 use Rattle.ipmd_command_line.specs.declared.task.Task.TheVariants.{Offline, CheckPolicy, Replay, Serve, Verify, Explain, Show}
-use Rattle.ipmd_command_line.specs.declared.fault.CommandLineFault.{CommandLineFault}
-use Rattle.ipmd_command_line.specs.declared.fault.CommandLineFault.TheVariants.{Refused, OutOfMemory}
+use Rattle.ipmd_command_line.specs.declared.fault.Fault.{Fault}
+use Rattle.ipmd_command_line.specs.declared.fault.Fault.TheVariants.{Refused, OutOfMemory}
 use Rattle.ipmd_command_line.specs.declared.task.PolicySource.{PolicySource}
 use Rattle.ipmd_command_line.specs.declared.task.PolicySource.TheVariants.{File, Text as PolicyText}
 
 -- ---- the commands
 
 -- an option with a value
-abbrev pub valued : Text → Rule
-valued name = record (new_rule name) { long = Some name; value_names = 1 }
+abbrev pub valued_option : Text → Rule
+valued_option name = record (new_rule name) { long = Some name; value_names = 1 }
 
 -- an option that must be given
-abbrev pub needed : Text → Rule
-needed name = record (valued name) { required = true }
+abbrev pub needed_option : Text → Rule
+needed_option name = record (valued_option name) { required = true }
 
 -- an option whose value is a number of at most so much, and is this where it isn't given
 abbrev pub number : Text → Text → ℕ → Rule
-number name default most = record (valued name) { defaults = default ∷ []; parser = Some (Signed (pos 0) (pos most)) }
+number name default most = record (valued_option name) { defaults = default ∷ []; parser = Some (Signed (pos 0) (pos most)) }
 
 -- the greatest numbers that 64, 32 and 16 bits hold
 abbrev pub greatest_of_64_bits : ℕ
@@ -44,10 +44,10 @@ greatest_of_16_bits = 2 ^ 16 - 1
 
 -- an option whose value is a number of at most 2^64 - 1, and one whose is at most so much
 abbrev pub long_number : Text → Rule
-long_number name = record (valued name) { parser = Some (Unsigned 0 greatest_of_64_bits) }
+long_number name = record (valued_option name) { parser = Some (Unsigned 0 greatest_of_64_bits) }
 
 abbrev pub short_number : Text → ℕ → Rule
-short_number name most = record (valued name) { parser = Some (Signed (pos 0) (pos most)) }
+short_number name most = record (valued_option name) { parser = Some (Signed (pos 0) (pos most)) }
 
 -- an option without a value
 abbrev pub flag : Text → Rule
@@ -55,29 +55,29 @@ flag name = record (new_rule name) { long = Some name; action = Some SetTrue }
 
 -- a command with the two options of which one names the policy
 abbrev pub with_policy : App → App
-with_policy app = with_rule (with_rule app (valued (codes "policy"))) (valued (codes "policy-text"))
+with_policy app = with_rule (with_rule app (valued_option (codes "policy"))) (valued_option (codes "policy-text"))
 
 abbrev pub offline_command : App
 offline_command =
     with_rule (with_rule (with_rule (with_rule (with_rule (with_policy (new_app (codes "offline")))
-    (needed (codes "subscriber"))) (number (codes "now") (codes "0") greatest_of_32_bits)) (number (codes "target") (codes "1400") greatest_of_16_bits)) (valued (codes "audit"))) (flag (codes "hex"))
+    (needed_option (codes "subscriber"))) (number (codes "now") (codes "0") greatest_of_32_bits)) (number (codes "target") (codes "1400") greatest_of_16_bits)) (valued_option (codes "audit"))) (flag (codes "hex"))
 
 abbrev pub check_policy_command : App
 check_policy_command = with_policy (new_app (codes "check-policy"))
 
 abbrev pub replay_command : App
-replay_command = with_rule (with_rule (new_app (codes "replay")) (needed (codes "calls"))) (valued (codes "journal"))
+replay_command = with_rule (with_rule (new_app (codes "replay")) (needed_option (codes "calls"))) (valued_option (codes "journal"))
 
 abbrev pub serve_command : App
-serve_command = with_rule (new_app (codes "serve")) (needed (codes "settings"))
+serve_command = with_rule (new_app (codes "serve")) (needed_option (codes "settings"))
 
 abbrev pub verify_command : App
-verify_command = with_rule (with_rule (new_app (codes "verify")) (needed (codes "journal"))) (flag (codes "quiet"))
+verify_command = with_rule (with_rule (new_app (codes "verify")) (needed_option (codes "journal"))) (flag (codes "quiet"))
 
 abbrev pub explain_command : App
 explain_command =
     with_rule (with_rule (with_rule (with_rule (new_app (codes "explain"))
-    (needed (codes "journal"))) (record (long_number (codes "sub")) { required = true })) (long_number (codes "position"))) (short_number (codes "index") greatest_of_32_bits)
+    (needed_option (codes "journal"))) (record (long_number (codes "sub")) { required = true })) (long_number (codes "position"))) (short_number (codes "index") greatest_of_32_bits)
 
 -- the words begin after the program's name
 abbrev pub top_command : App
@@ -96,7 +96,7 @@ IsSource (File path) rows = (first_of (codes "policy") rows ≡ Some path.now) �
 IsSource (PolicyText text) rows = (first_of (codes "policy") rows ≡ None) × (first_of (codes "policy-text") rows ≡ Some text.now)
 
 -- an option's value is the decimal numeral of n, which has so many bits
-pub record IsNumber (bits : ℕ) (id : Text) (rows : List Row) (n : ℕ) : Type 0 where
+pub record IsOptionNumber (bits : ℕ) (id : Text) (rows : List Row) (n : ℕ) : Type 0 where
   pub numeral : Text
   pub given : one_of id rows ≡ Some numeral
   pub digits : IsNumeral 10 (without_leading_plus numeral)
@@ -111,8 +111,8 @@ pub record IsFlag (id : Text) (rows : List Row) (b : Bool) : Type 0 where
 pub record AreOptions (options : OfflineOptions) (rows : List Row) : Type 0 where
   pub policy : IsSource options.policy rows
   pub subscriber : first_of (codes "subscriber") rows ≡ Some options.subscriber.now
-  pub now : IsNumber 32 (codes "now") rows options.now
-  pub target : IsNumber 16 (codes "target") rows options.target
+  pub now : IsOptionNumber 32 (codes "now") rows options.now
+  pub target : IsOptionNumber 16 (codes "target") rows options.target
   pub audit : first_of (codes "audit") rows ≡ option_map (λ path. path.now) options.audit
   pub hex : IsFlag (codes "hex") rows options.hex
 
@@ -127,11 +127,11 @@ pub record AreVerifyOptions (options : VerifyOptions) (rows : List Row) : Type 0
 -- an option that need not be given has such a value where it is
 abbrev pub IsMaybeNumber : ℕ → Text → List Row → Option ℕ → Type 0
 IsMaybeNumber bits id rows None = first_of id rows ≡ None
-IsMaybeNumber bits id rows (Some n) = IsNumber bits id rows n
+IsMaybeNumber bits id rows (Some n) = IsOptionNumber bits id rows n
 
 pub record AreExplainOptions (options : ExplainOptions) (rows : List Row) : Type 0 where
   pub journal : first_of (codes "journal") rows ≡ Some options.journal.now
-  pub sub : IsNumber 64 (codes "sub") rows options.sub
+  pub sub : IsOptionNumber 64 (codes "sub") rows options.sub
   pub position : IsMaybeNumber 64 (codes "position") rows options.position
   pub index : IsMaybeNumber 32 (codes "index") rows options.index
 
@@ -156,17 +156,17 @@ is_shown DisplayVersion = true
 is_shown _ = false
 
 -- what the words ask for
-abbrev pub AsksFor : List Text → Task → Type 0
-AsksFor words (Show text) = IsAmong (kind_of text) (fault_of ipmd_command words) × (is_shown (kind_of text) ≡ true)
-AsksFor words (Offline options) = IsCommandIn (Offline options) (subcommand_of ipmd_command words)
-AsksFor words (CheckPolicy source) = IsCommandIn (CheckPolicy source) (subcommand_of ipmd_command words)
-AsksFor words (Replay options) = IsCommandIn (Replay options) (subcommand_of ipmd_command words)
-AsksFor words (Serve path) = IsCommandIn (Serve path) (subcommand_of ipmd_command words)
-AsksFor words (Verify options) = IsCommandIn (Verify options) (subcommand_of ipmd_command words)
-AsksFor words (Explain options) = IsCommandIn (Explain options) (subcommand_of ipmd_command words)
+abbrev pub AsksForTask : List Text → Task → Type 0
+AsksForTask words (Show text) = IsAmong (kind_of text) (fault_of ipmd_command words) × (is_shown (kind_of text) ≡ true)
+AsksForTask words (Offline options) = IsCommandIn (Offline options) (subcommand_of ipmd_command words)
+AsksForTask words (CheckPolicy source) = IsCommandIn (CheckPolicy source) (subcommand_of ipmd_command words)
+AsksForTask words (Replay options) = IsCommandIn (Replay options) (subcommand_of ipmd_command words)
+AsksForTask words (Serve path) = IsCommandIn (Serve path) (subcommand_of ipmd_command words)
+AsksForTask words (Verify options) = IsCommandIn (Verify options) (subcommand_of ipmd_command words)
+AsksForTask words (Explain options) = IsCommandIn (Explain options) (subcommand_of ipmd_command words)
 
 -- the words ask for nothing: the parser says so, or no command is what they name with its options
-abbrev pub RefusesWords : List Text → CommandLineFault → Type 0
+abbrev pub RefusesWords : List Text → Fault → Type 0
 RefusesWords words (Refused error) =
     (IsAmong (kind_of error) (fault_of ipmd_command words) ⊎ ((task : Task) → IsCommandIn task (subcommand_of ipmd_command words) → ⊥)) × (is_shown (kind_of error) ≡ false)
 RefusesWords words OutOfMemory = Unit {0}

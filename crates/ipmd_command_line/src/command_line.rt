@@ -7,9 +7,9 @@ ghost use Rattle.ipmd_command_line.specs.declared.task.ExplainOptions.{ExplainOp
 ghost use Rattle.ipmd_command_line.specs.declared.task.Task.{Task};
 ghost use Rattle.ipmd_command_line.specs.declared.task.PolicySource.{PolicySource};
 ghost use Rattle.clap.specs.Words.{app_of, first_of, found_of, rows_of, rule_of, subcommand_rows_of};
-ghost use Rattle.ipmd_command_line.specs.CommandLine.{AreExplainOptions, AreOptions, AreReplayOptions, AreVerifyOptions, AsksFor, IsCommandIn, IsMaybeNumber, IsSource, RefusesWords, check_policy_command, explain_command, ipmd_command, offline_command, replay_command, serve_command, valued, verify_command, with_policy};
+ghost use Rattle.ipmd_command_line.specs.CommandLine.{AreExplainOptions, AreOptions, AreReplayOptions, AreVerifyOptions, AsksForTask, IsCommandIn, IsMaybeNumber, IsSource, RefusesWords, check_policy_command, explain_command, ipmd_command, offline_command, replay_command, serve_command, valued_option, verify_command, with_policy};
 
-use crate::fault::CommandLineFault;
+use crate::fault::Fault;
 use crate::help;
 use crate::task::{
     ExplainOptions, OfflineOptions, PolicySource, ReplayOptions, Task, VerifyOptions,
@@ -72,17 +72,14 @@ const INDEX: &str = "index";
 ///
 /// # Errors
 /// `Refused` where they ask for nothing that there is, with the text for the standard error; or `OutOfMemory`.
-pub fn read_command_line<'a, S: AsStr>(
-    alloc: Global,
-    words: &'a [S],
-) -> Result<Task<'a>, CommandLineFault>
-    ensures asked { IfOk result (AsksFor (map S.text words.entry.now)) }
+pub fn read_command_line<'a, S: AsStr>(alloc: Global, words: &'a [S]) -> Result<Task<'a>, Fault>
+    ensures asked { IfOk result (AsksForTask (map S.text words.entry.now)) }
     ensures refused { IfErr result (RefusesWords (map S.text words.entry.now)) }
 {
     let mut command = whole_command(alloc)?;
     let matches = match command.try_get_matches_from_mut(words) {
         Ok(matches) => matches,
-        Err(error) if error.use_stderr() => return Err(CommandLineFault::from(error)),
+        Err(error) if error.use_stderr() => return Err(Fault::from(error)),
         Err(error) => return Ok(Task::Show(error)),
     };
     match task_of(&matches) {
@@ -90,7 +87,7 @@ pub fn read_command_line<'a, S: AsStr>(
         // The parser has seen to all but the two options of which one names the policy.
         None => {
             let mut named = named_command(alloc, &matches)?;
-            Err(CommandLineFault::from(named.error(
+            Err(Fault::from(named.error(
                 ErrorKind::MissingRequiredArgument,
                 "exactly one of '--policy <FILE>' and '--policy-text <TEXT>' must be given",
             )?))
@@ -400,7 +397,7 @@ fn with_policy<'a>(alloc: Global, command: Command<'a>) -> Result<Command<'a>, A
 
 /// An option with a value, under its long name.
 fn option<'a>(alloc: Global, name: &'a str, value_name: &'a str) -> Arg<'a>
-    ensures rule { rule_of result ≡ valued name.entry.now }
+    ensures rule { rule_of result ≡ valued_option name.entry.now }
     ensures local { result.global ≡ false }
 {
     Arg::new(alloc, name).long(name).value_name(value_name)

@@ -87,7 +87,7 @@ lines that begin with # are skipped. What each is answered where it is done:
   close SESSION                    ok
   receive SESSION NUMBER OCTETS    ok POSITION records R cut C unknown U reserved V refused W,
                                    and behind it gap EXPECTED GOT where sequence numbers are missing
-  edit POLICY                      ok EDITS; in POLICY each ; stands for a line end
+  edit POLICY                      ok REVISION; in POLICY each ; stands for a line end
   subscribe NAME                   ok SUB
   unsubscribe SUB                  ok
   advance T                        ok; the clock's time, in milliseconds since 1970, by which the

@@ -5,7 +5,7 @@
 //!   [`ExplainOptions`] and [`PolicySource`].
 //! - `command_line`: [`read_command_line`], [`VERSION`] and [`KIT`].
 //! - `help`: what the help says below the options.
-//! - `fault`: [`CommandLineFault`].
+//! - `fault`: [`Fault`].
 //!
 //! Proved: what words ask for is what clap makes of them by the commands and options of `specs/CommandLine`, and each
 //! option of the answer is the one that the words give, or its default (`asked` of `read_command_line`). Words are
@@ -21,5 +21,5 @@ mod help;
 mod task;
 
 pub use command_line::{KIT, VERSION, read_command_line};
-pub use fault::CommandLineFault;
+pub use fault::Fault;
 pub use task::{ExplainOptions, OfflineOptions, PolicySource, ReplayOptions, Task, VerifyOptions};

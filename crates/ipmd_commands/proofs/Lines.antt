@@ -7,11 +7,11 @@ use Rattle.std.proofs.KnownBytes.{Appends-trans, Appends-kept, Keeps-refl}
 use Rattle.std.specs.Io.KnownBytes.{Appends, Keeps}
 use Rattle.octet_io.specs.Written.{WritesFront}
 use Rattle.std.proofs.lemmas.List.Elements.{All-nil}
-use Rattle.ipfix_message.specs.declared.frame_error.FrameError.{FrameError}
+use Rattle.ipfix_message.specs.declared.fault.Fault.{Fault as DecodeError}
 use Rattle.ipfix_message.specs.Framing.{IsWhole, IsFramed}
-use Rattle.ipfix_message.specs.FramerState.{FramerState, nothing_fed, GoesOn, HasFault}
+use Rattle.ipfix_message.specs.FramerState.{FramerState, nothing_fed, FeedGoesOn, HasFault}
 use Rattle.ipfix_message.proofs.FramerLaws.{all_framed}
-use Rattle.ipmd_commands.specs.HexText.{AreMessagesOf, line_of, lines_of, WritesSome}
+use Rattle.ipmd_commands.specs.HexText.{AreMessagesOf, line_of, lines_of, WritesSomeOf}
 
 lines_turn : (messages : List (List ℕ)) (i : ℕ) (message : List ℕ) → i < length messages → message ≡ get_or messages i message
     → lines_of (take (i + 1) messages) ≡ lines_of (take i messages) ++ line_of message
@@ -24,11 +24,11 @@ lines_turn messages i message low is =
 nothing_is_framed : IsFramed [] [] None []
 nothing_is_framed = all_framed [] [] (All-nil IsWhole) refl
 
-pub messages_fed : (stream : List ℕ) (messages : List (List ℕ)) (new : FramerState) → GoesOn nothing_fed stream messages new → AreMessagesOf stream messages
+pub messages_fed : (stream : List ℕ) (messages : List (List ℕ)) (new : FramerState) → FeedGoesOn nothing_fed stream messages new → AreMessagesOf stream messages
 messages_fed stream messages new goes = (new.fault, new.pending, goes.1.after [] [] nothing_is_framed)
 
 -- octets that are no stream of messages from their start have none
-pub no_messages : (fault : FrameError) (stream : List ℕ) (new : FramerState) → HasFault fault nothing_fed stream new → AreMessagesOf stream []
+pub no_messages : (fault : DecodeError) (stream : List ℕ) (new : FramerState) → HasFault fault nothing_fed stream new → AreMessagesOf stream []
 no_messages fault stream new (inl (had, same)) = absurd cc
 no_messages fault stream new (inr (sound, has, goes)) = (new.fault, new.pending, goes.after [] [] nothing_is_framed)
 
@@ -37,10 +37,10 @@ no_messages fault stream new (inr (sound, has, goes)) = (new.fault, new.pending,
 pub kept : (held : Option (List ℕ)) → Keeps held held
 kept = Keeps-refl
 
-pub all_written : (held holds after : Option (List ℕ)) (due : List ℕ) → Appends held holds due → Keeps holds after → WritesSome due held after
+pub all_written : (held holds after : Option (List ℕ)) (due : List ℕ) → Appends held holds due → Keeps holds after → WritesSomeOf due held after
 all_written held holds after due written kept = (length due, subst (Appends held after) (sym (take_all (length due) due (omega arith))) (Appends-kept held holds after due written kept))
 
-pub front_written : (held holds : Option (List ℕ)) (due : List ℕ) (n : ℕ) (failed : Bool) → WritesFront held holds due n failed → WritesSome due held holds
+pub front_written : (held holds : Option (List ℕ)) (due : List ℕ) (n : ℕ) (failed : Bool) → WritesFront held holds due n failed → WritesSomeOf due held holds
 front_written held holds due n failed front = (n, front.written)
 
 -- some lines, and then nothing more, or a front of the next one
@@ -48,7 +48,7 @@ lines_of-take : (messages : List (List ℕ)) (i : ℕ) → lines_of messages ≡
 lines_of-take messages i = ap lines_of (sym (take-append-drop i messages)) ∙ flat_map-append line_of (take i messages) (drop i messages)
 
 -- whole lines
-pub some_lines : (held holds : Option (List ℕ)) (messages : List (List ℕ)) (i : ℕ) → Appends held holds (lines_of (take i messages)) → WritesSome (lines_of messages) held holds
+pub some_lines : (held holds : Option (List ℕ)) (messages : List (List ℕ)) (i : ℕ) → Appends held holds (lines_of (take i messages)) → WritesSomeOf (lines_of messages) held holds
 some_lines held holds messages i written =
     let front = lines_of (take i messages) in
     let rest = lines_of (drop i messages) in
@@ -56,7 +56,7 @@ some_lines held holds messages i written =
 
 -- whole lines, and a front of the next one
 pub line_begun : (held now after : Option (List ℕ)) (messages : List (List ℕ)) (i : ℕ) (message line : List ℕ) → i < length messages → message ≡ get_or messages i message
-    → line ≡ line_of message → Appends held now (lines_of (take i messages)) → WritesSome line now after → WritesSome (lines_of messages) held after
+    → line ≡ line_of message → Appends held now (lines_of (take i messages)) → WritesSomeOf line now after → WritesSomeOf (lines_of messages) held after
 line_begun held now after messages i message line low is same before (n, begun) =
     let sent = min n (length line) in
     let front = lines_of (take i messages) in

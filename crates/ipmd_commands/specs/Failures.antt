@@ -7,8 +7,8 @@ use Rattle.std.specs.declared.io.Error.{Error}
 use Rattle.ipmd_commands.specs.declared.failure.Place.{Place}
 use Rattle.ipmd_commands.specs.declared.failure.Place.TheVariants.{CommandLine, Input, Output, File, RandomNumbers, Threads}
 use Rattle.ipmd_commands.specs.declared.failure.Failure.{Failure}
-use Rattle.ipmd_commands.specs.declared.fault.ProgramFault.{ProgramFault}
-use Rattle.ipmd_commands.specs.declared.fault.ProgramFault.TheVariants as fault
+use Rattle.ipmd_commands.specs.declared.fault.Fault.{Fault}
+use Rattle.ipmd_commands.specs.declared.fault.Fault.TheVariants as fault
 
 -- what the program calls it
 abbrev pub name_of : Place → List ℕ
@@ -31,28 +31,28 @@ abbrev pub line_of : List ℕ → List ℕ → List ℕ
 line_of name why = codes "ipmd: " ++ plain name ++ codes ": " ++ plain why ++ 10 ∷ []
 
 -- which it was, and some text of why: that is the system's, which isn't told here
-abbrev pub IsLineOf : Failure → List ℕ → Type 0
-IsLineOf failure line = (why : List ℕ) × (line ≡ line_of (name_of failure.place) why)
+abbrev pub IsFailureLine : Failure → List ℕ → Type 0
+IsFailureLine failure line = (why : List ℕ) × (line ≡ line_of (name_of failure.place) why)
 
 -- ---- which it was
 
 -- the place failed so
-abbrev pub failed_at : Place → Error → ProgramFault
+abbrev pub failed_at : Place → Error → Fault
 failed_at place why = fault.Device (Some (record { place = place; why = why }))
 
 -- or in whatever way
-abbrev pub FailedAt : Place → ProgramFault → Type 0
+abbrev pub FailedAt : Place → Fault → Type 0
 FailedAt place e = (why : Error) × (e ≡ failed_at place why)
 
 -- the file of this path did
-abbrev pub FailedAtFile : List ℕ → ProgramFault → Type 0
+abbrev pub FailedAtFile : List ℕ → Fault → Type 0
 FailedAtFile path e = (text : String Global) × (string_bytes text ≡ path) × FailedAt (File text) e
 
 -- or memory ran out
-abbrev pub IsFileFault : List ℕ → ProgramFault → Type 0
+abbrev pub IsFileFault : List ℕ → Fault → Type 0
 IsFileFault path e = (e ≡ fault.OutOfMemory) ⊎ FailedAtFile path e
 
 -- a device that isn't known is called the file of this path, and any other fault stays
-abbrev pub IsNamed : List ℕ → ProgramFault → ProgramFault → Type 0
-IsNamed path (fault.Device None) named = IsFileFault path named
-IsNamed path e named = named ≡ e
+abbrev pub NamesFile : List ℕ → Fault → Fault → Type 0
+NamesFile path (fault.Device None) named = IsFileFault path named
+NamesFile path e named = named ≡ e

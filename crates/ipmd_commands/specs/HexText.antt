@@ -4,7 +4,7 @@ use Rattle.std.specs.List.{filter, flat_map}
 use Rattle.std.specs.Char.{is_ascii_whitespace}
 use Rattle.std.specs.Io.KnownBytes.{Appends, Keeps}
 use Rattle.hex.specs.Hex.{decode_of, encode_lower}
-use Rattle.ipfix_message.specs.declared.frame_error.FrameError.{FrameError}
+use Rattle.ipfix_message.specs.declared.fault.Fault.{Fault as DecodeError}
 use Rattle.ipfix_message.specs.Framing.{IsFramed}
 
 abbrev pub is_no_white_space : ℕ → Bool
@@ -27,17 +27,17 @@ lines_of messages = flat_map line_of messages
 
 -- the whole messages of a stream, one directly after another (RFC 7011, section 3.1)
 abbrev pub AreMessagesOf : List ℕ → List (List ℕ) → Type 0
-AreMessagesOf stream messages = (fault : Option FrameError) × (pending : List ℕ) × IsFramed stream messages fault pending
+AreMessagesOf stream messages = (fault : Option DecodeError) × (pending : List ℕ) × IsFramed stream messages fault pending
 
 -- a front of these octets was written, or all of them
-abbrev pub WritesSome : List ℕ → Option (List ℕ) → Option (List ℕ) → Type 0
-WritesSome due held holds = (n : ℕ) × Appends held holds (take n due)
+abbrev pub WritesSomeOf : List ℕ → Option (List ℕ) → Option (List ℕ) → Type 0
+WritesSomeOf due held holds = (n : ℕ) × Appends held holds (take n due)
 
 -- a front of the lines of a stream's messages was written, or all of them
 pub record BeginsLines (stream : List ℕ) (held holds : Option (List ℕ)) : Type 0 where
   pub messages : List (List ℕ)
   pub cut : AreMessagesOf stream messages
-  pub written : WritesSome (lines_of messages) held holds
+  pub written : WritesSomeOf (lines_of messages) held holds
 
 -- the same, or nothing
 abbrev pub WritesSomeLines : List ℕ → Option (List ℕ) → Option (List ℕ) → Type 0

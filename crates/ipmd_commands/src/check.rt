@@ -2,9 +2,9 @@
 
 ghost use Rattle.std.specs.Prelude.{◌≡◌, IfErr, IfOk, OnOk, string_bytes};
 ghost use Rattle.octet_io.specs.Device.{device_inner};
-ghost use Rattle.ipmd_commands.specs.Runs.{CountsPolicy, RefusesToCount, counted};
+ghost use Rattle.ipmd_commands.specs.Runs.{CountsPolicy, RefusesToCount, policy_summary};
 
-use crate::fault::ProgramFault;
+use crate::fault::Fault;
 use crate::output::write_text;
 use crate::policy_source::policy_text_of;
 use ipmd_command_line::PolicySource;
@@ -25,7 +25,7 @@ pub fn check_policy<R: Files + AllocGlobal, O: Write>(
     rt: &R,
     source: PolicySource<'_>,
     output: &mut Device<O>,
-) -> Result<(), ProgramFault>
+) -> Result<(), Fault>
     ensures ok { OnOk result (CountsPolicy source.entry
         (O.contents (device_inner output.old)) (O.contents (device_inner output.new))) }
     ensures err { IfErr result (λ e. RefusesToCount source.entry e
@@ -39,7 +39,7 @@ pub fn check_policy<R: Files + AllocGlobal, O: Write>(
 
 /// How many rules and aggregates a policy has, as a line.
 fn count_line(alloc: Global, policy: &Policy) -> Result<String, AllocError>
-    ensures { IfOk result (λ line. string_bytes line ≡ counted policy.now) }
+    ensures { IfOk result (λ line. string_bytes line ≡ policy_summary policy.now) }
 {
     let rules = policy.rules().len();
     let aggregates = policy.aggregates().len();

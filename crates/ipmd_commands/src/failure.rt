@@ -1,6 +1,6 @@
 //! What failed of a run's files and streams, and why.
 ghost use Rattle.std.specs.Prelude.{◌≡◌, IfOk, string_bytes};
-ghost use Rattle.ipmd_commands.specs.Failures.{IsLineOf, line_of, plain};
+ghost use Rattle.ipmd_commands.specs.Failures.{IsFailureLine, line_of, plain};
 
 use std::alloc::{AllocError, Global};
 use std::fmt::{self, Display, Formatter};
@@ -56,7 +56,7 @@ impl Failure {
     /// # Errors
     /// Want of memory.
     pub(crate) fn line(&self, alloc: Global) -> Result<String, AllocError>
-        ensures { IfOk result (λ line. IsLineOf self.now (string_bytes line)) }
+        ensures { IfOk result (λ line. IsFailureLine self.now (string_bytes line)) }
     {
         let Failure { place, why } = self;
         let place = format!(in alloc; "{place}")?;

@@ -5,14 +5,14 @@ ghost use Rattle.ipmd_commands.specs.declared.failure.Place.TheVariants as place
 ghost use Rattle.ipmd_commands.specs.Status.{NamesFailure};
 
 use crate::failure::{Failure, Place};
-use ipmd_command_line::CommandLineFault;
-use ipmd_settings::SettingsFault;
-use journal_files::{JournalFault, ReadFault};
-use mediator_calls::RunFault;
-use mediator_offline::{Fault, FramingFault};
+use ipmd_command_line::Fault as CommandLineFault;
+use ipmd_settings::Fault as SettingsFault;
+use journal_files::Fault as JournalFault;
+use mediator_offline::FramingFault;
+use mediator_state::Fault as MediatorFault;
 use octet_io::{Device, write_all};
-use policy_text::{FaultKind, PolicyFault};
-use replay_text::CallsFault;
+use policy_text::{Fault as PolicyFault, FaultKind};
+use replay_text::Fault as CallsFault;
 use std::alloc::{AllocError, AllocFailed, Global};
 use std::error::Error;
 use std::fmt::{self, Display, Formatter};
@@ -57,7 +57,7 @@ impl Display for Absent {
 
 /// Why a run ends without having done what was asked. Its text is what the program says of it.
 #[derive(Debug, Drop)]
-pub enum ProgramFault {
+pub enum Fault {
     /// The command line asks for nothing that there is. The text is the parser's, with its line feeds.
     CommandLine(clap::Error),
     /// The text gives no settings.
@@ -68,15 +68,14 @@ pub enum ProgramFault {
     Hex,
     /// The input is no stream of messages.
     Framing(FramingFault),
-    /// The mediator refused a call, and not for its policy or for want of memory, which have variants of their own.
-    Core(Fault),
+    /// The mediator refused a call, or limits, and not for its policy or for want of memory, which have variants of their own.
+    Mediator(MediatorFault),
     /// The subscription was cut.
     Cut,
     /// The line of this number is no call.
     Calls(usize),
-    /// The limits of a list of calls are out of their ranges.
-    BadLimits,
-    /// The octets are no journal's file, and this is the first fault of it.
+    /// The octets are no journal's file, and this is the first fault of it: never `Read`, `Write` or `OutOfMemory`, which are
+    /// `Device` and `OutOfMemory` here.
     Journal(JournalFault),
     /// A journal's entry at this position is none that a mediator may have accepted there. All entries before it are.
     History(u64),
@@ -91,37 +90,36 @@ pub enum ProgramFault {
     Device(Option<Failure>),
 }
 
-impl Error for ProgramFault {}
+impl Error for Fault {}
 
-impl Display for ProgramFault {
+impl Display for Fault {
     ghost use Rattle.ipmd_commands.specs.Status.{text_of};
 
     ghost output = { text_of };
 
     fn fmt<W: fmt::Write>(&self, f: &mut Formatter<W>) -> fmt::Result {
         match self {
-            ProgramFault::CommandLine(why) => write!(f, "{why}"),
-            ProgramFault::Settings(why) => write!(f, "ipmd: settings: {why}"),
-            ProgramFault::Policy(PolicyFault { line, kind }) => {
+            Fault::CommandLine(why) => write!(f, "{why}"),
+            Fault::Settings(why) => write!(f, "ipmd: settings: {why}"),
+            Fault::Policy(PolicyFault { line, kind }) => {
                 write!(f, "ipmd: policy line {line}: {kind}")
             }
-            ProgramFault::Hex => f.write_str("ipmd: hex"),
-            ProgramFault::Framing(why) => write!(f, "ipmd: framing {why}"),
-            ProgramFault::Core(why) => write!(f, "ipmd: {why}"),
-            ProgramFault::Cut => f.write_str("ipmd: Cut"),
-            ProgramFault::Calls(line) => write!(f, "ipmd: calls line {line}"),
-            ProgramFault::BadLimits => f.write_str("ipmd: BadLimits"),
-            ProgramFault::Journal(why) => write!(f, "ipmd: journal {why}"),
-            ProgramFault::History(position) => { write!(f, "ipmd: journal BadHistory {position}") }
-            ProgramFault::Absent(what) => write!(f, "ipmd: journal {what}"),
-            ProgramFault::Close => f.write_str("ipmd: close"),
-            ProgramFault::OutOfMemory => f.write_str("ipmd: OutOfMemory"),
-            ProgramFault::Device(_) => f.write_str("ipmd: device"),
+            Fault::Hex => f.write_str("ipmd: hex"),
+            Fault::Framing(why) => write!(f, "ipmd: framing {why}"),
+            Fault::Mediator(why) => write!(f, "ipmd: {why}"),
+            Fault::Cut => f.write_str("ipmd: Cut"),
+            Fault::Calls(line) => write!(f, "ipmd: calls line {line}"),
+            Fault::Journal(why) => write!(f, "ipmd: journal {why}"),
+            Fault::History(position) => { write!(f, "ipmd: journal BadHistory {position}") }
+            Fault::Absent(what) => write!(f, "ipmd: journal {what}"),
+            Fault::Close => f.write_str("ipmd: close"),
+            Fault::OutOfMemory => f.write_str("ipmd: OutOfMemory"),
+            Fault::Device(_) => f.write_str("ipmd: device"),
         }
     }
 }
 
-impl ProgramFault {
+impl Fault {
     ghost use Rattle.octet_io.specs.Device.{device_failed, device_inner};
     ghost use Rattle.ipmd_commands.specs.Status.{Blames, status_of};
 
@@ -139,16 +137,16 @@ impl ProgramFault {
     }
 
     ghost use Rattle.std.specs.Prelude.{false};
-    ghost use Rattle.ipmd_commands.specs.Status.{line_of_fault, Tells};
+    ghost use Rattle.ipmd_commands.specs.Status.{line_of_fault, TellsLine};
 
     /// Says the fault.
     fn say<E: Write>(&self, errors: &mut Device<E>)
-        ensures told { Tells (line_of_fault self.now) (device_failed errors.new)
+        ensures told { TellsLine (line_of_fault self.now) (device_failed errors.new)
             (E.contents (device_inner errors.old)) (E.contents (device_inner errors.new)) }
         ensures stays { device_failed errors.new ≡ false → device_failed errors.old ≡ false }
     {
         let _ = match self {
-            ProgramFault::CommandLine(_) => write!(errors, "{self}"),
+            Fault::CommandLine(_) => write!(errors, "{self}"),
             _ => writeln!(errors, "{self}"),
         };
     }
@@ -161,7 +159,7 @@ impl ProgramFault {
             (E.contents (device_inner errors.old)) (E.contents (device_inner errors.new)) }
     {
         match self {
-            ProgramFault::Device(Some(failure)) => tell_failure(failure, alloc, errors),
+            Fault::Device(Some(failure)) => tell_failure(failure, alloc, errors),
             _ => {}
         }
     }
@@ -171,74 +169,73 @@ impl ProgramFault {
         ensures { result ≡ status_of self.now }
     {
         match self {
-            ProgramFault::CommandLine(_) => BAD_COMMAND_LINE,
-            ProgramFault::Settings(_)
-            | ProgramFault::Policy(_)
-            | ProgramFault::Hex
-            | ProgramFault::Framing(_)
-            | ProgramFault::Core(_)
-            | ProgramFault::Cut
-            | ProgramFault::Calls(_)
-            | ProgramFault::BadLimits
-            | ProgramFault::Journal(_)
-            | ProgramFault::History(_)
-            | ProgramFault::Absent(_)
-            | ProgramFault::Close
-            | ProgramFault::OutOfMemory => REFUSED,
-            ProgramFault::Device(_) => DEVICE_FAILED,
+            Fault::CommandLine(_) => BAD_COMMAND_LINE,
+            Fault::Settings(_)
+            | Fault::Policy(_)
+            | Fault::Hex
+            | Fault::Framing(_)
+            | Fault::Mediator(_)
+            | Fault::Cut
+            | Fault::Calls(_)
+            | Fault::Journal(_)
+            | Fault::History(_)
+            | Fault::Absent(_)
+            | Fault::Close
+            | Fault::OutOfMemory => REFUSED,
+            Fault::Device(_) => DEVICE_FAILED,
         }
     }
 
     ghost use Rattle.std.specs.Prelude.{◌≢◌, ◌⊎◌};
     ghost use Rattle.std.specs.IoError.{error_kind};
     ghost use Rattle.std.specs.declared.io.ErrorKind.TheVariants as io_error;
-    ghost use Rattle.ipmd_commands.specs.declared.fault.ProgramFault.TheVariants.{OutOfMemory};
-    ghost use Rattle.ipmd_commands.specs.Failures.{FailedAt, IsFileFault, IsNamed, failed_at};
+    ghost use Rattle.ipmd_commands.specs.declared.fault.Fault.TheVariants.{OutOfMemory};
+    ghost use Rattle.ipmd_commands.specs.Failures.{FailedAt, IsFileFault, NamesFile, failed_at};
 
     /// The fault of `place`, which has failed with the error `why`.
-    pub fn failed(place: Place, why: io::Error) -> ProgramFault
+    pub fn failed(place: Place, why: io::Error) -> Fault
         ensures { result ≡ failed_at place why }
     {
-        ProgramFault::Device(Some(Failure { place, why }))
+        Fault::Device(Some(Failure { place, why }))
     }
 
     /// What the program makes of the error `why` at `place`: `OutOfMemory` where it is want of memory, else `Device`.
-    pub fn at(place: Place, why: io::Error) -> ProgramFault
+    pub fn at(place: Place, why: io::Error) -> Fault
         ensures kind { ((error_kind why ≡ io_error.OutOfMemory) × (result ≡ OutOfMemory))
             ⊎ ((error_kind why ≢ io_error.OutOfMemory) × (result ≡ failed_at place why)) }
         ensures either { (result ≡ OutOfMemory) ⊎ FailedAt place result }
     {
         match why.kind() {
-            ErrorKind::OutOfMemory => ProgramFault::OutOfMemory,
-            _ => ProgramFault::failed(place, why),
+            ErrorKind::OutOfMemory => Fault::OutOfMemory,
+            _ => Fault::failed(place, why),
         }
     }
 
     /// What the program makes of the error `why` at the file whose path is `path`: `OutOfMemory` where it is want of memory, or
     /// `alloc` has none for the path; else `Device`.
-    pub fn at_file(alloc: Global, path: &str, why: io::Error) -> ProgramFault
+    pub fn at_file(alloc: Global, path: &str, why: io::Error) -> Fault
         ensures { IsFileFault path.now result }
     {
         match String::from_str(alloc, path) {
-            Ok(path) => ProgramFault::at(Place::File(path), why),
-            Err(AllocError) => ProgramFault::OutOfMemory,
+            Ok(path) => Fault::at(Place::File(path), why),
+            Err(AllocError) => Fault::OutOfMemory,
         }
     }
 
     /// What the program makes of standard output, `output`, that has failed: `Device`, with why it failed first.
-    pub fn at_output<O>(output: &Device<O>) -> ProgramFault
+    pub fn at_output<O>(output: &Device<O>) -> Fault
         ensures { FailedAt placed.Output result }
     {
-        ProgramFault::failed(Place::Output, output.why())
+        Fault::failed(Place::Output, output.why())
     }
 
     /// This fault, where it isn't `Device` of something unknown. Else the fault of the file whose path is `path`, which failed
     /// with the error `why`.
-    pub fn named(self, alloc: Global, path: &str, why: io::Error) -> ProgramFault
-        ensures { IsNamed path.now self result }
+    pub fn named(self, alloc: Global, path: &str, why: io::Error) -> Fault
+        ensures { NamesFile path.now self result }
     {
         match self {
-            ProgramFault::Device(None) => ProgramFault::at_file(alloc, path, why),
+            Fault::Device(None) => Fault::at_file(alloc, path, why),
             fault => fault,
         }
     }
@@ -254,126 +251,112 @@ fn tell_failure<E: Write>(failure: &Failure, alloc: Global, errors: &mut Device<
     }
 }
 
-impl From<AllocError> for ProgramFault {
+impl From<AllocError> for Fault {
     ghost use Rattle.std.specs.Prelude.{◌≡◌};
-    ghost use Rattle.ipmd_commands.specs.declared.fault.ProgramFault.TheVariants.{OutOfMemory};
+    ghost use Rattle.ipmd_commands.specs.declared.fault.Fault.TheVariants.{OutOfMemory};
 
     ghost from_gives = { λ _ e. e ≡ OutOfMemory };
 
-    fn from(_e: AllocError) -> ProgramFault {
-        ProgramFault::OutOfMemory
+    fn from(_e: AllocError) -> Fault {
+        Fault::OutOfMemory
     }
 }
 
-impl<T: Drop> From<AllocFailed<T>> for ProgramFault {
+impl<T: Drop> From<AllocFailed<T>> for Fault {
     ghost use Rattle.std.specs.Prelude.{◌≡◌};
-    ghost use Rattle.ipmd_commands.specs.declared.fault.ProgramFault.TheVariants.{OutOfMemory};
+    ghost use Rattle.ipmd_commands.specs.declared.fault.Fault.TheVariants.{OutOfMemory};
 
     ghost from_gives = { λ _ e. e ≡ OutOfMemory };
 
-    fn from(_e: AllocFailed<T>) -> ProgramFault {
-        ProgramFault::OutOfMemory
+    fn from(_e: AllocFailed<T>) -> Fault {
+        Fault::OutOfMemory
     }
 }
 
-impl From<CommandLineFault> for ProgramFault {
+impl From<CommandLineFault> for Fault {
     ghost use Rattle.std.specs.Prelude.{◌≡◌};
     ghost use Rattle.ipmd_commands.specs.Status.{command_line_fault_of};
 
     ghost from_gives = { λ f e. e ≡ command_line_fault_of f };
 
-    fn from(fault: CommandLineFault) -> ProgramFault {
+    fn from(fault: CommandLineFault) -> Fault {
         match fault {
-            CommandLineFault::Refused(why) => ProgramFault::CommandLine(why),
-            CommandLineFault::OutOfMemory => ProgramFault::OutOfMemory,
+            CommandLineFault::Refused(why) => Fault::CommandLine(why),
+            CommandLineFault::OutOfMemory => Fault::OutOfMemory,
         }
     }
 }
 
-impl From<SettingsFault> for ProgramFault {
+impl From<SettingsFault> for Fault {
     ghost use Rattle.std.specs.Prelude.{◌≡◌};
     ghost use Rattle.ipmd_commands.specs.Status.{settings_fault_of};
 
     ghost from_gives = { λ f e. e ≡ settings_fault_of f };
 
-    fn from(fault: SettingsFault) -> ProgramFault {
+    fn from(fault: SettingsFault) -> Fault {
         match fault {
-            SettingsFault::OutOfMemory => ProgramFault::OutOfMemory,
-            SettingsFault::TooLong => ProgramFault::Settings(SettingsFault::TooLong),
-            SettingsFault::Toml => ProgramFault::Settings(SettingsFault::Toml),
-            SettingsFault::Key(key) => ProgramFault::Settings(SettingsFault::Key(key)),
+            SettingsFault::OutOfMemory => Fault::OutOfMemory,
+            SettingsFault::TooLong => Fault::Settings(SettingsFault::TooLong),
+            SettingsFault::Toml => Fault::Settings(SettingsFault::Toml),
+            SettingsFault::Key(key) => Fault::Settings(SettingsFault::Key(key)),
         }
     }
 }
 
-impl From<PolicyFault> for ProgramFault {
+impl From<PolicyFault> for Fault {
     ghost use Rattle.std.specs.Prelude.{◌≡◌};
     ghost use Rattle.ipmd_commands.specs.Status.{policy_fault_of};
 
     ghost from_gives = { λ f e. e ≡ policy_fault_of f f.kind };
 
-    fn from(fault: PolicyFault) -> ProgramFault {
+    fn from(fault: PolicyFault) -> Fault {
         match fault.kind {
-            FaultKind::OutOfMemory => ProgramFault::OutOfMemory,
-            _ => ProgramFault::Policy(fault),
+            FaultKind::OutOfMemory => Fault::OutOfMemory,
+            _ => Fault::Policy(fault),
         }
     }
 }
 
-impl From<Fault> for ProgramFault {
+impl From<MediatorFault> for Fault {
     ghost use Rattle.std.specs.Prelude.{◌≡◌};
-    ghost use Rattle.ipmd_commands.specs.Status.{core_fault_of};
+    ghost use Rattle.ipmd_commands.specs.Status.{mediator_fault_of};
 
-    ghost from_gives = { λ f e. e ≡ core_fault_of f };
+    ghost from_gives = { λ f e. e ≡ mediator_fault_of f };
 
-    fn from(fault: Fault) -> ProgramFault {
+    fn from(fault: MediatorFault) -> Fault {
         match fault {
-            Fault::Policy(why) => ProgramFault::from(why),
-            Fault::OutOfMemory => ProgramFault::OutOfMemory,
-            why => ProgramFault::Core(why),
+            MediatorFault::Policy(why) => Fault::from(why),
+            MediatorFault::OutOfMemory => Fault::OutOfMemory,
+            why => Fault::Mediator(why),
         }
     }
 }
 
-impl From<CallsFault> for ProgramFault {
+impl From<CallsFault> for Fault {
     ghost use Rattle.std.specs.Prelude.{◌≡◌};
     ghost use Rattle.ipmd_commands.specs.Status.{calls_fault_of};
 
     ghost from_gives = { λ f e. e ≡ calls_fault_of f };
 
-    fn from(fault: CallsFault) -> ProgramFault {
+    fn from(fault: CallsFault) -> Fault {
         match fault {
-            CallsFault::Line(line) => ProgramFault::Calls(line),
-            CallsFault::OutOfMemory => ProgramFault::OutOfMemory,
+            CallsFault::Line(line) => Fault::Calls(line),
+            CallsFault::OutOfMemory => Fault::OutOfMemory,
         }
     }
 }
 
-impl From<RunFault> for ProgramFault {
-    ghost use Rattle.std.specs.Prelude.{◌≡◌};
-    ghost use Rattle.ipmd_commands.specs.Status.{run_fault_of};
-
-    ghost from_gives = { λ f e. e ≡ run_fault_of f };
-
-    fn from(fault: RunFault) -> ProgramFault {
-        match fault {
-            RunFault::BadLimits => ProgramFault::BadLimits,
-            RunFault::OutOfMemory => ProgramFault::OutOfMemory,
-        }
-    }
-}
-
-impl From<ReadFault> for ProgramFault {
+impl From<JournalFault> for Fault {
     ghost use Rattle.std.specs.Prelude.{◌≡◌};
     ghost use Rattle.ipmd_commands.specs.Status.{read_fault_of};
 
     ghost from_gives = { λ f e. e ≡ read_fault_of f };
 
-    fn from(fault: ReadFault) -> ProgramFault {
+    fn from(fault: JournalFault) -> Fault {
         match fault {
-            ReadFault::Read => ProgramFault::Device(None),
-            ReadFault::File(JournalFault::OutOfMemory) => ProgramFault::OutOfMemory,
-            ReadFault::File(why) => ProgramFault::Journal(why),
+            JournalFault::Read | JournalFault::Write { .. } => Fault::Device(None),
+            JournalFault::OutOfMemory => Fault::OutOfMemory,
+            why => Fault::Journal(why),
         }
     }
 }

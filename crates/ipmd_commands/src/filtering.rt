@@ -3,17 +3,17 @@
 ghost use Rattle.std.specs.Prelude.{◌≡◌, IfErr, IfOk};
 ghost use Rattle.octet_io.specs.Device.{device_inner};
 ghost use Rattle.octet_io.specs.Moments.{writer_of};
-ghost use Rattle.ipmd_commands.specs.Runs.{FailsLines, FailsOn, Filters, FinishesInput, FinishesLines, FinishesOn, FinishesWithAudit, IsWriteFault, RefusesInput, RefusesToFilter, RefusesWithAudit};
+ghost use Rattle.ipmd_commands.specs.Runs.{FailsLines, FailsOn, FiltersInput, FinishesInput, FinishesLines, FinishesOn, FinishesWithAudit, IsWriteFault, RefusesInput, RefusesToFilter, RefusesWithAudit};
 ghost use Rattle.ipmd_commands.specs.Status.{offline_fault_of};
 
 use crate::failure::Place;
-use crate::fault::ProgramFault;
+use crate::fault::Fault;
 use crate::files::of_file;
 use crate::hex_input::read_hex;
 use crate::output::write_lines;
 use crate::policy_source::policy_text_of;
 use ipmd_command_line::OfflineOptions;
-use mediator_offline::{OfflineFault, OfflineJob, OfflineReport, offline};
+use mediator_offline::{Fault as OfflineFault, OfflineJob, OfflineReport, offline};
 use octet_io::Device;
 use std::alloc::Global;
 use std::io::{BufWriter, Read, Write};
@@ -32,16 +32,16 @@ const ANY_NUMBER_OF_READS: u64 = u64::MAX;
 ///
 /// # Errors
 /// In this order: that of the policy's source; `Device`, of the audit's file, which is made empty; `Hex`, where the input is to
-/// be hexadecimal and isn't; and what stops `offline` ([`mediator_offline::offline`]), where `Framing`, `Policy`, `Core`, `Cut` and
-/// `OutOfMemory` keep their names, and `Device` is that of what failed. What was accepted before a fault is written.
+/// be hexadecimal and isn't; and what stops `offline` ([`mediator_offline::offline`]), where `Framing`, `Policy`, `Mediator`,
+/// `Cut` and `OutOfMemory` keep their names, and `Device` is that of what failed. What was accepted before a fault is written.
 #[tactic(auto, using(crate::proofs::Lines::kept))]
 pub fn filter<R: Files + AllocGlobal, I: Read + Drop, O: Write>(
     rt: &R,
     options: &OfflineOptions<'_>,
     input: I,
     output: &mut Device<O>,
-) -> Result<OfflineReport, ProgramFault>
-    ensures ok { IfOk result (λ report. Filters options.entry.now report (I.remaining input)
+) -> Result<OfflineReport, Fault>
+    ensures ok { IfOk result (λ report. FiltersInput options.entry.now report (I.remaining input)
         (O.contents (device_inner output.old)) (O.contents (device_inner output.new))) }
     ensures err { IfErr result (λ e. RefusesToFilter options.entry.now e (I.remaining input)
         (O.contents (device_inner output.old)) (O.contents (device_inner output.new))) }
@@ -76,7 +76,7 @@ fn filter_to_file<R: Files + AllocGlobal, I: Read + Drop, O: Write>(
     input: I,
     output: &mut Device<O>,
     path: &str,
-) -> Result<OfflineReport, ProgramFault>
+) -> Result<OfflineReport, Fault>
     ensures ok { IfOk result (λ report.
         FinishesWithAudit hex job.entry.now report (I.remaining input)
         (writer_of (O.contents (device_inner output.old)) (O.contents (device_inner output.new)))) }
@@ -107,7 +107,7 @@ fn filter_input<I: Read + Drop, O: Write, A: Write>(
     input: I,
     output: &mut Device<O>,
     audit: &mut Device<A>,
-) -> Result<OfflineReport, ProgramFault>
+) -> Result<OfflineReport, Fault>
     ensures ok { IfOk result (λ report. FinishesInput hex job.entry.now report (I.remaining input)
         (writer_of (O.contents (device_inner output.old)) (O.contents (device_inner output.new)))
         (writer_of (A.contents (device_inner audit.old)) (A.contents (device_inner audit.new)))) }
@@ -129,7 +129,7 @@ fn filter_to_lines<O: Write, A: Write>(
     octets: &[u8],
     output: &mut Device<O>,
     audit: &mut Device<A>,
-) -> Result<OfflineReport, ProgramFault>
+) -> Result<OfflineReport, Fault>
     ensures ok { IfOk result (λ report. FinishesLines job.entry.now report octets.now
         (writer_of (O.contents (device_inner output.old)) (O.contents (device_inner output.new)))
         (writer_of (A.contents (device_inner audit.old)) (A.contents (device_inner audit.new)))) }
@@ -142,7 +142,7 @@ fn filter_to_lines<O: Write, A: Write>(
     let out_of_memory = stream.has_failed();
     write_lines(alloc, stream.into_inner().as_slice(), output)?;
     if out_of_memory {
-        return Err(ProgramFault::OutOfMemory);
+        return Err(Fault::OutOfMemory);
     }
     report
 }
@@ -155,7 +155,7 @@ fn filter_octets<I: Read + Drop, O: Write, A: Write>(
     input: I,
     output: &mut Device<O>,
     audit: &mut Device<A>,
-) -> Result<OfflineReport, ProgramFault>
+) -> Result<OfflineReport, Fault>
     ensures ok { IfOk result (λ report. FinishesOn job.entry.now report (I.remaining input)
         (writer_of (O.contents (device_inner output.old)) (O.contents (device_inner output.new)))
         (writer_of (A.contents (device_inner audit.old)) (A.contents (device_inner audit.new)))) }
@@ -178,26 +178,26 @@ fn filter_octets<I: Read + Drop, O: Write, A: Write>(
 }
 
 /// What the program makes of an output or an audit of which one has failed.
-fn failed_one<O>(output: &Device<O>) -> ProgramFault
+fn failed_one<O>(output: &Device<O>) -> Fault
     ensures { IsWriteFault result }
 {
     if output.has_failed() {
-        ProgramFault::at_output(output)
+        Fault::at_output(output)
     } else {
-        ProgramFault::Device(None)
+        Fault::Device(None)
     }
 }
 
 /// What it makes of a stream that wasn't filtered to its end, where `input` and `output` are the errors of its devices.
-fn fault_of(fault: OfflineFault, input: io::Error, output: io::Error) -> ProgramFault
+fn fault_of(fault: OfflineFault, input: io::Error, output: io::Error) -> Fault
     ensures { result ≡ offline_fault_of input output fault }
 {
     match fault {
-        OfflineFault::Read | OfflineFault::Turns => ProgramFault::failed(Place::Input, input),
-        OfflineFault::Write { .. } => ProgramFault::failed(Place::Output, output),
-        OfflineFault::AuditWrite => ProgramFault::Device(None),
-        OfflineFault::Framing(why) => ProgramFault::Framing(why),
-        OfflineFault::Core(why) => ProgramFault::from(why),
-        OfflineFault::Cut => ProgramFault::Cut,
+        OfflineFault::Read | OfflineFault::Turns => Fault::failed(Place::Input, input),
+        OfflineFault::Write { .. } => Fault::failed(Place::Output, output),
+        OfflineFault::AuditWrite => Fault::Device(None),
+        OfflineFault::Framing(why) => Fault::Framing(why),
+        OfflineFault::Mediator(why) => Fault::from(why),
+        OfflineFault::Cut => Fault::Cut,
     }
 }

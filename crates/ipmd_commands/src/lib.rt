@@ -6,7 +6,7 @@
 //! - `showing`: [`show`], the help and the version.
 //! - `report`: [`tell`], what is said of a stream that was filtered.
 //! - `output`: [`write_text`]; and messages as lines of hexadecimal digits.
-//! - `fault`: [`ProgramFault`], with [`Absent`]; `failure`: [`Failure`], what failed and why, with [`Place`].
+//! - `fault`: [`Fault`], with [`Absent`]; `failure`: [`Failure`], what failed and why, with [`Place`].
 //! - `files`: [`read_text`], and [`of_file`], what the system answers of a file.
 //! - `policy_source`: the text of a policy, from where it comes.
 //! - `hex_input`: a stream as hexadecimal text.
@@ -43,7 +43,7 @@ mod showing;
 
 pub use check::check_policy;
 pub use failure::{Failure, Place};
-pub use fault::{Absent, ProgramFault};
+pub use fault::{Absent, Fault};
 pub use files::{of_file, read_text};
 pub use filtering::filter;
 pub use output::{flush, put_text, write_text};

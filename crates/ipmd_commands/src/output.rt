@@ -3,14 +3,14 @@
 ghost use Rattle.std.specs.Prelude.{◌≡◌, ◌⊎◌, OnOk, IfOk, IfErr, string_bytes};
 ghost use Rattle.std.specs.Io.KnownBytes.{Appends, Keeps};
 ghost use Rattle.octet_io.specs.Device.{device_inner};
-ghost use Rattle.ipmd_commands.specs.HexText.{AreMessagesOf, line_of, lines_of, WritesLines, WritesSome, WritesSomeLines};
+ghost use Rattle.ipmd_commands.specs.HexText.{AreMessagesOf, line_of, lines_of, WritesLines, WritesSomeOf, WritesSomeLines};
 ghost use Rattle.ipmd_commands.specs.declared.failure.Place.TheVariants.{Output};
-ghost use Rattle.ipmd_commands.specs.declared.fault.ProgramFault.TheVariants.{OutOfMemory};
+ghost use Rattle.ipmd_commands.specs.declared.fault.Fault.TheVariants.{OutOfMemory};
 ghost use Rattle.ipmd_commands.specs.Failures.{FailedAt};
 
-use crate::fault::ProgramFault;
+use crate::fault::Fault;
 use bytes::Bytes;
-use ipfix_message::{FrameError, Framer};
+use ipfix_message::{Fault as DecodeError, Framer};
 use octet_io::{Device, write_all};
 use std::alloc::{AllocError, Global};
 use std::io::Write;
@@ -20,10 +20,10 @@ use std::io::Write;
 /// # Errors
 /// `Device`, of the output, where that fails. A front of the text may have been written.
 #[tactic(auto, using(crate::proofs::Lines::all_written, crate::proofs::Lines::front_written))]
-pub fn write_text<O: Write>(output: &mut Device<O>, text: &str) -> Result<(), ProgramFault>
+pub fn write_text<O: Write>(output: &mut Device<O>, text: &str) -> Result<(), Fault>
     ensures ok { OnOk result (Appends
         (O.contents (device_inner output.old)) (O.contents (device_inner output.new)) text.now) }
-    ensures err { IfErr result (λ e. FailedAt Output e × WritesSome text.now
+    ensures err { IfErr result (λ e. FailedAt Output e × WritesSomeOf text.now
         (O.contents (device_inner output.old)) (O.contents (device_inner output.new))) }
 {
     put_text(output, text)?;
@@ -34,15 +34,15 @@ pub fn write_text<O: Write>(output: &mut Device<O>, text: &str) -> Result<(), Pr
 ///
 /// # Errors
 /// `Device`, of the output, where that fails. A front of the text was written.
-pub fn put_text<O: Write>(output: &mut Device<O>, text: &str) -> Result<(), ProgramFault>
+pub fn put_text<O: Write>(output: &mut Device<O>, text: &str) -> Result<(), Fault>
     ensures ok { OnOk result (Appends
         (O.contents (device_inner output.old)) (O.contents (device_inner output.new)) text.now) }
-    ensures err { IfErr result (λ e. FailedAt Output e × WritesSome text.now
+    ensures err { IfErr result (λ e. FailedAt Output e × WritesSomeOf text.now
         (O.contents (device_inner output.old)) (O.contents (device_inner output.new))) }
 {
     match write_all(output, text.as_bytes()) {
         Ok(()) => Ok(()),
-        Err(_) => Err(ProgramFault::at_output(output)),
+        Err(_) => Err(Fault::at_output(output)),
     }
 }
 
@@ -50,14 +50,14 @@ pub fn put_text<O: Write>(output: &mut Device<O>, text: &str) -> Result<(), Prog
 ///
 /// # Errors
 /// `Device`, of the output, where that fails.
-pub fn flush<O: Write>(output: &mut Device<O>) -> Result<(), ProgramFault>
+pub fn flush<O: Write>(output: &mut Device<O>) -> Result<(), Fault>
     ensures kept { Keeps
         (O.contents (device_inner output.old)) (O.contents (device_inner output.new)) }
     ensures err { IfErr result (FailedAt Output) }
 {
     match output.flush() {
         Ok(()) => Ok(()),
-        Err(_) => Err(ProgramFault::at_output(output)),
+        Err(_) => Err(Fault::at_output(output)),
     }
 }
 
@@ -70,7 +70,7 @@ pub fn write_lines<O: Write>(
     alloc: Global,
     stream: &[u8],
     output: &mut Device<O>,
-) -> Result<(), ProgramFault>
+) -> Result<(), Fault>
     ensures ok { OnOk result (WritesLines stream.now
         (O.contents (device_inner output.old)) (O.contents (device_inner output.new))) }
     ensures err { IfErr result (λ e. ((e ≡ OutOfMemory) ⊎ FailedAt Output e) × WritesSomeLines
@@ -87,9 +87,12 @@ fn messages_of(alloc: Global, stream: &[u8]) -> Result<Vec<Bytes>, AllocError>
 {
     match Framer::new(alloc).feed(stream) {
         Ok(messages) => Ok(messages),
-        Err(FrameError::BadVersion) => Ok(Vec::new(alloc)),
-        Err(FrameError::BadLength) => Ok(Vec::new(alloc)),
-        Err(FrameError::OutOfMemory) => Err(AllocError),
+        Err(DecodeError::BadVersion) => Ok(Vec::new(alloc)),
+        Err(DecodeError::BadLength) => Ok(Vec::new(alloc)),
+        Err(DecodeError::ShortHeader) => unreachable!(),
+        Err(DecodeError::BadSetLength) => unreachable!(),
+        Err(DecodeError::TemplateOverrun) => unreachable!(),
+        Err(DecodeError::OutOfMemory) => Err(AllocError),
     }
 }
 
@@ -98,12 +101,12 @@ fn write_each<O: Write>(
     alloc: Global,
     messages: &[Bytes],
     output: &mut Device<O>,
-) -> Result<(), ProgramFault>
+) -> Result<(), Fault>
     ensures ok { OnOk result (Appends
         (O.contents (device_inner output.old)) (O.contents (device_inner output.new))
         (lines_of messages.now)) }
     ensures err { IfErr result (λ e. ((e ≡ OutOfMemory) ⊎ FailedAt Output e)
-        × WritesSome (lines_of messages.now)
+        × WritesSomeOf (lines_of messages.now)
         (O.contents (device_inner output.old)) (O.contents (device_inner output.new))) }
 {
     'messages: for message in messages {

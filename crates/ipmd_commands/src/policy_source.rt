@@ -1,8 +1,8 @@
 //! The text of a policy, from the file or the words that give it.
 ghost use Rattle.std.specs.Prelude.{IfOk, IfErr, string_bytes};
-ghost use Rattle.ipmd_commands.specs.Runs.{IsSourceFault, IsTextOf};
+ghost use Rattle.ipmd_commands.specs.Runs.{IsSourceFault, IsSourceText};
 
-use crate::fault::ProgramFault;
+use crate::fault::Fault;
 use crate::files::read_text;
 use ipmd_command_line::PolicySource;
 use replay_text::with_line_ends;
@@ -16,8 +16,8 @@ use std::rt::Files;
 pub fn policy_text_of<R: Files + AllocGlobal>(
     rt: &R,
     source: PolicySource<'_>,
-) -> Result<String, ProgramFault>
-    ensures text { IfOk result (λ text. IsTextOf source.entry (string_bytes text)) }
+) -> Result<String, Fault>
+    ensures text { IfOk result (λ text. IsSourceText source.entry (string_bytes text)) }
     ensures err { IfErr result (IsSourceFault source.entry) }
 {
     match source {

@@ -3,7 +3,7 @@
 ghost use Rattle.std.specs.Prelude.{Some};
 ghost use Rattle.octet_io.specs.Device.{device_failed, device_inner};
 ghost use Rattle.ipmd_commands.specs.Runs.{line_of_report};
-ghost use Rattle.ipmd_commands.specs.Status.{Tells};
+ghost use Rattle.ipmd_commands.specs.Status.{TellsLine};
 
 use mediator_offline::OfflineReport;
 use octet_io::Device;
@@ -12,7 +12,7 @@ use std::io::Write;
 /// Says on `errors`, as a line, how many messages were read, and how many records were accepted and disclosed, as `report` counts
 /// them. What can't be written is dropped.
 pub fn tell<E: Write>(report: OfflineReport, errors: &mut Device<E>)
-    ensures { Tells (Some (line_of_report report)) (device_failed errors.new)
+    ensures { TellsLine (Some (line_of_report report)) (device_failed errors.new)
         (E.contents (device_inner errors.old)) (E.contents (device_inner errors.new)) }
 {
     let OfflineReport {

@@ -3,9 +3,9 @@
 ghost use Rattle.std.specs.Prelude.{IfErr, OnOk};
 ghost use Rattle.clap.specs.Values.{kind_of};
 ghost use Rattle.octet_io.specs.Device.{device_inner};
-ghost use Rattle.ipmd_commands.specs.Runs.{RefusesToShow, Shows};
+ghost use Rattle.ipmd_commands.specs.Runs.{RefusesToShow, ShowsText};
 
-use crate::fault::ProgramFault;
+use crate::fault::Fault;
 use crate::output::write_text;
 use clap::error::ErrorKind;
 use ipmd_command_line::{KIT, VERSION};
@@ -22,8 +22,8 @@ pub fn show<O: Write>(
     alloc: Global,
     shown: &clap::Error,
     output: &mut Device<O>,
-) -> Result<(), ProgramFault>
-    ensures ok { OnOk result (Shows (kind_of shown.now)
+) -> Result<(), Fault>
+    ensures ok { OnOk result (ShowsText (kind_of shown.now)
         (O.contents (device_inner output.old)) (O.contents (device_inner output.new))) }
     ensures err { IfErr result (λ e. RefusesToShow (kind_of shown.now) e
         (O.contents (device_inner output.old)) (O.contents (device_inner output.new))) }

@@ -11,7 +11,7 @@ use Rattle.sequences.proofs.BeforeLaws.{last_of-append, last_of-push, each_with_
 use Rattle.event_journal.specs.declared.entry.Entry.{Entry}
 use Rattle.event_journal.specs.declared.entry.Entry.TheVariants.{Cut}
 use Rattle.journal_files.specs.Reading.{entries_behind}
-use Rattle.journal_files.specs.Streaming.{Place}
+use Rattle.journal_files.specs.Streaming.{FilePlace}
 use Rattle.journal_files.proofs.ReadingSteps.{all_read}
 use Rattle.mediator_history.specs.Cuts.{after_cuts}
 use Rattle.history_verify.specs.declared.verifier.Verifier.{Verifier}
@@ -20,17 +20,17 @@ use Rattle.history_verify.specs.Standing.{IsFed}
 use Rattle.history_verify.proofs.FeedLaws.{laid}
 use Rattle.history_verify.proofs.LegalLaws.{accepted_legal}
 use Rattle.ipmd_command_line.specs.declared.task.ExplainOptions.{ExplainOptions}
-use Rattle.ipmd_commands.specs.declared.fault.ProgramFault.{ProgramFault}
-use Rattle.ipmd_commands.specs.declared.fault.ProgramFault.TheVariants.{Absent, Device}
+use Rattle.ipmd_commands.specs.declared.fault.Fault.{Fault as ProgramFault}
+use Rattle.ipmd_commands.specs.declared.fault.Fault.TheVariants.{Absent, Device}
 use Rattle.ipmd_commands.specs.declared.failure.Place.TheVariants.{Output}
-use Rattle.ipmd_commands.specs.Failures.{FailedAt, IsFileFault, IsNamed}
-use Rattle.ipmd_commands.specs.HexText.{WritesSome}
+use Rattle.ipmd_commands.specs.Failures.{FailedAt, IsFileFault, NamesFile}
+use Rattle.ipmd_commands.specs.HexText.{WritesSomeOf}
 use Rattle.ipmd_verify.specs.Found.{Says, RefusesFile}
 use Rattle.ipmd_verify.specs.Reading.{IsReadTo}
 use Rattle.ipmd_verify.proofs.ReadingLaws.{end_refuses}
 use Rattle.ipmd_explain.specs.declared.question.Question.{Question}
-use Rattle.ipmd_explain.specs.Explaining.{explained, explained_at}
-use Rattle.ipmd_explain.specs.Answers.{BeginsToExplain, Explains, Refuses, RefusesToExplain, RefusesToExplainFile, question_of}
+use Rattle.ipmd_explain.specs.Explaining.{explanations, explained_at}
+use Rattle.ipmd_explain.specs.Answers.{BeginsToExplain, Explains, RefusesQuestion, RefusesToExplain, RefusesToExplainFile, question_of}
 use Rattle.ipmd_explain.specs.Reading.{NamesEnd}
 
 -- ---- what a verifier was fed is accepted
@@ -64,38 +64,38 @@ fed_accepted v h e fed none =
 
 -- ---- what is written
 
-pub explained_more : (q : Question) (h : List Entry) (e : Entry) (text : List ℕ) → text ≡ explained_at q h e → explained q (h ++ e ∷ []) ≡ explained q h ++ text
-explained_more q h e text is = each_with_before-push (explained_at q) h e ∙ ap (λ t. explained q h ++ t) (sym is)
+pub explained_more : (q : Question) (h : List Entry) (e : Entry) (text : List ℕ) → text ≡ explained_at q h e → explanations q (h ++ e ∷ []) ≡ explanations q h ++ text
+explained_more q h e text is = each_with_before-push (explained_at q) h e ∙ ap (λ t. explanations q h ++ t) (sym is)
 
-pub written_more : (q : Question) (h : List Entry) (e : Entry) (text : List ℕ) (held now after : Option (List ℕ)) → text ≡ explained_at q h e → Appends held now (explained q h) → Appends now after text → Appends held after (explained q (h ++ e ∷ []))
-written_more q h e text held now after is before more = subst (Appends held after) (sym (explained_more q h e text is)) (Appends-trans held now after (explained q h) text before more)
+pub written_more : (q : Question) (h : List Entry) (e : Entry) (text : List ℕ) (held now after : Option (List ℕ)) → text ≡ explained_at q h e → Appends held now (explanations q h) → Appends now after text → Appends held after (explanations q (h ++ e ∷ []))
+written_more q h e text held now after is before more = subst (Appends held after) (sym (explained_more q h e text is)) (Appends-trans held now after (explanations q h) text before more)
 
 -- all of what is due so far
-pub written_all : (q : Question) (given held holds now : Option (List ℕ)) (place : Place) (h : List Entry) → IsReadTo given now place h → Appends held holds (explained q h) → BeginsToExplain q given held holds
+pub written_all : (q : Question) (given held holds now : Option (List ℕ)) (place : FilePlace) (h : List Entry) → IsReadTo given now place h → Appends held holds (explanations q h) → BeginsToExplain q given held holds
 written_all q given held holds now place h to written = record {
   history = h;
   now = now;
   left = place.left;
   rest = to.rest;
-  written = (length (explained q h), subst (Appends held holds) (sym (take_all (length (explained q h)) (explained q h) (omega arith))) written);
+  written = (length (explanations q h), subst (Appends held holds) (sym (take_all (length (explanations q h)) (explanations q h) (omega arith))) written);
 }
 
 -- and a front of what is said of the next entry
-pub written_front : (q : Question) (given held now after rest : Option (List ℕ)) (place : Place) (h : List Entry) (e : Entry) (text : List ℕ) → IsReadTo given rest place (h ++ e ∷ []) → text ≡ explained_at q h e
-    → Appends held now (explained q h) → WritesSome text now after → BeginsToExplain q given held after
+pub written_front : (q : Question) (given held now after rest : Option (List ℕ)) (place : FilePlace) (h : List Entry) (e : Entry) (text : List ℕ) → IsReadTo given rest place (h ++ e ∷ []) → text ≡ explained_at q h e
+    → Appends held now (explanations q h) → WritesSomeOf text now after → BeginsToExplain q given held after
 written_front q given held now after rest place h e text to is before (sent, front) = record {
   history = h ++ e ∷ [];
   now = rest;
   left = place.left;
   rest = to.rest;
-  written = (length (explained q h) + sent, subst (Appends held after) (sym begins) (Appends-trans held now after (explained q h) (take sent text) before front));
+  written = (length (explanations q h) + sent, subst (Appends held after) (sym begins) (Appends-trans held now after (explanations q h) (take sent text) before front));
 } where
-  begins : take (length (explained q h) + sent) (explained q (h ++ e ∷ [])) ≡ explained q h ++ take sent text
-  begins = ap (take (length (explained q h) + sent)) (explained_more q h e text is) ∙ take-append-add (explained q h) text sent
+  begins : take (length (explanations q h) + sent) (explanations q (h ++ e ∷ [])) ≡ explanations q h ++ take sent text
+  begins = ap (take (length (explanations q h) + sent)) (explained_more q h e text is) ∙ take-append-add (explanations q h) text sent
 
 -- ---- the end
 
-pub end_explains : (q : Question) (e : ProgramFault) (given : Option (List ℕ)) (h : List Entry) → Says given h → NamesEnd q e h → Refuses q e given
+pub end_explains : (q : Question) (e : ProgramFault) (given : Option (List ℕ)) (h : List Entry) → Says given h → NamesEnd q e h → RefusesQuestion q e given
 end_explains q e given h said (inl bad) = inl (subst (λ (x : ProgramFault). RefusesFile x given) (sym bad.is) (end_refuses bad.fault given h said bad.names))
 end_explains q e given h said (inr lacks) = inr (inl (lacks.1.what, lacks.1.is, record { history = h; said = said; legal = lacks.0; lacks = lacks.1.lacks }))
 
@@ -106,7 +106,7 @@ flushed q given held holds after same begins = record {
   now = begins.now;
   left = begins.left;
   rest = begins.rest;
-  written = (begins.written.0, Appends-kept held holds after (take begins.written.0 (explained q begins.history)) begins.written.1 same);
+  written = (begins.written.0, Appends-kept held holds after (take begins.written.0 (explanations q begins.history)) begins.written.1 same);
 }
 
 pub err_gives : {X E : Type 0} {P Q : E → Type 0} (r : Result X E) → IsErr r × IsErrAnd r P → ((e : E) → P e → Q e) → IfErr r Q
@@ -119,20 +119,20 @@ ok_both (Err e) p q f = tt
 
 -- ---- the whole file
 
-says_begins : (q : Question) (given held holds : Option (List ℕ)) (h : List Entry) → Says given h → Appends held holds (explained q h) → BeginsToExplain q given held holds
+says_begins : (q : Question) (given held holds : Option (List ℕ)) (h : List Entry) → Says given h → Appends held holds (explanations q h) → BeginsToExplain q given held holds
 says_begins q None held holds h said written = record {
   history = h;
   now = None;
   left = 0;
   rest = tt;
-  written = (length (explained q h), subst (Appends held holds) (sym (take_all (length (explained q h)) (explained q h) (omega arith))) written);
+  written = (length (explanations q h), subst (Appends held holds) (sym (take_all (length (explanations q h)) (explanations q h) (omega arith))) written);
 }
 says_begins q (Some octets) held holds h said written = record {
   history = h;
   now = Some [];
   left = 0;
   rest = said ∙ sym (all_read h 0 [] (entries_behind h 0 []) refl refl refl);
-  written = (length (explained q h), subst (Appends held holds) (sym (take_all (length (explained q h)) (explained q h) (omega arith))) written);
+  written = (length (explanations q h), subst (Appends held holds) (sym (take_all (length (explanations q h)) (explanations q h) (omega arith))) written);
 }
 
 -- the output was flushed
@@ -142,14 +142,14 @@ explains_flushed q given held holds after same does = record {
   said = does.said;
   legal = does.legal;
   there = does.there;
-  written = Appends-kept held holds after (explained q does.history) does.written same;
+  written = Appends-kept held holds after (explanations q does.history) does.written same;
 }
 
 -- or it wasn't: then the output failed, and keeps its name
 pub refuses_flush : (q : Question) (path : List ℕ) (e : ProgramFault) (given held holds after : Option (List ℕ)) → FailedAt Output e → Keeps holds after → Explains q given held holds → RefusesToExplain q path e given held after
 refuses_flush q path e given held holds after (why, is) same does = (
   e,
-  subst (λ (x : ProgramFault). IsNamed path x x) (sym is) refl,
+  subst (λ (x : ProgramFault). NamesFile path x x) (sym is) refl,
   (inr (inr (why, is)), inr (flushed q given held holds after same (says_begins q given held holds does.history does.said does.written))),
 )
 
@@ -157,7 +157,7 @@ refuses_flush q path e given held holds after (why, is) same does = (
 pub refuses_first : (q : Question) (options : ExplainOptions) (path : List ℕ) (e f : ProgramFault) (given held sunk sinks : Option (List ℕ)) → q ≡ question_of options → path ≡ options.journal.now → e ≡ f
     → RefusesToExplain q path f given sunk sinks → RefusesToExplainFile options e held held
 refuses_first q options path e f given held sunk sinks same there is (fault, named, (refuses, written)) =
-    (given, (fault, subst₂ (λ p x. IsNamed p fault x) there (sym is) named, (subst (λ (r : Question). Refuses r fault given) same refuses, inl (Keeps-refl held))))
+    (given, (fault, subst₂ (λ p x. NamesFile p fault x) there (sym is) named, (subst (λ (r : Question). RefusesQuestion r fault given) same refuses, inl (Keeps-refl held))))
 
 -- it can't be opened, or there is no memory
 pub refuses_open : (options : ExplainOptions) (e : ProgramFault) (held holds : Option (List ℕ)) → IsFileFault options.journal.now e → Keeps held holds → RefusesToExplainFile options e held holds

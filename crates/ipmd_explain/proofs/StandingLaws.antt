@@ -12,22 +12,22 @@ use Rattle.sequences.proofs.BeforeLaws.{last_of-push, each_with_before-push}
 use Rattle.ipfix_template.specs.DataRecord.{DataRecord}
 use Rattle.ipfix_message.specs.Reading.{header_of}
 use Rattle.ipfix_message.specs.declared.header.Header.{Header}
-use Rattle.ipfix_session.specs.declared.read_error.ReadError.{ReadError}
+use Rattle.ipfix_session.specs.declared.fault.Fault.{Fault as ReadError}
 use Rattle.ipfix_session.specs.Contents.{Contents}
 use Rattle.ipfix_session.specs.Meaning.{Meaning, meaning_of, contents_of, domain_of, gap_of}
 use Rattle.ipfix_session.specs.Keeping.{at_key}
 use Rattle.ipfix_session.specs.ReadAhead.{Ahead, HasRoomFor}
-use Rattle.policy_text.specs.Policies.{Meaning as Policy, nothing as no_policy}
+use Rattle.policy_text.specs.Policies.{PolicyMeaning as Policy, nothing as no_policy}
 use Rattle.event_journal.specs.declared.limits.TheConstants.{MOST_ENTRIES}
 use Rattle.event_journal.specs.declared.entry.Entry.{Entry}
 use Rattle.event_journal.specs.declared.entry.Entry.TheVariants.{Cut, Message, Subscribe, Unsubscribe}
 use Rattle.mediator_history.specs.Sessions.{messages_of}
-use Rattle.mediator_history.specs.Subscriptions.{edited, policy_in_force, named, name_of, switched, is_served}
+use Rattle.mediator_history.specs.Subscriptions.{policy_from, policy_in_force, named, name_of, switched, is_served}
 use Rattle.mediator_history.specs.Accepted.{accepted_as, accepted_at, records_at, records_meant}
 use Rattle.mediator_history.specs.Counting.{clock_in, clock_of}
 use Rattle.mediator_history.proofs.EntryLaws.{messages_few}
 use Rattle.mediator_tables.specs.declared.open_session.OpenSession.{OpenSession}
-use Rattle.mediator_tables.specs.SessionTable.{Seen, seen}
+use Rattle.mediator_tables.specs.SessionTable.{SeenSession, seen}
 use Rattle.mediator_shares.proofs.SharingLaws.{enumerate-append}
 use Rattle.history_verify.specs.declared.exporters.Exporters.{Exporters}
 use Rattle.history_verify.proofs.ExporterLaws.{exporters_stay}
@@ -37,7 +37,7 @@ use Rattle.history_verify.specs.Standing.{IsReadOf}
 use Rattle.ipmd_explain.specs.declared.question.Question.{Question}
 use Rattle.ipmd_explain.specs.declared.explainer.Explainer.{Explainer}
 use Rattle.ipmd_explain.specs.Explaining.{asked_at, asked_messages, explained_at, explained_of, has_begun, has_message, has_record, is_asked, is_within, line_by, subscribes}
-use Rattle.ipmd_explain.specs.Standing.{IsTaken, MayCome, Stands, Takes, counted, line_for, lines_of, met, said_of}
+use Rattle.ipmd_explain.specs.Standing.{IsTaken, MayCome, Tracks, Takes, past_entry, line_for, lines_of, past_message, said_of}
 
 pub or_none : (b : Bool) → (b || false) ≡ b
 or_none true = refl
@@ -56,7 +56,7 @@ any_more f xs x = list_any-append f xs (x ∷ []) ∙ ap (λ b. list_any f xs ||
 pub record IsNext (x y : Explainer) (h : List Entry) (e : Entry) : Type 0 where
   pub question : y.question ≡ x.question
   pub position : y.position ≡ x.position + 1
-  pub policy : y.policy ≡ unwrap_or (edited e) x.policy
+  pub policy : y.policy ≡ unwrap_or (policy_from e) x.policy
   pub clock : y.clock ≡ unwrap_or (clock_in e) x.clock
   pub exporters : AreExporters y.exporters (h ++ e ∷ [])
   pub name : string_bytes y.name ≡ unwrap_or (named x.question.sub e) (string_bytes x.name)
@@ -68,10 +68,10 @@ pub record IsNext (x y : Explainer) (h : List Entry) (e : Entry) : Type 0 where
 any_asked : (p : ℕ → Bool) (position : Option ℕ) (h : List Entry) (e : Entry) → list_any p (asked_messages position (h ++ e ∷ [])) ≡ (list_any p (asked_messages position h) || list_any p (asked_at position h e))
 any_asked p position h e = ap (list_any p) (each_with_before-push (asked_at position) h e) ∙ list_any-append p (asked_messages position h) (asked_at position h e)
 
-pub stands_next : (x y : Explainer) (h : List Entry) (e : Entry) → Stands x h → IsNext x y h e → Stands y (h ++ e ∷ [])
+pub stands_next : (x y : Explainer) (h : List Entry) (e : Entry) → Tracks x h → IsNext x y h e → Tracks y (h ++ e ∷ [])
 stands_next x y h e so next = record {
   position = omega (arith, next.position, so.position, length-append h (e ∷ []));
-  policy = next.policy ∙ ap (unwrap_or (edited e)) so.policy ∙ sym (last_of-push edited no_policy h e);
+  policy = next.policy ∙ ap (unwrap_or (policy_from e)) so.policy ∙ sym (last_of-push policy_from no_policy h e);
   clock = next.clock ∙ ap (unwrap_or (clock_in e)) so.clock ∙ sym (last_of-push clock_in 0 h e);
   exporters = next.exporters;
   name = next.name ∙ ap (unwrap_or (named q.sub e)) so.name ∙ sym (last_of-push (named q.sub) [] h e) ∙ ap (λ (p : Question). name_of p.sub (h ++ e ∷ [])) same;
@@ -92,7 +92,7 @@ stands_next x y h e so next = record {
 pub record IsChanged (x z : Explainer) (h : List Entry) (e : Entry) : Type 0 where
   pub question : z.question ≡ x.question
   pub position : z.position ≡ x.position
-  pub policy : z.policy ≡ unwrap_or (edited e) x.policy
+  pub policy : z.policy ≡ unwrap_or (policy_from e) x.policy
   pub clock : z.clock ≡ unwrap_or (clock_in e) x.clock
   pub exporters : AreExporters z.exporters (h ++ e ∷ [])
   pub name : string_bytes z.name ≡ unwrap_or (named x.question.sub e) (string_bytes x.name)
@@ -101,7 +101,7 @@ pub record IsChanged (x z : Explainer) (h : List Entry) (e : Entry) : Type 0 whe
   pub met_message : z.met_message ≡ x.met_message
   pub met_record : z.met_record ≡ x.met_record
 
-next_counted : (x z : Explainer) (h : List Entry) (e : Entry) → IsChanged x z h e → asked_at x.question.position h e ≡ [] → IsNext x (counted z) h e
+next_counted : (x z : Explainer) (h : List Entry) (e : Entry) → IsChanged x z h e → asked_at x.question.position h e ≡ [] → IsNext x (past_entry z) h e
 next_counted x z h e to none = record {
   question = to.question;
   position = ap (λ n. n + 1) to.position;
@@ -116,20 +116,20 @@ next_counted x z h e to none = record {
 }
 
 -- nothing is said of it
-pub taken_silent : (x z y : Explainer) (h : List Entry) (e : Entry) (text : List ℕ) → Stands x h → MayCome h e → IsChanged x z h e → (z.position + 1 < 2 ^ 64 → y ≡ counted z) → text ≡ []
+pub taken_silent : (x z y : Explainer) (h : List Entry) (e : Entry) (text : List ℕ) → Tracks x h → MayCome h e → IsChanged x z h e → (z.position + 1 < 2 ^ 64 → y ≡ past_entry z) → text ≡ []
     → accepted_at h e ≡ [] → asked_at x.question.position h e ≡ [] → IsTaken x y h e text
 taken_silent x z y h e text so may to counts silent none unasked = record {
   question = ap (λ (w : Explainer). w.question) is ∙ to.question;
-  stands = subst (λ (w : Explainer). Stands w (h ++ e ∷ [])) (sym is) (stands_next x (counted z) h e so (next_counted x z h e to unasked));
+  stands = subst (λ (w : Explainer). Tracks w (h ++ e ∷ [])) (sym is) (stands_next x (past_entry z) h e so (next_counted x z h e to unasked));
   said = silent ∙ ap (flat_map (explained_of x.question h)) (sym none);
 } where
-  is : y ≡ counted z
+  is : y ≡ past_entry z
   is = counts (omega (arith, to.position, so.position, may.short))
 
 -- ---- before any entry
 
 pub stands_none : (x : Explainer) → x.position ≡ 0 → x.policy ≡ no_policy → x.clock ≡ 0 → AreExporters x.exporters [] → string_bytes x.name ≡ [] → x.has_begun ≡ false → x.is_served ≡ false
-    → x.met_message ≡ false → x.met_record ≡ false → Stands x []
+    → x.met_message ≡ false → x.met_record ≡ false → Tracks x []
 stands_none x position policy clock exporters name begun served met_message met_record = record {
   position = position;
   policy = policy;
@@ -166,7 +166,7 @@ gated : {A B : Type 0} (b : Bool) (g : A → Bool) (f : A → List B) (xs : List
 gated true g f xs = refl
 gated false g f xs = sym (none_of xs)
 
-pub said_is : (x : Explainer) (h : List Entry) (session number : ℕ) (octets : List ℕ) (reading : Ahead) → Stands x h → IsReadOf h session number octets reading
+pub said_is : (x : Explainer) (h : List Entry) (session number : ℕ) (octets : List ℕ) (reading : Ahead) → Tracks x h → IsReadOf h session number octets reading
     → said_of x reading.meaning.header.domain reading.meaning.records ≡ explained_at x.question h (Message session number octets)
 said_is x h session number octets reading so read =
     ap (λ (p : Policy). shown q p (string_bytes x.name) x.clock x.position x.is_served reading.meaning.header.domain reading.meaning.records) so.policy
@@ -212,9 +212,9 @@ met_any : (b : Bool) → b ≡ (b && true)
 met_any true = refl
 met_any false = refl
 
-pub next_message : (x y : Explainer) (h : List Entry) (session number : ℕ) (octets : List ℕ) (reading : Ahead) → Stands x h → IsReadOf h session number octets reading
+pub next_message : (x y : Explainer) (h : List Entry) (session number : ℕ) (octets : List ℕ) (reading : Ahead) → Tracks x h → IsReadOf h session number octets reading
     → y.question ≡ x.question → y.position ≡ x.position + 1 → y.policy ≡ x.policy → y.clock ≡ x.clock → y.name ≡ x.name → y.has_begun ≡ x.has_begun → y.is_served ≡ x.is_served
-    → y.met_message ≡ (met x (length reading.meaning.records)).met_message → y.met_record ≡ (met x (length reading.meaning.records)).met_record
+    → y.met_message ≡ (past_message x (length reading.meaning.records)).met_message → y.met_record ≡ (past_message x (length reading.meaning.records)).met_record
     → AreExporters y.exporters (h ++ Message session number octets ∷ []) → IsNext x y h (Message session number octets)
 next_message x y h session number octets reading so read question position policy clock name begun served met_message met_record exporters = record {
   question = question;
@@ -238,7 +238,7 @@ next_message x y h session number octets reading so read question position polic
   there = ap (λ n. cond (is_asked x.question.position n) (count ∷ []) []) so.position
       ∙ ap (λ (rs : List DataRecord). cond (is_asked x.question.position (length h)) (length rs ∷ []) []) (sym (ap records_meant read.read.means))
 
-pub taken_message : (x y : Explainer) (h : List Entry) (session number : ℕ) (octets : List ℕ) (reading : Ahead) (text : List ℕ) → Stands x h → IsReadOf h session number octets reading
+pub taken_message : (x y : Explainer) (h : List Entry) (session number : ℕ) (octets : List ℕ) (reading : Ahead) (text : List ℕ) → Tracks x h → IsReadOf h session number octets reading
     → text ≡ said_of x reading.meaning.header.domain reading.meaning.records → IsNext x y h (Message session number octets) → IsTaken x y h (Message session number octets) text
 taken_message x y h session number octets reading text so read said next = record {
   question = next.question;
@@ -247,18 +247,18 @@ taken_message x y h session number octets reading text so read said next = recor
 }
 
 -- so by the steps in which it is taken
-pub taken_met : (x y m : Explainer) (es : Exporters) (h : List Entry) (session number : ℕ) (octets : List ℕ) (reading : Ahead) (n : ℕ) (text : List ℕ) → Stands x h → MayCome h (Message session number octets) → IsReadOf h session number octets reading
-    → text ≡ said_of x reading.meaning.header.domain reading.meaning.records → m ≡ met (record x { exporters = es }) n → n ≡ length reading.meaning.records → (m.position + 1 < 2 ^ 64 → y ≡ counted m)
+pub taken_met : (x y m : Explainer) (es : Exporters) (h : List Entry) (session number : ℕ) (octets : List ℕ) (reading : Ahead) (n : ℕ) (text : List ℕ) → Tracks x h → MayCome h (Message session number octets) → IsReadOf h session number octets reading
+    → text ≡ said_of x reading.meaning.header.domain reading.meaning.records → m ≡ past_message (record x { exporters = es }) n → n ≡ length reading.meaning.records → (m.position + 1 < 2 ^ 64 → y ≡ past_entry m)
     → AreExporters es (h ++ Message session number octets ∷ []) → IsTaken x y h (Message session number octets) text
 taken_met x y m es h session number octets reading n text so may read said meets counts_are counts exporters =
     subst (λ (w : Explainer). IsTaken x w h (Message session number octets) text) (sym is)
     (taken_message x after h session number octets reading text so read said (next_message x after h session number octets reading so read refl refl refl refl refl refl refl refl refl exporters))
   where
     after : Explainer
-    after = counted (met (record x { exporters = es }) (length reading.meaning.records))
+    after = past_entry (past_message (record x { exporters = es }) (length reading.meaning.records))
 
     is : y ≡ after
-    is = counts (omega (arith, ap (λ (w : Explainer). w.position) meets, so.position, may.short)) ∙ ap counted (meets ∙ ap (met (record x { exporters = es })) counts_are)
+    is = counts (omega (arith, ap (λ (w : Explainer). w.position) meets, so.position, may.short)) ∙ ap past_entry (meets ∙ ap (past_message (record x { exporters = es })) counts_are)
 
 -- the number of a message that may come has one above it
 pub number_few : (h : List Entry) (session number : ℕ) (octets : List ℕ) → length h ≤ MOST_ENTRIES → IsNextMessage h session number octets → number + 1 < 2 ^ 64
@@ -273,7 +273,7 @@ pub count_stays : (old new : Option OpenSession) → option_map seen new ≡ opt
 count_stays None new same is = absurd is
 count_stays (Some o) None same is = tt
 count_stays (Some o) (Some n) same is =
-    let counts : n.accepted ≡ o.accepted = ap (λ (s : Seen). s.accepted) (some_same (seen n) (seen o) same) in
+    let counts : n.accepted ≡ o.accepted = ap (λ (s : SeenSession). s.accepted) (some_same (seen n) (seen o) same) in
     omega (arith, counts, is)
 
 pub room_there : (old new : Option OpenSession) (reading : Ahead) → option_map seen new ≡ option_map seen old → IsSomeAnd old (λ o. o.accepted + 1 < 2 ^ 64) → IfSome new (λ o. HasRoomFor o.session reading) → IsSomeAnd new (λ o. HasRoomFor o.session reading)
@@ -314,7 +314,7 @@ own_ends q sub same = ap (λ b. cond b (Some false) None) (eq-eqb sub q.sub same
 pub own_cut : (q : Question) (sub : ℕ) → sub ≡ q.sub → switched q.sub (Cut sub) ≡ Some false
 own_cut q sub same = ap (λ b. cond b (Some false) None) (eq-eqb sub q.sub same)
 
-pub changed_other : (x : Explainer) (h : List Entry) (sub : ℕ) (name : List ℕ) → Stands x h → (sub ≡ x.question.sub → ⊥) → IsChanged x x h (Subscribe sub name)
+pub changed_other : (x : Explainer) (h : List Entry) (sub : ℕ) (name : List ℕ) → Tracks x h → (sub ≡ x.question.sub → ⊥) → IsChanged x x h (Subscribe sub name)
 changed_other x h sub name so other = record {
   question = refl;
   position = refl;
@@ -328,7 +328,7 @@ changed_other x h sub name so other = record {
   met_record = refl;
 }
 
-pub changed_own : (x z : Explainer) (h : List Entry) (sub : ℕ) (name : List ℕ) → Stands x h → sub ≡ x.question.sub → z.question ≡ x.question → z.position ≡ x.position → z.policy ≡ x.policy → z.clock ≡ x.clock → z.exporters ≡ x.exporters
+pub changed_own : (x z : Explainer) (h : List Entry) (sub : ℕ) (name : List ℕ) → Tracks x h → sub ≡ x.question.sub → z.question ≡ x.question → z.position ≡ x.position → z.policy ≡ x.policy → z.clock ≡ x.clock → z.exporters ≡ x.exporters
     → string_bytes z.name ≡ name → z.has_begun ≡ true → z.is_served ≡ true → z.met_message ≡ x.met_message → z.met_record ≡ x.met_record → IsChanged x z h (Subscribe sub name)
 changed_own x z h sub name so own question position policy clock exporters named_so begun served met_message met_record = record {
   question = question;
@@ -343,7 +343,7 @@ changed_own x z h sub name so own question position policy clock exporters named
   met_record = met_record;
 }
 
-pub ended_other : (x : Explainer) (h : List Entry) (sub : ℕ) → Stands x h → (sub ≡ x.question.sub → ⊥) → IsChanged x x h (Unsubscribe sub)
+pub ended_other : (x : Explainer) (h : List Entry) (sub : ℕ) → Tracks x h → (sub ≡ x.question.sub → ⊥) → IsChanged x x h (Unsubscribe sub)
 ended_other x h sub so other = record {
   question = refl;
   position = refl;
@@ -357,7 +357,7 @@ ended_other x h sub so other = record {
   met_record = refl;
 }
 
-pub ended_own : (x : Explainer) (h : List Entry) (sub : ℕ) → Stands x h → sub ≡ x.question.sub → IsChanged x (record x { is_served = false }) h (Unsubscribe sub)
+pub ended_own : (x : Explainer) (h : List Entry) (sub : ℕ) → Tracks x h → sub ≡ x.question.sub → IsChanged x (record x { is_served = false }) h (Unsubscribe sub)
 ended_own x h sub so own = record {
   question = refl;
   position = refl;
@@ -371,7 +371,7 @@ ended_own x h sub so own = record {
   met_record = refl;
 }
 
-pub cut_other : (x : Explainer) (h : List Entry) (sub : ℕ) → Stands x h → (sub ≡ x.question.sub → ⊥) → IsChanged x x h (Cut sub)
+pub cut_other : (x : Explainer) (h : List Entry) (sub : ℕ) → Tracks x h → (sub ≡ x.question.sub → ⊥) → IsChanged x x h (Cut sub)
 cut_other x h sub so other = record {
   question = refl;
   position = refl;
@@ -385,7 +385,7 @@ cut_other x h sub so other = record {
   met_record = refl;
 }
 
-pub cut_own : (x : Explainer) (h : List Entry) (sub : ℕ) → Stands x h → sub ≡ x.question.sub → IsChanged x (record x { is_served = false }) h (Cut sub)
+pub cut_own : (x : Explainer) (h : List Entry) (sub : ℕ) → Tracks x h → sub ≡ x.question.sub → IsChanged x (record x { is_served = false }) h (Cut sub)
 cut_own x h sub so own = record {
   question = refl;
   position = refl;

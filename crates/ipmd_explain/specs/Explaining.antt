@@ -5,11 +5,11 @@ use Rattle.std.specs.List.{flat_map, list_any}
 use Rattle.std.specs.Fmt.{decimal}
 use Rattle.sequences.specs.Before.{each_with_before}
 use Rattle.ipfix_template.specs.DataRecord.{DataRecord}
-use Rattle.policy_text.specs.Policies.{Meaning as Policy}
+use Rattle.policy_text.specs.Policies.{PolicyMeaning as Policy}
 use Rattle.event_journal.specs.declared.entry.Entry.{Entry}
 use Rattle.event_journal.specs.declared.entry.Entry.TheVariants.{Message}
 use Rattle.mediator_history.specs.Subscriptions.{policy_in_force, name_of, named, is_served}
-use Rattle.mediator_history.specs.Accepted.{Accepted, accepted_at, records_at}
+use Rattle.mediator_history.specs.Accepted.{AcceptedRecord, accepted_at, records_at}
 use Rattle.mediator_history.specs.Counting.{clock_of}
 use Rattle.ipmd_commands.specs.declared.fault.Absent.{Absent}
 use Rattle.ipmd_commands.specs.declared.fault.Absent.TheVariants as absent
@@ -25,7 +25,7 @@ line_by policy name domain clock position index r =
     codes "position " ++ (decimal position ++ (codes " index " ++ (decimal index ++ (codes ": " ++ (flow_words r ++ (explanation policy name domain clock r ++ 10 ∷ []))))))
 
 -- by what was in force when the record was accepted
-abbrev pub line_of : ℕ → List Entry → Accepted → List ℕ
+abbrev pub line_of : ℕ → List Entry → AcceptedRecord → List ℕ
 line_of sub before a = line_by (policy_in_force before) (name_of sub before) a.domain (clock_of before) a.position a.index a.flow
 
 -- the number is the one that is asked for, or each is
@@ -34,7 +34,7 @@ is_asked None n = true
 is_asked (Some m) n = m == n
 
 -- the line of an accepted record, if it is asked for and the subscription is served
-abbrev pub explained_of : Question → List Entry → Accepted → List ℕ
+abbrev pub explained_of : Question → List Entry → AcceptedRecord → List ℕ
 explained_of q before a =
     if (is_asked q.position a.position && is_served q.sub before) && is_asked q.index a.index then line_of q.sub before a else []
 
@@ -43,8 +43,8 @@ abbrev pub explained_at : Question → List Entry → Entry → List ℕ
 explained_at q before entry = flat_map (explained_of q before) (accepted_at before entry)
 
 -- of each record of a history, in the order of position and index
-abbrev pub explained : Question → List Entry → List ℕ
-explained q h = each_with_before (explained_at q) h
+abbrev pub explanations : Question → List Entry → List ℕ
+explanations q h = each_with_before (explained_at q) h
 
 -- ---- what is asked for, and isn't there
 

@@ -3,21 +3,21 @@ use Rattle.std.specs.Prelude.{◌≡◌, ◌⊎◌, ℕ, List, [], ◌∷◌, �
 use Rattle.std.specs.Io.KnownBytes.{Appends}
 use Rattle.octet_io.specs.Moments.{Reader, Writer}
 use Rattle.event_journal.specs.declared.entry.Entry.{Entry}
-use Rattle.journal_files.specs.Streaming.{Place}
+use Rattle.journal_files.specs.Streaming.{FilePlace}
 use Rattle.history_verify.specs.declared.verifier.Verifier.{Verifier}
-use Rattle.history_verify.specs.declared.fault.VerifyFault.{VerifyFault}
+use Rattle.history_verify.specs.declared.fault.Fault.{Fault as VerifyFault}
 use Rattle.history_verify.specs.Answers.{NamesFirst}
 use Rattle.history_verify.specs.Legal.{IsLegal}
 use Rattle.history_verify.specs.Standing.{IsFed}
 use Rattle.ipmd_commands.specs.declared.fault.Absent.{Absent as NotThere}
-use Rattle.ipmd_commands.specs.declared.fault.ProgramFault.{ProgramFault}
-use Rattle.ipmd_commands.specs.declared.fault.ProgramFault.TheVariants.{Absent}
+use Rattle.ipmd_commands.specs.declared.fault.Fault.{Fault as ProgramFault}
+use Rattle.ipmd_commands.specs.declared.fault.Fault.TheVariants.{Absent}
 use Rattle.ipmd_verify.specs.Faults.{verify_fault_of}
 use Rattle.ipmd_verify.specs.Reading.{IsReadTo}
 use Rattle.ipmd_explain.specs.declared.question.Question.{Question}
 use Rattle.ipmd_explain.specs.declared.explainer.Explainer.{Explainer}
-use Rattle.ipmd_explain.specs.Explaining.{absent_of, explained}
-use Rattle.ipmd_explain.specs.Standing.{IsTaken, Stands}
+use Rattle.ipmd_explain.specs.Explaining.{absent_of, explanations}
+use Rattle.ipmd_explain.specs.Standing.{IsTaken, Tracks}
 
 -- an entry was taken by both
 pub record IsTakenBy (v : Verifier) (old new : Explainer) (h : List Entry) (entry : Entry) (text : List ℕ) : Type 0 where
@@ -39,10 +39,10 @@ abbrev pub NamesEnd : Question → ProgramFault → List Entry → Type 0
 NamesEnd q e h = EndsBadly e h ⊎ (IsLegal h × IsLacking q e h)
 
 -- so far the file was read, both took its entries, and what explains them was written
-pub record IsExplainedTo (q : Question) (reader : Reader) (writer : Writer) (place : Place) (v : Verifier) (x : Explainer) : Type 0 where
+pub record IsExplainedTo (q : Question) (reader : Reader) (writer : Writer) (place : FilePlace) (v : Verifier) (x : Explainer) : Type 0 where
   pub history : List Entry
   pub reads : IsReadTo reader.given reader.left place history
   pub fed : IsFed v history
   pub question : x.question ≡ q
-  pub stands : Stands x history
-  pub written : Appends writer.held writer.holds (explained q history)
+  pub stands : Tracks x history
+  pub written : Appends writer.held writer.holds (explanations q history)

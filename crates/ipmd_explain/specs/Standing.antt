@@ -11,7 +11,7 @@ use Rattle.history_verify.specs.Parts.{AreExporters}
 use Rattle.ipmd_explain.specs.declared.explainer.Explainer.{Explainer}
 use Rattle.ipmd_explain.specs.Explaining.{explained_at, has_begun, has_message, has_record, is_asked, is_within, line_by}
 
-pub record Stands (x : Explainer) (h : List Entry) : Type 0 where
+pub record Tracks (x : Explainer) (h : List Entry) : Type 0 where
   pub position : x.position ≡ length h
   pub policy : x.policy ≡ policy_in_force h
   pub clock : x.clock ≡ clock_of h
@@ -30,15 +30,15 @@ pub record MayCome (h : List Entry) (entry : Entry) : Type 0 where
 -- it was taken, and this is said of it
 pub record IsTaken (old new : Explainer) (h : List Entry) (entry : Entry) (text : List ℕ) : Type 0 where
   pub question : new.question ≡ old.question
-  pub stands : Stands new (h ++ entry ∷ [])
+  pub stands : Tracks new (h ++ entry ∷ [])
   pub said : text ≡ explained_at old.question h entry
 
 abbrev pub Takes : Explainer → Entry → Explainer → List ℕ → Type 0
-Takes old entry new text = (h : List Entry) → Stands old h → MayCome h entry → IsTaken old new h entry text
+Takes old entry new text = (h : List Entry) → Tracks old h → MayCome h entry → IsTaken old new h entry text
 
 -- an entry of which nothing is said was counted, where there is a number for it
-abbrev pub counted : Explainer → Explainer
-counted x = record x { position = x.position + 1 }
+abbrev pub past_entry : Explainer → Explainer
+past_entry x = record x { position = x.position + 1 }
 
 -- the line of a record of a message at this position, with its place, if it is asked for
 abbrev pub line_for : Explainer → ℕ → (ℕ × DataRecord) → List ℕ
@@ -52,8 +52,8 @@ abbrev pub said_of : Explainer → ℕ → List DataRecord → List ℕ
 said_of x domain records = if is_asked x.question.position x.position && x.is_served then lines_of x domain records else []
 
 -- it met a message of so many records at its position
-abbrev pub met : Explainer → ℕ → Explainer
-met x records = record x {
+abbrev pub past_message : Explainer → ℕ → Explainer
+past_message x records = record x {
   met_message = x.met_message || is_asked x.question.position x.position;
   met_record = x.met_record || (is_asked x.question.position x.position && is_within x.question.index records);
 }

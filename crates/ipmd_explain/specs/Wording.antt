@@ -6,15 +6,16 @@ use Rattle.ipfix_element.specs.Element.{Element}
 use Rattle.ipfix_element.specs.Names.{element_name}
 use Rattle.ipfix_template.specs.DataRecord.{DataRecord}
 use Rattle.policy_text.specs.declared.rule.Rule.{Rule}
-use Rattle.policy_text.specs.Policies.{Aggregate, Meaning as Policy}
+use Rattle.policy_text.specs.Policies.{Aggregate, PolicyMeaning as Policy}
 use Rattle.policy_judge.specs.declared.verdict.ElementAction.{ElementAction}
 use Rattle.policy_judge.specs.declared.verdict.ElementAction.TheVariants.{Keep, Remove, Truncate, Degrade}
 use Rattle.policy_judge.specs.declared.verdict.ElementVerdict.{ElementVerdict}
 use Rattle.policy_judge.specs.Match.{element_at}
 use Rattle.policy_judge.specs.Verdicts.{record_verdict_of, element_verdict_of}
-use Rattle.flow_anonymize.specs.declared.disclosure.Reason.{Reason}
-use Rattle.flow_anonymize.specs.declared.disclosure.Reason.TheVariants as because
-use Rattle.flow_anonymize.specs.Outcome.{Outcome, Passes, Aggregates, Withholds}
+use Rattle.disclosure_audit.specs.declared.reason.Reason.{Reason}
+use Rattle.disclosure_audit.specs.declared.reason.Reason.TheVariants as because
+use Rattle.flow_anonymize.specs.declared.disclosure.Disclosure.TheVariants.{Passed, Aggregated, Withheld}
+use Rattle.flow_anonymize.specs.Outcome.{Outcome}
 use Rattle.flow_anonymize.specs.Remaining.{places_of}
 use Rattle.flow_anonymize.specs.Disclosed.{disclosure_of}
 use Rattle.flow_aggregate.specs.declared.timing.Timing.{Timing}
@@ -56,11 +57,11 @@ abbrev pub passing_words : List Rule → List ℕ → ℕ → DataRecord → Lis
 passing_words rules name domain r =
     codes "rule " ++ (decimal (record_verdict_of name domain r rules).rule ++ (codes " passes it" ++ fields_words rules name domain r))
 
--- it is withheld: by a rule on records, or for what is left of its fields
+-- it is withheld: by a rule on records, or for what is left of its fields; the rules withhold none for another reason
 abbrev pub withheld_words : List ℕ → List ℕ → Reason → List ℕ
-withheld_words passing by because.Rule = codes "withheld" ++ by
 withheld_words passing by because.ScopeLost = passing ++ (codes "; withheld, since " ++ (codes "a scope field is removed" ++ by))
 withheld_words passing by because.Empty = passing ++ (codes "; withheld, since " ++ (codes "all is removed" ++ by))
+withheld_words passing by _ = codes "withheld" ++ by
 
 -- it counts in an aggregate of this name, or why it doesn't
 abbrev pub timing_words : List ℕ → List ℕ → Timing → List ℕ
@@ -81,9 +82,9 @@ abbrev pub aggregate_words : List Aggregate → ℕ → ℕ → ℕ → DataReco
 aggregate_words aggregates rule place clock r = aggregate_words_in (slice_get aggregates place) rule clock r
 
 abbrev pub outcome_words : List ℕ → List Aggregate → ℕ → DataRecord → Outcome → List ℕ
-outcome_words passing aggregates clock r (Passes kept removed) = passing
-outcome_words passing aggregates clock r (Aggregates rule place) = aggregate_words aggregates rule place clock r
-outcome_words passing aggregates clock r (Withholds rule reason) = withheld_words passing (by_rule rule) reason
+outcome_words passing aggregates clock r (Passed kept removed) = passing
+outcome_words passing aggregates clock r (Aggregated rule place) = aggregate_words aggregates rule place clock r
+outcome_words passing aggregates clock r (Withheld rule reason) = withheld_words passing (by_rule rule) reason
 
 -- what the subscriber of a name sees of a record of an observation domain by a policy, where the clock stands so
 abbrev pub explanation : Policy → List ℕ → ℕ → ℕ → DataRecord → List ℕ

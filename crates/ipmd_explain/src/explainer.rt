@@ -12,7 +12,7 @@ ghost use Rattle.mediator_history.specs.Subscriptions.{policy_or_none};
 ghost use Rattle.event_journal.specs.declared.limits.TheConstants.{MOST_ENTRIES};
 ghost use Rattle.ipfix_session.specs.Keeping.{at_key};
 ghost use Rattle.ipmd_explain.specs.Explaining.{absent_of, line_by};
-ghost use Rattle.ipmd_explain.specs.Standing.{Stands, Takes, counted, line_for, lines_of, met, said_of};
+ghost use Rattle.ipmd_explain.specs.Standing.{Tracks, Takes, past_entry, line_for, lines_of, past_message, said_of};
 
 use crate::flow_words::flow_words;
 use crate::question::Question;
@@ -27,7 +27,7 @@ use policy_text::{Name, Policy};
 use std::alloc::{AllocError, Global};
 
 /// What is kept of a legal history: what decides of its next message for one subscription, and what was found of that which is
-/// asked. Contracts say by `Stands` of which histories it is.
+/// asked. Contracts say by `Tracks` of which histories it is.
 #[derive(Drop)]
 pub(crate) struct Explainer {
     alloc: Global,
@@ -56,7 +56,7 @@ impl Explainer {
     /// # Errors
     /// Want of memory.
     pub(crate) fn new(alloc: Global, question: Question) -> Result<Explainer, AllocError>
-        ensures stands { IfOk result (λ x. Stands x []) }
+        ensures stands { IfOk result (λ x. Tracks x []) }
         ensures question { IfOk result (λ x. x.question ≡ question) }
     {
         Ok(Explainer {
@@ -76,7 +76,7 @@ impl Explainer {
 
     /// What was asked for, and isn't there.
     pub(crate) fn absent(&self) -> Option<Absent>
-        ensures { (h : List OneEntry) → Stands self.now h → result ≡ absent_of self.now.question h }
+        ensures { (h : List OneEntry) → Tracks self.now h → result ≡ absent_of self.now.question h }
     {
         if !self.has_begun {
             return Some(Absent::Subscription(self.question.sub));
@@ -184,7 +184,7 @@ impl Explainer {
 
     /// An entry more, of which nothing is said.
     fn silent(&mut self) -> String
-        ensures counted { self.old.position + 1 < 2 ^ 64 → self.new ≡ counted self.old }
+        ensures counted { self.old.position + 1 < 2 ^ 64 → self.new ≡ past_entry self.old }
         ensures text { string_bytes result ≡ [] }
     {
         self.count();
@@ -193,7 +193,7 @@ impl Explainer {
 
     /// An entry more.
     fn count(&mut self)
-        ensures { self.old.position + 1 < 2 ^ 64 → self.new ≡ counted self.old }
+        ensures { self.old.position + 1 < 2 ^ 64 → self.new ≡ past_entry self.old }
     {
         self.position = self.position.saturating_add(1);
     }
@@ -236,14 +236,14 @@ impl Explainer {
         };
         match open.session.read(octets) {
             Ok(reading) => Ok(Some(reading)),
-            Err(ipfix_session::ReadError::OutOfMemory) => Err(AllocError),
+            Err(ipfix_session::Fault::OutOfMemory) => Err(AllocError),
             Err(_) => Ok(None),
         }
     }
 
     /// Notes that a message of `records` records stands at this position.
     fn meet(&mut self, records: usize)
-        ensures { self.new ≡ met self.old records }
+        ensures { self.new ≡ past_message self.old records }
     {
         if !self.question.asks_message(self.position) {
             return;

@@ -6,7 +6,7 @@ ghost use Rattle.ipmd_explain.specs.Answers.{Explains, ExplainsFile, RefusesToEx
 use crate::question::Question;
 use crate::reading::explain_source;
 use ipmd_command_line::ExplainOptions;
-use ipmd_commands::{ProgramFault, flush, of_file};
+use ipmd_commands::{Fault as ProgramFault, flush, of_file};
 use ipmd_verify::Progress;
 use octet_io::Device;
 use std::alloc::Global;

@@ -6,7 +6,7 @@ ghost use Rattle.event_journal.specs.declared.limits.TheConstants.{MOST_ENTRIES}
 ghost use Rattle.history_verify.specs.Answers.{NamesFirstOfAny};
 ghost use Rattle.history_verify.specs.Legal.{IsLegal};
 ghost use Rattle.history_verify.specs.Standing.{IsFed, IsFedShort};
-ghost use Rattle.ipmd_explain.specs.Standing.{Stands};
+ghost use Rattle.ipmd_explain.specs.Standing.{Tracks};
 ghost use Rattle.ipmd_explain.specs.Answers.{Explains, StopsExplaining};
 ghost use Rattle.ipmd_explain.specs.Reading.{IsLacking, IsTakenBy, NamesEnd};
 ghost use Rattle.ipmd_explain.specs.Explaining.{absent_of};
@@ -15,8 +15,8 @@ ghost use Rattle.std.specs.Prelude.{None, ◌++◌, ◌∷◌, []};
 use crate::explainer::Explainer;
 use crate::question::Question;
 use event_journal::Entry;
-use history_verify::{Verifier, VerifyFault};
-use ipmd_commands::{ProgramFault, put_text};
+use history_verify::{Fault as VerifyFault, Verifier};
+use ipmd_commands::{Fault as ProgramFault, put_text};
 use ipmd_verify::{Progress, fault_of, refusal};
 use journal_files::JournalReader;
 use octet_io::{Device, Source};
@@ -65,9 +65,9 @@ pub(crate) fn explain_source<S: Source, O: Write, P: Progress>(
 fn end(verifier: Verifier, explainer: &Explainer) -> Result<(), ProgramFault>
     requires short { IsFedShort verifier }
     ensures legal { OnOk result ((h : List OneEntry) → IsFed verifier h → IsLegal h) }
-    ensures there { OnOk result ((h : List OneEntry) → Stands explainer.now h
+    ensures there { OnOk result ((h : List OneEntry) → Tracks explainer.now h
         → absent_of explainer.now.question h ≡ None) }
-    ensures err { IfErr result (λ e. (h : List OneEntry) → IsFed verifier h → Stands explainer.now h
+    ensures err { IfErr result (λ e. (h : List OneEntry) → IsFed verifier h → Tracks explainer.now h
         → NamesEnd explainer.now.question e h) }
 {
     match verifier.finish() {
@@ -81,9 +81,9 @@ fn end(verifier: Verifier, explainer: &Explainer) -> Result<(), ProgramFault>
 /// # Errors
 /// `Absent`, what isn't.
 fn see_asked(explainer: &Explainer) -> Result<(), ProgramFault>
-    ensures there { OnOk result ((h : List OneEntry) → Stands explainer.now h
+    ensures there { OnOk result ((h : List OneEntry) → Tracks explainer.now h
         → absent_of explainer.now.question h ≡ None) }
-    ensures err { IfErr result (λ e. (h : List OneEntry) → Stands explainer.now h
+    ensures err { IfErr result (λ e. (h : List OneEntry) → Tracks explainer.now h
         → IsLacking explainer.now.question e h) }
 {
     match explainer.absent() {
@@ -103,7 +103,7 @@ fn take(
 ) -> Result<String, VerifyFault>
     requires short { IsFedShort verifier.old }
     ensures ok { IfOk result (λ text. (h : List OneEntry) → IsFed verifier.old h
-        → Stands explainer.old h → length h ≤ MOST_ENTRIES
+        → Tracks explainer.old h → length h ≤ MOST_ENTRIES
         → IsTakenBy verifier.new explainer.old explainer.new h entry (string_bytes text)) }
     ensures err { IfErr result (λ e. (h : List OneEntry) → IsFed verifier.old h
         → NamesFirstOfAny e (h ++ entry ∷ [])) }

@@ -2,7 +2,7 @@
 ghost use Rattle.std.specs.Prelude.{◌≡◌, ◌<◌, length, IfOk, string_bytes};
 ghost use Rattle.ipfix_element.specs.Names.{element_name};
 ghost use Rattle.mediator_history.specs.Counting.{timing_at};
-ghost use Rattle.flow_anonymize.specs.declared.disclosure.Reason.{Reason};
+ghost use Rattle.disclosure_audit.specs.declared.reason.Reason.{Reason};
 ghost use Rattle.ipmd_explain.specs.Wording.{aggregate_words, by_rule, change_words, explanation, field_words, fields_words, passing_words, timing_words, withheld_words};
 
 use flow_aggregate::{Timing, judge_time};
@@ -66,9 +66,12 @@ fn withheld_words(
         (passing_words policy.now.rules name.now domain flow_record.now) by.now reason) }
 {
     let why = match reason {
-        Reason::Rule => return format!(in alloc; "withheld{by}"),
         Reason::ScopeLost => "a scope field is removed",
         Reason::Empty => "all is removed",
+        // The rules withhold none for the reasons of aggregates.
+        Reason::Rule | Reason::NoTime | Reason::NoKey | Reason::Late => {
+            return format!(in alloc; "withheld{by}");
+        }
     };
     let passing = passing_words(alloc, policy, name, domain, flow_record)?;
     let passing = passing.as_str();

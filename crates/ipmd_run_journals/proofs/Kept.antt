@@ -1,7 +1,7 @@
 -- The file of a run that isn't kept.
 use Rattle.std.proofs.Common.{◌≡◌, ℕ, List, Result, Ok, Err, inl, inr, ap, subst, ◌∙◌}
 use Rattle.std.specs.Result.{IsErr, IsErrAnd, IfErr}
-use Rattle.ipmd_commands.specs.declared.fault.ProgramFault.{ProgramFault}
+use Rattle.ipmd_commands.specs.declared.fault.Fault.{Fault as ProgramFault}
 use Rattle.ipmd_commands.specs.Failures.{IsFileFault}
 use Rattle.ipmd_run_journals.specs.Keeping.{IsKeepingFault, part_name}
 use Rattle.ipmd_run_journals.specs.Numbering.{file_name}

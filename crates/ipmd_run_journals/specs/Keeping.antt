@@ -1,6 +1,6 @@
 -- Why a journal's file isn't kept.
 use Rattle.std.specs.Prelude.{◌⊎◌, ℕ, List, ◌++◌, codes}
-use Rattle.ipmd_commands.specs.declared.fault.ProgramFault.{ProgramFault}
+use Rattle.ipmd_commands.specs.declared.fault.Fault.{Fault as ProgramFault}
 use Rattle.ipmd_commands.specs.Failures.{IsFileFault}
 use Rattle.ipmd_run_journals.specs.Numbering.{file_name}
 

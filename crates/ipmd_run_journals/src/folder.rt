@@ -3,7 +3,7 @@ ghost use Rattle.std.specs.Prelude.{IfErr};
 ghost use Rattle.ipmd_run_journals.specs.Keeping.{IsSomeFileFault};
 
 use crate::numbering::next_number;
-use ipmd_commands::{ProgramFault, of_file};
+use ipmd_commands::{Fault as ProgramFault, of_file};
 use std::alloc::{AllocError, Global};
 use std::io::{self, Read};
 use std::rt::Files;

@@ -6,8 +6,8 @@ ghost use Rattle.ipmd_run_journals.specs.Numbering.{file_name};
 
 use crate::folder::parts_of;
 use event_journal::Journal;
-use ipmd_commands::{ProgramFault, of_file};
-use journal_files::{WriteFault, write_journal};
+use ipmd_commands::{Fault as ProgramFault, of_file};
+use journal_files::{Fault, write_journal};
 use octet_io::Device;
 use std::alloc::{AllocError, Global};
 use std::fs;
@@ -89,10 +89,9 @@ pub fn put_journal<W: Write>(
 {
     match write_journal(alloc, journal, sink) {
         Ok(()) => {}
-        Err(WriteFault::Write { .. }) => {
-            return Err(ProgramFault::at_file(alloc, path, sink.why()));
-        }
-        Err(WriteFault::OutOfMemory) => return Err(ProgramFault::OutOfMemory),
+        Err(Fault::OutOfMemory) => return Err(ProgramFault::OutOfMemory),
+        // The sink failed: there is no other fault of writing.
+        Err(_) => return Err(ProgramFault::at_file(alloc, path, sink.why())),
     }
     match sink.flush() {
         Ok(()) => Ok(()),

@@ -12,11 +12,11 @@ use Rattle.sequences.proofs.ResultLaws.{same_Ok}
 use Rattle.toml.specs.Data.{as_str}
 use Rattle.toml.specs.View.{view, members_view}
 use Rattle.toml.proofs.Views.{Entry}
-use Rattle.ipmd_settings.specs.declared.fault.SettingsFault.{SettingsFault}
+use Rattle.ipmd_settings.specs.declared.fault.Fault.{Fault}
 use Rattle.ipmd_settings.specs.declared.key.Key.TheVariants.{Deliver}
 use Rattle.ipmd_settings.specs.Asked.{Pair}
-use Rattle.ipmd_settings.specs.Results.{needed}
-use Rattle.ipmd_settings.specs.Values.{collectors_of, Ascend}
+use Rattle.ipmd_settings.specs.Results.{value_at_key}
+use Rattle.ipmd_settings.specs.Values.{collectors_of, AscendByOctets}
 
 -- the collectors before, and those that are found after them
 abbrev pub behind : List Pair → Option (List Pair) → Option (List Pair)
@@ -30,13 +30,13 @@ behind-push before p (Some found) = ap Some (sym (append_assoc before (p ∷ [])
 abbrev with_others : List ℕ → Option (List Pair) → Option (List ℕ) → Option (List Pair)
 with_others name found address = address >>= λ a. found >>= λ more. Some ((name, a) ∷ more)
 
-turn_by : (before : List Pair) (name : List ℕ) (found : Option (List Pair)) (p : Pair) (address : Option (List ℕ)) → needed Deliver (option_map (λ a. (name, a)) address) ≡ Ok p
+turn_by : (before : List Pair) (name : List ℕ) (found : Option (List Pair)) (p : Pair) (address : Option (List ℕ)) → value_at_key Deliver (option_map (λ a. (name, a)) address) ≡ Ok p
     → behind (before ++ p ∷ []) found ≡ behind before (with_others name found address)
 turn_by before name found p None is = absurd cc
-turn_by before name found p (Some a) is = ap (λ (q : Pair). behind (before ++ q ∷ []) found) (sym (same_Ok {E = SettingsFault} (name, a) p is)) ∙ sym (behind-push before (name, a) found)
+turn_by before name found p (Some a) is = ap (λ (q : Pair). behind (before ++ q ∷ []) found) (sym (same_Ok {E = Fault} (name, a) p is)) ∙ sym (behind-push before (name, a) found)
 
 -- a turn of the loop over the members
-pub behind-turn : (before : List Pair) (e : Entry) (rest : List Entry) (p : Pair) → needed Deliver (option_map (λ a. (string_bytes e.0, a)) (as_str (view e.1))) ≡ Ok p
+pub behind-turn : (before : List Pair) (e : Entry) (rest : List Entry) (p : Pair) → value_at_key Deliver (option_map (λ a. (string_bytes e.0, a)) (as_str (view e.1))) ≡ Ok p
     → behind (before ++ p ∷ []) (collectors_of (members_view rest)) ≡ behind before (collectors_of (members_view (e ∷ rest)))
 behind-turn before e rest p is = turn_by before (string_bytes e.0) (collectors_of (members_view rest)) p (as_str (view e.1)) is
 
@@ -67,5 +67,5 @@ ascend-texts [] h = h
 ascend-texts (k ∷ ks) h = (below-all k ks h.0, ascend-texts ks h.1)
 
 -- the collectors of a map ascend
-pub collectors_of-ascend : (es : List Entry) (found : List Pair) → IsStrictlySortedBy string_cmp (keys_of es) → collectors_of (members_view es) ≡ Some found → Ascend found
+pub collectors_of-ascend : (es : List Entry) (found : List Pair) → IsStrictlySortedBy string_cmp (keys_of es) → collectors_of (members_view es) ≡ Some found → AscendByOctets found
 collectors_of-ascend es found sorted is = rw (collectors_of-names es found is) (ascend-texts (keys_of es) sorted)

@@ -5,13 +5,13 @@ use Rattle.toml.specs.Data.{Members}
 use Rattle.toml.specs.Parse.{parse_document}
 use Rattle.ipmd_settings.specs.declared.key.Key.{Key}
 use Rattle.ipmd_settings.specs.declared.key.Key.TheVariants.{Exporters, Admin, Policy, Connections, Target, Workers, Queue, Shapes, Audit, JournalEntries, JournalOctets, Turns, Deliver, Journal, Runs, Idle, Reconnect, Hold, Drain, Endless}
-use Rattle.ipmd_settings.specs.declared.fault.SettingsFault.{SettingsFault}
-use Rattle.ipmd_settings.specs.declared.fault.SettingsFault.TheVariants as fault
+use Rattle.ipmd_settings.specs.declared.fault.Fault.{Fault}
+use Rattle.ipmd_settings.specs.declared.fault.Fault.TheVariants as fault
 use Rattle.ipmd_settings.specs.declared.reading.TheConstants.{LONGEST_TEXT}
-use Rattle.ipmd_settings.specs.Asked.{Asked}
-use Rattle.ipmd_settings.specs.Faults.{has, keys, lacking, IsFaultOf}
+use Rattle.ipmd_settings.specs.Asked.{AskedService}
+use Rattle.ipmd_settings.specs.Faults.{has, keys, lacking, IsSettingsFault}
 use Rattle.ipmd_settings.specs.Reading.{limits_in, settings_in}
-use Rattle.ipmd_settings.specs.Results.{Gives, needed}
+use Rattle.ipmd_settings.specs.Results.{Gives, value_at_key}
 use Rattle.ipmd_settings.specs.Values.{text_in, text_or_none_in, number_in, number_or_in, number_or_none_in, flag_or_false_in, collectors_in}
 use Rattle.subscriber_stream.specs.declared.limits.TheConstants.{MOST_QUEUE, MOST_SHAPES}
 use Rattle.disclosure_audit.specs.declared.audit.TheConstants.{MOST_ENTRIES as MOST_AUDITED}
@@ -19,17 +19,17 @@ use Rattle.event_journal.specs.declared.limits.TheConstants.{MOST_ENTRIES, MOST_
 use Rattle.ipfix_octets.specs.MessageFormat.{header_octets, longest_message}
 
 -- the fault is the first of these keys that a table lacks
-pub record IsFirst (table : Members) (ks : List Key) (f : SettingsFault) : Type 0 where
+pub record IsFirst (table : Members) (ks : List Key) (f : Fault) : Type 0 where
   pub key : Key
   pub fault_is : f ≡ fault.Key key
   pub first : find (λ k. not (has table k)) ks ≡ Some key
 
 -- a reading of these keys, in their order, fails at the first that the table lacks
-pub record Judges {B : Type 0} (table : Members) (ks : List Key) (read : Result B SettingsFault) : Type 0 where
+pub record Judges {B : Type 0} (table : Members) (ks : List Key) (read : Result B Fault) : Type 0 where
   pub judged : IfErr read (IsFirst table ks)
 
 -- a key that is there is passed over
-later : {B : Type 0} (table : Members) (k : Key) (ks : List Key) (read : Result B SettingsFault) → has table k ≡ true → Judges table ks read → Judges table (k ∷ ks) read
+later : {B : Type 0} (table : Members) (k : Key) (ks : List Key) (read : Result B Fault) → has table k ≡ true → Judges table ks read → Judges table (k ∷ ks) read
 later table k ks (Ok b) is judges = record { judged = tt }
 later table k ks (Err f) is judges = record { judged = record { key = judges.judged.key; fault_is = judges.judged.fault_is; first = rw is judges.judged.first } }
 
@@ -38,13 +38,13 @@ here : {B : Type 0} (table : Members) (k : Key) (ks : List Key) → has table k 
 here table k ks is = record { judged = record { key = k; fault_is = refl; first = rw is refl } }
 
 -- a key is read, and what comes after it judges the keys after it
-step : {A B : Type 0} (table : Members) (k : Key) (ks : List Key) (o : Option A) (go : A → Result B SettingsFault) → has table k ≡ is_some o → ((a : A) → Judges table ks (go a)) → Judges table (k ∷ ks) (needed k o >>= go)
+step : {A B : Type 0} (table : Members) (k : Key) (ks : List Key) (o : Option A) (go : A → Result B Fault) → has table k ≡ is_some o → ((a : A) → Judges table ks (go a)) → Judges table (k ∷ ks) (value_at_key k o >>= go)
 step table k ks None go is after = here table k ks is
 step table k ks (Some a) go is after = later table k ks (go a) is (after a)
 
 -- the same inside a part that is read for itself
-step-within : {A B C : Type 0} (table : Members) (k : Key) (ks : List Key) (o : Option A) (go : A → Result B SettingsFault) (on : B → Result C SettingsFault) → has table k ≡ is_some o → ((a : A) → Judges table ks (go a >>= on))
-    → Judges table (k ∷ ks) ((needed k o >>= go) >>= on)
+step-within : {A B C : Type 0} (table : Members) (k : Key) (ks : List Key) (o : Option A) (go : A → Result B Fault) (on : B → Result C Fault) → has table k ≡ is_some o → ((a : A) → Judges table ks (go a >>= on))
+    → Judges table (k ∷ ks) ((value_at_key k o >>= go) >>= on)
 step-within table k ks None go on is after = here table k ks is
 step-within table k ks (Some a) go on is after = later table k ks (go a >>= on) is (after a)
 
@@ -72,17 +72,17 @@ settings_in-judges table =
     step table Drain _ (number_or_none_in Drain 1 86400 table) _ refl (λ drain.
     step table Endless [] (flag_or_false_in Endless table) _ refl (λ endless. record { judged = tt }))))))))))))))))))))
 
-of_table : (text : List ℕ) (table : Members) (f : SettingsFault) → length text ≤ LONGEST_TEXT → parse_document text ≡ Some table → settings_in table ≡ Err f → IsFaultOf f text
-of_table text table f short parsed fails = by_first f (subst (λ (r : Result Asked SettingsFault). Judges table keys r) fails (settings_in-judges table)).judged
+of_table : (text : List ℕ) (table : Members) (f : Fault) → length text ≤ LONGEST_TEXT → parse_document text ≡ Some table → settings_in table ≡ Err f → IsSettingsFault f text
+of_table text table f short parsed fails = by_first f (subst (λ (r : Result AskedService Fault). Judges table keys r) fails (settings_in-judges table)).judged
   where
-    by_key : (k : Key) → lacking table ≡ Some k → IsFaultOf (fault.Key k) text
+    by_key : (k : Key) → lacking table ≡ Some k → IsSettingsFault (fault.Key k) text
     by_key k first = (table, short, parsed, first)
 
-    by_first : (f : SettingsFault) → IsFirst table keys f → IsFaultOf f text
-    by_first f first = subst (λ (f : SettingsFault). IsFaultOf f text) (sym first.fault_is) (by_key first.key first.first)
+    by_first : (f : Fault) → IsFirst table keys f → IsSettingsFault f text
+    by_first f first = subst (λ (f : Fault). IsSettingsFault f text) (sym first.fault_is) (by_key first.key first.first)
 
 -- what was returned at a fault, of a text that is not too long and is this table
-pub returned-first : {X : Type 0} (view : X → Asked) (text : List ℕ) (table : Members) (answer : Result X SettingsFault) → length text ≤ LONGEST_TEXT → parse_document text ≡ Some table → Gives view answer (settings_in table) → IfErr answer (λ f. IsFaultOf f text)
+pub returned-first : {X : Type 0} (view : X → AskedService) (text : List ℕ) (table : Members) (answer : Result X Fault) → length text ≤ LONGEST_TEXT → parse_document text ≡ Some table → Gives view answer (settings_in table) → IfErr answer (λ f. IsSettingsFault f text)
 returned-first view text table (Ok x) short parsed gives = tt
 returned-first view text table (Err fault.TooLong) short parsed gives = of_table text table fault.TooLong short parsed gives
 returned-first view text table (Err fault.Toml) short parsed gives = of_table text table fault.Toml short parsed gives

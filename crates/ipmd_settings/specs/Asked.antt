@@ -2,14 +2,14 @@
 use Rattle.std.specs.Prelude.{ℕ, Bool, List, map, Option, option_map, string_bytes, Vec}
 use Rattle.std.specs.declared.alloc.Global.{Global}
 use Rattle.mediator_calls.specs.declared.limits.Limits.{Limits}
+use Rattle.mediator_connections.specs.declared.collector.Collector.{Collector}
 use Rattle.ipmd_settings.specs.declared.settings.Settings.{Settings}
-use Rattle.ipmd_settings.specs.declared.settings.Collector.{Collector}
 
 -- a subscriber's name, and the address of its collector
 abbrev pub Pair : Type 0
 Pair = List ℕ × List ℕ
 
-pub record Asked : Type 0 where
+pub record AskedService : Type 0 where
   pub exporters : List ℕ
   pub admin : List ℕ
   pub policy : List ℕ
@@ -34,8 +34,8 @@ abbrev pub pairs : Vec Collector Global → List Pair
 pairs collectors = map pair collectors.items
 
 -- the same of settings that were read
-abbrev pub asked : Settings → Asked
-asked settings = record {
+abbrev pub asked_service : Settings → AskedService
+asked_service settings = record {
   exporters = string_bytes settings.exporters;
   admin = string_bytes settings.admin;
   policy = string_bytes settings.policy;

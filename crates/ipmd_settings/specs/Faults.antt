@@ -8,8 +8,8 @@ use Rattle.disclosure_audit.specs.declared.audit.TheConstants.{MOST_ENTRIES as M
 use Rattle.event_journal.specs.declared.limits.TheConstants.{MOST_ENTRIES, MOST_OCTETS}
 use Rattle.ipmd_settings.specs.declared.key.Key.{Key}
 use Rattle.ipmd_settings.specs.declared.key.Key.TheVariants.{Exporters, Admin, Policy, Connections, Target, Workers, Queue, Shapes, Audit, JournalEntries, JournalOctets, Turns, Deliver, Journal, Runs, Idle, Reconnect, Hold, Drain, Endless}
-use Rattle.ipmd_settings.specs.declared.fault.SettingsFault.{SettingsFault}
-use Rattle.ipmd_settings.specs.declared.fault.SettingsFault.TheVariants as fault
+use Rattle.ipmd_settings.specs.declared.fault.Fault.{Fault}
+use Rattle.ipmd_settings.specs.declared.fault.Fault.TheVariants as fault
 use Rattle.ipmd_settings.specs.declared.reading.TheConstants.{LONGEST_TEXT}
 use Rattle.ipmd_settings.specs.Values.{text_in, text_or_none_in, number_in, number_or_in, number_or_none_in, flag_or_false_in, collectors_in}
 
@@ -47,8 +47,8 @@ lacking table = find (λ k. not (has table k)) keys
 
 -- the text is too long; else no TOML, or a table that lacks this key and none before it; want of memory says only that it isn't too
 -- long
-abbrev pub IsFaultOf : SettingsFault → List ℕ → Type 0
-IsFaultOf fault.TooLong text = LONGEST_TEXT < length text
-IsFaultOf fault.Toml text = (length text ≤ LONGEST_TEXT) × (parse_document text ≡ None)
-IsFaultOf (fault.Key k) text = (table : Members) × (length text ≤ LONGEST_TEXT) × (parse_document text ≡ Some table) × (lacking table ≡ Some k)
-IsFaultOf fault.OutOfMemory text = length text ≤ LONGEST_TEXT
+abbrev pub IsSettingsFault : Fault → List ℕ → Type 0
+IsSettingsFault fault.TooLong text = LONGEST_TEXT < length text
+IsSettingsFault fault.Toml text = (length text ≤ LONGEST_TEXT) × (parse_document text ≡ None)
+IsSettingsFault (fault.Key k) text = (table : Members) × (length text ≤ LONGEST_TEXT) × (parse_document text ≡ Some table) × (lacking table ≡ Some k)
+IsSettingsFault fault.OutOfMemory text = length text ≤ LONGEST_TEXT

@@ -2,8 +2,8 @@
 use Rattle.std.specs.Prelude.{ℕ, List, codes}
 use Rattle.ipmd_settings.specs.declared.key.Key.{Key}
 use Rattle.ipmd_settings.specs.declared.key.Key.TheVariants as key
-use Rattle.ipmd_settings.specs.declared.fault.SettingsFault.{SettingsFault}
-use Rattle.ipmd_settings.specs.declared.fault.SettingsFault.TheVariants as fault
+use Rattle.ipmd_settings.specs.declared.fault.Fault.{Fault}
+use Rattle.ipmd_settings.specs.declared.fault.Fault.TheVariants as fault
 
 abbrev pub name_of : Key → List ℕ
 name_of key.Exporters = codes "exporters"
@@ -27,7 +27,7 @@ name_of key.Hold = codes "hold"
 name_of key.Drain = codes "drain"
 name_of key.Endless = codes "endless"
 
-abbrev pub text_of_fault : SettingsFault → List ℕ
+abbrev pub text_of_fault : Fault → List ℕ
 text_of_fault fault.TooLong = codes "length"
 text_of_fault fault.Toml = codes "toml"
 text_of_fault (fault.Key k) = name_of k

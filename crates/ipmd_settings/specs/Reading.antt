@@ -9,14 +9,14 @@ use Rattle.disclosure_audit.specs.declared.audit.TheConstants.{MOST_ENTRIES as M
 use Rattle.event_journal.specs.declared.limits.TheConstants.{MOST_ENTRIES, MOST_OCTETS}
 use Rattle.mediator_calls.specs.declared.limits.Limits.{Limits}
 use Rattle.ipmd_settings.specs.declared.key.Key.TheVariants.{Exporters, Admin, Policy, Connections, Target, Workers, Queue, Shapes, Audit, JournalEntries, JournalOctets, Turns, Journal, Runs, Idle, Reconnect, Hold, Drain, Endless}
-use Rattle.ipmd_settings.specs.declared.fault.SettingsFault.{SettingsFault}
-use Rattle.ipmd_settings.specs.declared.fault.SettingsFault.TheVariants.{TooLong, Toml}
+use Rattle.ipmd_settings.specs.declared.fault.Fault.{Fault}
+use Rattle.ipmd_settings.specs.declared.fault.Fault.TheVariants.{TooLong, Toml}
 use Rattle.ipmd_settings.specs.declared.reading.TheConstants.{LONGEST_TEXT}
-use Rattle.ipmd_settings.specs.Asked.{Asked}
+use Rattle.ipmd_settings.specs.Asked.{AskedService}
 use Rattle.ipmd_settings.specs.Values.{text_at, text_or_none, number_at, number_or, number_or_none, flag_or_false, collectors_at}
 
 -- the limits of the mediator
-unfoldable pub limits_in : Members → Result Limits SettingsFault
+unfoldable pub limits_in : Members → Result Limits Fault
 limits_in table = do
   queue ← number_at Queue 1 MOST_QUEUE table
   shapes ← number_at Shapes 1 MOST_SHAPES table
@@ -26,7 +26,7 @@ limits_in table = do
   Ok (record { queue = queue; shapes = shapes; audit = audit; entries = entries; octets = octets })
 
 -- the settings in a table, or the first key at fault; other keys are ignored
-unfoldable pub settings_in : Members → Result Asked SettingsFault
+unfoldable pub settings_in : Members → Result AskedService Fault
 settings_in table = do
   exporters ← text_at Exporters table
   admin ← text_at Admin table
@@ -64,10 +64,10 @@ settings_in table = do
   })
 
 -- the table that a text is
-abbrev pub table_of : Option Members → Result Members SettingsFault
+abbrev pub table_of : Option Members → Result Members Fault
 table_of None = Err Toml
 table_of (Some table) = Ok table
 
 -- the settings that a text gives, or its first fault
-abbrev pub settings_of : List ℕ → Result Asked SettingsFault
+abbrev pub settings_of : List ℕ → Result AskedService Fault
 settings_of text = if nat_lt LONGEST_TEXT (length text) then Err TooLong else (table_of (parse_document text) >>= settings_in)

@@ -2,20 +2,20 @@
 use Rattle.std.specs.Prelude.{Bool, true, false, Option, Some, None, Result, Ok, Err}
 use Rattle.sequences.specs.Results.{GivesBut}
 use Rattle.ipmd_settings.specs.declared.key.Key.{Key}
-use Rattle.ipmd_settings.specs.declared.fault.SettingsFault.{SettingsFault}
-use Rattle.ipmd_settings.specs.declared.fault.SettingsFault.TheVariants as fault
+use Rattle.ipmd_settings.specs.declared.fault.Fault.{Fault}
+use Rattle.ipmd_settings.specs.declared.fault.Fault.TheVariants as fault
 
 -- what is read at a key, or the key's fault where nothing is
-abbrev pub needed : {A : Type 0} → Key → Option A → Result A SettingsFault
-needed k None = Err (fault.Key k)
-needed k (Some a) = Ok a
+abbrev pub value_at_key : {A : Type 0} → Key → Option A → Result A Fault
+value_at_key k None = Err (fault.Key k)
+value_at_key k (Some a) = Ok a
 
-abbrev pub is_memory : SettingsFault → Bool
+abbrev pub is_memory : Fault → Bool
 is_memory fault.TooLong = false
 is_memory fault.Toml = false
 is_memory (fault.Key k) = false
 is_memory fault.OutOfMemory = true
 
 -- what a function returned, seen by view, is what reading gives, unless memory ran out
-abbrev pub Gives : {X Y : Type 0} → (X → Y) → Result X SettingsFault → Result Y SettingsFault → Type 0
+abbrev pub Gives : {X Y : Type 0} → (X → Y) → Result X Fault → Result Y Fault → Type 0
 Gives view answer read = GivesBut is_memory view answer read

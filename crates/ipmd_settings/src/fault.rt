@@ -7,7 +7,7 @@ use std::fmt::{self, Display, Formatter, Write};
 
 /// Why a text gives no settings. Its text is the key at fault, or `toml`, `length` or `OutOfMemory`.
 #[derive(Clone, Copy, Debug, PartialEq, Eq)]
-pub enum SettingsFault {
+pub enum Fault {
     /// The text has more octets than settings may have: more than [`LONGEST_TEXT`](crate::LONGEST_TEXT).
     TooLong,
     /// The text is no TOML.
@@ -18,9 +18,9 @@ pub enum SettingsFault {
     OutOfMemory,
 }
 
-impl Error for SettingsFault {}
+impl Error for Fault {}
 
-impl Display for SettingsFault {
+impl Display for Fault {
     ghost use Rattle.std.specs.Prelude.{Option, Some};
     ghost use Rattle.ipmd_settings.specs.Names.{text_of_fault};
 
@@ -28,48 +28,48 @@ impl Display for SettingsFault {
 
     fn fmt<W: Write>(&self, f: &mut Formatter<W>) -> fmt::Result {
         f.write_str(match self {
-            SettingsFault::TooLong => "length",
-            SettingsFault::Toml => "toml",
-            SettingsFault::Key(key) => key.name(),
-            SettingsFault::OutOfMemory => "OutOfMemory",
+            Fault::TooLong => "length",
+            Fault::Toml => "toml",
+            Fault::Key(key) => key.name(),
+            Fault::OutOfMemory => "OutOfMemory",
         })
     }
 }
 
-impl From<toml::de::Error> for SettingsFault {
+impl From<toml::de::Error> for Fault {
     ghost use Rattle.std.specs.Prelude.{◌≡◌, ◌⊎◌};
     ghost use Rattle.toml.specs.Errors.{IsMemory};
-    ghost use Rattle.ipmd_settings.specs.declared.fault.SettingsFault.TheVariants.{Toml, OutOfMemory};
+    ghost use Rattle.ipmd_settings.specs.declared.fault.Fault.TheVariants.{Toml, OutOfMemory};
 
     ghost from_gives = { λ error e. (IsMemory error × (e ≡ OutOfMemory)) ⊎ ((¬ IsMemory error) × (e ≡ Toml)) };
 
-    fn from(error: toml::de::Error) -> SettingsFault {
+    fn from(error: toml::de::Error) -> Fault {
         if error.is_memory() {
-            SettingsFault::OutOfMemory
+            Fault::OutOfMemory
         } else {
-            SettingsFault::Toml
+            Fault::Toml
         }
     }
 }
 
-impl From<AllocError> for SettingsFault {
+impl From<AllocError> for Fault {
     ghost use Rattle.std.specs.Prelude.{◌≡◌};
-    ghost use Rattle.ipmd_settings.specs.declared.fault.SettingsFault.TheVariants.{OutOfMemory};
+    ghost use Rattle.ipmd_settings.specs.declared.fault.Fault.TheVariants.{OutOfMemory};
 
     ghost from_gives = { λ _ e. e ≡ OutOfMemory };
 
-    fn from(_e: AllocError) -> SettingsFault {
-        SettingsFault::OutOfMemory
+    fn from(_e: AllocError) -> Fault {
+        Fault::OutOfMemory
     }
 }
 
-impl<T: Drop> From<AllocFailed<T>> for SettingsFault {
+impl<T: Drop> From<AllocFailed<T>> for Fault {
     ghost use Rattle.std.specs.Prelude.{◌≡◌};
-    ghost use Rattle.ipmd_settings.specs.declared.fault.SettingsFault.TheVariants.{OutOfMemory};
+    ghost use Rattle.ipmd_settings.specs.declared.fault.Fault.TheVariants.{OutOfMemory};
 
     ghost from_gives = { λ _ e. e ≡ OutOfMemory };
 
-    fn from(_e: AllocFailed<T>) -> SettingsFault {
-        SettingsFault::OutOfMemory
+    fn from(_e: AllocFailed<T>) -> Fault {
+        Fault::OutOfMemory
     }
 }

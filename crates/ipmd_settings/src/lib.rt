@@ -1,9 +1,9 @@
 //! The settings of `ipmd serve`, read from TOML. It opens no file and makes no connection: addresses and names are texts
 //! here, and whoever uses them says what is wrong with them.
 //!
-//! - `settings`: [`Settings`] and [`Collector`], what was read.
+//! - `settings`: [`Settings`], what was read. [`Collector`] is that of `mediator_connections`.
 //! - `reading`: [`read_settings`], with [`LONGEST_TEXT`].
-//! - `key`: [`Key`], a key of settings. `fault`: [`SettingsFault`], why a text gives no settings.
+//! - `key`: [`Key`], a key of settings. `fault`: [`Fault`], why a text gives no settings.
 //! - `values`: what stands at a key.
 //! - `laws`: [`allowed_limits_are_read`], proved over the definitions.
 //!
@@ -24,8 +24,9 @@ mod reading;
 mod settings;
 mod values;
 
-pub use fault::SettingsFault;
+pub use fault::Fault;
 pub use key::Key;
 pub use laws::allowed_limits_are_read;
+pub use mediator_connections::Collector;
 pub use reading::{LONGEST_TEXT, read_settings};
-pub use settings::{Collector, Settings};
+pub use settings::Settings;

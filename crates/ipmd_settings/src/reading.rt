@@ -2,13 +2,13 @@
 ghost use Rattle.std.specs.Prelude.{◌≡◌, ◌≤◌, IfErr, IfOk};
 ghost use Rattle.toml.specs.View.{table_view};
 ghost use Rattle.mediator_calls.specs.Limited.{AreAllowed};
-ghost use Rattle.ipmd_settings.specs.Asked.{asked, pairs};
-ghost use Rattle.ipmd_settings.specs.Faults.{IsFaultOf};
+ghost use Rattle.ipmd_settings.specs.Asked.{asked_service, pairs};
+ghost use Rattle.ipmd_settings.specs.Faults.{IsSettingsFault};
 ghost use Rattle.ipmd_settings.specs.Reading.{limits_in, settings_in, settings_of};
 ghost use Rattle.ipmd_settings.specs.Results.{Gives};
-ghost use Rattle.ipmd_settings.specs.Values.{Ascend};
+ghost use Rattle.ipmd_settings.specs.Values.{AscendByOctets};
 
-use crate::fault::SettingsFault;
+use crate::fault::Fault;
 use crate::key::Key;
 use crate::settings::Settings;
 use crate::values::{
@@ -66,21 +66,21 @@ const MOST_DRAIN: u64 = 86_400;
 /// `TooLong` where the text has more than [`LONGEST_TEXT`] octets, which takes no memory to say. Else `Toml` where the text is no
 /// TOML; `Key` with the first key, in the order of [`Key`], that must be there and isn't, or whose value is of another type or
 /// out of its range; or `OutOfMemory`.
-pub fn read_settings(alloc: Global, text: &str) -> Result<Settings, SettingsFault>
+pub fn read_settings(alloc: Global, text: &str) -> Result<Settings, Fault>
     // What the text gives, or its first fault.
-    ensures exact { Gives asked result (settings_of text.now) }
+    ensures exact { Gives asked_service result (settings_of text.now) }
     // Which key is at fault: the first that must be there and isn't, or has a value that it may not have. A text that is too long
     // has no other fault, nor want of memory.
-    ensures first { IfErr result (λ fault. IsFaultOf fault text.now) }
+    ensures first { IfErr result (λ fault. IsSettingsFault fault text.now) }
     // A mediator takes these limits.
     ensures allowed { IfOk result (λ settings. AreAllowed settings.limits) }
     // The subscribers ascend by their octets, and none stands twice.
-    ensures sorted { IfOk result (λ settings. Ascend (pairs settings.collectors)) }
+    ensures sorted { IfOk result (λ settings. AscendByOctets (pairs settings.collectors)) }
     // A run may be made.
     ensures some_run { IfOk result (λ settings. 1 ≤ settings.runs) }
 {
     if text.len() > LONGEST_TEXT {
-        return Err(SettingsFault::TooLong);
+        return Err(Fault::TooLong);
     }
     let table = toml::table_from_str(alloc, text)?;
     settings_in(alloc, &table)
@@ -91,10 +91,10 @@ pub fn read_settings(alloc: Global, text: &str) -> Result<Settings, SettingsFaul
 /// # Errors
 /// Those of [`read_settings`] but for `TooLong` and `Toml`.
 #[tactic(auto, unfolding(crate::specs::Reading::settings_in))]
-fn settings_in(alloc: Global, table: &Table) -> Result<Settings, SettingsFault>
-    ensures exact { Gives asked result (settings_in (table_view table.now)) }
+fn settings_in(alloc: Global, table: &Table) -> Result<Settings, Fault>
+    ensures exact { Gives asked_service result (settings_in (table_view table.now)) }
     ensures allowed { IfOk result (λ settings. AreAllowed settings.limits) }
-    ensures sorted { IfOk result (λ settings. Ascend (pairs settings.collectors)) }
+    ensures sorted { IfOk result (λ settings. AscendByOctets (pairs settings.collectors)) }
     ensures some_run { IfOk result (λ settings. 1 ≤ settings.runs) }
 {
     Ok(Settings {
@@ -122,7 +122,7 @@ fn settings_in(alloc: Global, table: &Table) -> Result<Settings, SettingsFault>
 /// # Errors
 /// `Key` with the first that is missing, of another type or out of its range.
 #[tactic(auto, unfolding(crate::specs::Reading::limits_in))]
-fn limits_in(table: &Table) -> Result<Limits, SettingsFault>
+fn limits_in(table: &Table) -> Result<Limits, Fault>
     ensures exact { result ≡ limits_in (table_view table.now) }
     ensures allowed { IfOk result (λ limits. AreAllowed limits) }
 {

@@ -1,6 +1,7 @@
 //! The settings of `ipmd serve`, as values.
 
 use mediator_calls::Limits;
+use mediator_connections::Collector;
 
 /// How `ipmd serve` is to run.
 #[derive(Debug, Drop)]
@@ -38,13 +39,4 @@ pub struct Settings {
     /// Whether a run goes on when as many exporters have come as are accepted. Then `connections` says how many may be open at a
     /// time.
     pub endless: bool,
-}
-
-/// Where a subscriber's messages are sent.
-#[derive(Debug, Drop)]
-pub struct Collector {
-    /// The subscriber's name. Whether a policy may have it, is for `subscribe` to judge.
-    pub subscriber: String,
-    /// The address and the port at which the collector listens.
-    pub address: String,
 }

@@ -5,12 +5,12 @@ ghost use Rattle.toml.specs.View.{view, table_view};
 ghost use Rattle.ipmd_settings.specs.declared.key.Key.TheVariants as key;
 ghost use Rattle.ipmd_settings.specs.Asked.{pair, pairs};
 ghost use Rattle.ipmd_settings.specs.Names.{name_of};
-ghost use Rattle.ipmd_settings.specs.Results.{Gives, needed};
-ghost use Rattle.ipmd_settings.specs.Values.{text_in, text_at, text_or_none, within, number_in, number_at, number_or_in, number_or, number_or_none_in, number_or_none, flag_or_false_in, flag_or_false, collectors_of, collectors_at, Ascend};
+ghost use Rattle.ipmd_settings.specs.Results.{Gives, value_at_key};
+ghost use Rattle.ipmd_settings.specs.Values.{text_in, text_at, text_or_none, within, number_in, number_at, number_or_in, number_or, number_or_none_in, number_or_none, flag_or_false_in, flag_or_false, collectors_of, collectors_at, AscendByOctets};
 
-use crate::fault::SettingsFault;
+use crate::fault::Fault;
 use crate::key::Key;
-use crate::settings::Collector;
+use mediator_connections::Collector;
 use std::alloc::Global;
 use toml::{Table, Value};
 
@@ -18,12 +18,12 @@ use toml::{Table, Value};
 ///
 /// # Errors
 /// `Key` where it is missing or no text, or `OutOfMemory`.
-pub(crate) fn text_at(alloc: Global, table: &Table, key: Key) -> Result<String, SettingsFault>
+pub(crate) fn text_at(alloc: Global, table: &Table, key: Key) -> Result<String, Fault>
     ensures { Gives string_bytes result (text_at key (table_view table.now)) }
 {
     match text_in(table, key) {
         Some(text) => Ok(String::from_str(alloc, text)?),
-        None => Err(SettingsFault::Key(key)),
+        None => Err(Fault::Key(key)),
     }
 }
 
@@ -38,11 +38,7 @@ fn text_in<'a>(table: &'a Table, key: Key) -> Option<&'a str>
 ///
 /// # Errors
 /// `Key` where a value stands there that is no text, or `OutOfMemory`.
-pub(crate) fn text_or_none(
-    alloc: Global,
-    table: &Table,
-    key: Key,
-) -> Result<Option<String>, SettingsFault>
+pub(crate) fn text_or_none(alloc: Global, table: &Table, key: Key) -> Result<Option<String>, Fault>
     ensures { Gives (option_map string_bytes) result (text_or_none key (table_view table.now)) }
 {
     match value_at(table, key) {
@@ -55,13 +51,13 @@ pub(crate) fn text_or_none(
 ///
 /// # Errors
 /// `Key` where the value is no text, or `OutOfMemory`.
-fn text_of(alloc: Global, value: &Value, key: Key) -> Result<Option<String>, SettingsFault>
+fn text_of(alloc: Global, value: &Value, key: Key) -> Result<Option<String>, Fault>
     ensures { Gives (option_map string_bytes) result
-        (needed key (option_map Some (as_str (view value.now)))) }
+        (value_at_key key (option_map Some (as_str (view value.now)))) }
 {
     match value.as_str() {
         Some(text) => Ok(Some(String::from_str(alloc, text)?)),
-        None => Err(SettingsFault::Key(key)),
+        None => Err(Fault::Key(key)),
     }
 }
 
@@ -77,17 +73,12 @@ fn value_at<'a>(table: &'a Table, key: Key) -> Option<&'a Value>
 ///
 /// # Errors
 /// `Key` where it is missing, no number, or out of this range.
-pub(crate) fn number_at(
-    table: &Table,
-    key: Key,
-    least: u64,
-    most: u64,
-) -> Result<u64, SettingsFault>
+pub(crate) fn number_at(table: &Table, key: Key, least: u64, most: u64) -> Result<u64, Fault>
     ensures exact { result ≡ number_at key least most (table_view table.now) }
     ensures least { IfOk result (λ number. least ≤ number) }
     ensures most { IfOk result (λ number. number ≤ most) }
 {
-    number_in(table, key, least, most).ok_or(SettingsFault::Key(key))
+    number_in(table, key, least, most).ok_or(Fault::Key(key))
 }
 
 /// The number at a key; `None` where it is missing, no number, or not from `least` to `most`.
@@ -109,12 +100,12 @@ pub(crate) fn number_or(
     absent: u64,
     least: u64,
     most: u64,
-) -> Result<u64, SettingsFault>
+) -> Result<u64, Fault>
     requires usual { least ≤ absent }
     ensures exact { result ≡ number_or key absent least most (table_view table.now) }
     ensures least { IfOk result (λ number. least ≤ number) }
 {
-    number_or_in(table, key, absent, least, most).ok_or(SettingsFault::Key(key))
+    number_or_in(table, key, absent, least, most).ok_or(Fault::Key(key))
 }
 
 /// The number at a key, or `absent` where the key is absent; `None` where a value stands there that is no number from `least` to
@@ -139,10 +130,10 @@ pub(crate) fn number_or_none(
     key: Key,
     least: u64,
     most: u64,
-) -> Result<Option<u64>, SettingsFault>
+) -> Result<Option<u64>, Fault>
     ensures { result ≡ number_or_none key least most (table_view table.now) }
 {
-    number_or_none_in(table, key, least, most).ok_or(SettingsFault::Key(key))
+    number_or_none_in(table, key, least, most).ok_or(Fault::Key(key))
 }
 
 /// The number at a key, or none where the key is absent; `None` where a value stands there that is no number from `least` to
@@ -160,10 +151,10 @@ fn number_or_none_in(table: &Table, key: Key, least: u64, most: u64) -> Option<O
 ///
 /// # Errors
 /// `Key` where a value stands there that is neither.
-pub(crate) fn flag_or_false(table: &Table, key: Key) -> Result<bool, SettingsFault>
+pub(crate) fn flag_or_false(table: &Table, key: Key) -> Result<bool, Fault>
     ensures { result ≡ flag_or_false key (table_view table.now) }
 {
-    flag_or_false_in(table, key).ok_or(SettingsFault::Key(key))
+    flag_or_false_in(table, key).ok_or(Fault::Key(key))
 }
 
 /// Whether a key says `true`; `None` where a value stands there that is neither `true` nor `false`.
@@ -203,13 +194,13 @@ fn number_within(integer: i64, least: u64, most: u64) -> Option<u64>
 ///
 /// # Errors
 /// `Key` where there is no such table, or an address in it is no text; or `OutOfMemory`.
-pub(crate) fn collectors_at(alloc: Global, table: &Table) -> Result<Vec<Collector>, SettingsFault>
+pub(crate) fn collectors_at(alloc: Global, table: &Table) -> Result<Vec<Collector>, Fault>
     ensures exact { Gives pairs result (collectors_at (table_view table.now)) }
-    ensures sorted { IfOk result (λ collectors. Ascend (pairs collectors)) }
+    ensures sorted { IfOk result (λ collectors. AscendByOctets (pairs collectors)) }
 {
     match value_at(table, Key::Deliver) {
         Some(Value::Table(addresses)) => collectors_in(alloc, addresses),
-        _ => Err(SettingsFault::Key(Key::Deliver)),
+        _ => Err(Fault::Key(Key::Deliver)),
     }
 }
 
@@ -217,10 +208,10 @@ pub(crate) fn collectors_at(alloc: Global, table: &Table) -> Result<Vec<Collecto
 ///
 /// # Errors
 /// `Key` where an address is no text, or `OutOfMemory`.
-fn collectors_in(alloc: Global, addresses: &Table) -> Result<Vec<Collector>, SettingsFault>
+fn collectors_in(alloc: Global, addresses: &Table) -> Result<Vec<Collector>, Fault>
     ensures exact { Gives pairs result
-        (needed key.Deliver (collectors_of (table_view addresses.now))) }
-    ensures sorted { IfOk result (λ collectors. Ascend (pairs collectors)) }
+        (value_at_key key.Deliver (collectors_of (table_view addresses.now))) }
+    ensures sorted { IfOk result (λ collectors. AscendByOctets (pairs collectors)) }
 {
     let mut collectors = Vec::new(alloc);
     'addresses: for (subscriber, value) in addresses.iter() {
@@ -234,8 +225,8 @@ fn collectors_in(alloc: Global, addresses: &Table) -> Result<Vec<Collector>, Set
 ///
 /// # Errors
 /// `Key` where the value is no text, or `OutOfMemory`.
-fn collector_of(alloc: Global, subscriber: &str, value: &Value) -> Result<Collector, SettingsFault>
-    ensures { Gives pair result (needed key.Deliver
+fn collector_of(alloc: Global, subscriber: &str, value: &Value) -> Result<Collector, Fault>
+    ensures { Gives pair result (value_at_key key.Deliver
         (option_map (λ address. (subscriber.now, address)) (as_str (view value.now)))) }
 {
     match value.as_str() {
@@ -243,6 +234,6 @@ fn collector_of(alloc: Global, subscriber: &str, value: &Value) -> Result<Collec
             subscriber: String::from_str(alloc, subscriber)?,
             address: String::from_str(alloc, address)?,
         }),
-        None => Err(SettingsFault::Key(Key::Deliver)),
+        None => Err(Fault::Key(Key::Deliver)),
     }
 }

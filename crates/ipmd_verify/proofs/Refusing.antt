@@ -4,15 +4,15 @@ use Rattle.std.specs.Prelude.{Result, Ok, Err}
 use Rattle.std.specs.Result.{IsErr, IsErrAnd, IfErr}
 use Rattle.std.specs.Io.KnownBytes.{Keeps}
 use Rattle.ipmd_command_line.specs.declared.task.VerifyOptions.{VerifyOptions}
-use Rattle.ipmd_commands.specs.declared.fault.ProgramFault.{ProgramFault}
-use Rattle.ipmd_commands.specs.declared.fault.ProgramFault.TheVariants.{Device, OutOfMemory}
-use Rattle.ipmd_commands.specs.Failures.{IsFileFault, IsNamed}
-use Rattle.ipmd_commands.specs.HexText.{WritesSome}
+use Rattle.ipmd_commands.specs.declared.fault.Fault.{Fault as ProgramFault}
+use Rattle.ipmd_commands.specs.declared.fault.Fault.TheVariants.{Device, OutOfMemory}
+use Rattle.ipmd_commands.specs.Failures.{IsFileFault, NamesFile}
+use Rattle.ipmd_commands.specs.HexText.{WritesSomeOf}
 use Rattle.event_journal.specs.declared.entry.Entry.{Entry}
 use Rattle.history_verify.specs.declared.verified.Verified.{Verified}
 use Rattle.history_verify.specs.Answers.{IsVerified}
 use Rattle.history_verify.specs.Counts.{counts_of}
-use Rattle.ipmd_verify.specs.Found.{IsFound, RefusesFile}
+use Rattle.ipmd_verify.specs.Found.{IsFoundIn, RefusesFile}
 use Rattle.ipmd_verify.specs.Verifying.{BeginsToTell, RefusesToVerify, RefusesToVerifyFile, text_of, told_of}
 
 -- an error that is handed on
@@ -25,7 +25,7 @@ pub unopened : (options : VerifyOptions) (e : ProgramFault) (held holds : Option
 unopened options e held holds fault kept = (None, inl ((Device None, tt, fault), kept))
 
 -- it is refused
-pub refused : (quiet : Bool) (path : List ℕ) (fault e : ProgramFault) (given held holds : Option (List ℕ)) → RefusesFile fault given → IsNamed path fault e → Keeps held holds → RefusesToVerify quiet path e given held holds
+pub refused : (quiet : Bool) (path : List ℕ) (fault e : ProgramFault) (given held holds : Option (List ℕ)) → RefusesFile fault given → NamesFile path fault e → Keeps held holds → RefusesToVerify quiet path e given held holds
 refused quiet path fault e given held holds refuses named kept = inl ((fault, refuses, named), kept)
 
 -- there is no memory for what it discloses
@@ -38,11 +38,11 @@ found_is_told true h v is = ap (λ counts. text_of true counts []) is.subs
 found_is_told false h v is = ap (λ counts. text_of false counts v.audit.items) is.subs ∙ ap (λ audit. text_of false (counts_of h) audit) is.audit
 
 -- a front of it was written
-pub begun : (quiet : Bool) (given held holds : Option (List ℕ)) (v : Verified) (text : List ℕ) → IsFound (not quiet) given v → text ≡ text_of quiet v.subs.items v.audit.items
-    → WritesSome text held holds → BeginsToTell quiet given held holds
+pub begun : (quiet : Bool) (given held holds : Option (List ℕ)) (v : Verified) (text : List ℕ) → IsFoundIn (not quiet) given v → text ≡ text_of quiet v.subs.items v.audit.items
+    → WritesSomeOf text held holds → BeginsToTell quiet given held holds
 begun quiet given held holds v text found is written = record {
   history = found.history;
   said = found.said;
   legal = found.verified.legal;
-  written = subst (λ t. WritesSome t held holds) (is ∙ found_is_told quiet found.history v found.verified) written;
+  written = subst (λ t. WritesSomeOf t held holds) (is ∙ found_is_told quiet found.history v found.verified) written;
 }

@@ -3,7 +3,7 @@ use Rattle.std.specs.Prelude.{◌≡◌, ℕ, ◌≤◌, Bool, List, ◌++◌, O
 use Rattle.event_journal.specs.declared.entry.Entry.{Entry}
 use Rattle.event_journal.specs.declared.limits.TheConstants.{MOST_ENTRIES}
 use Rattle.journal_files.specs.Reading.{entries_behind, file_of}
-use Rattle.journal_files.specs.Streaming.{Place, place_behind}
+use Rattle.journal_files.specs.Streaming.{FilePlace, place_behind}
 use Rattle.history_verify.specs.declared.verifier.Verifier.{Verifier}
 use Rattle.history_verify.specs.Standing.{IsFed, keeps_audit}
 
@@ -14,18 +14,18 @@ IsRest (Some octets) None h left = ⊥
 IsRest (Some octets) (Some rest) h left = file_of octets ≡ entries_behind h left rest
 
 -- these are the entries of the file before this place
-pub record IsReadTo (given now : Option (List ℕ)) (place : Place) (h : List Entry) : Type 0 where
+pub record IsReadTo (given now : Option (List ℕ)) (place : FilePlace) (h : List Entry) : Type 0 where
   pub there : place ≡ place_behind h place.left
   pub few : length h ≤ MOST_ENTRIES
   pub rest : IsRest given now h place.left
 
 -- these are behind the entries of h
-pub record GoesOnTo (given now : Option (List ℕ)) (place : Place) (h : List Entry) : Type 0 where
+pub record GoesOnTo (given now : Option (List ℕ)) (place : FilePlace) (h : List Entry) : Type 0 where
   pub more : List Entry
   pub reads : IsReadTo given now place (h ++ more)
 
 -- these are they, and a verifier was fed them, which keeps the audit's entries where they are wanted
-pub record IsFedTo (wanted : Bool) (given now : Option (List ℕ)) (place : Place) (v : Verifier) : Type 0 where
+pub record IsFedTo (wanted : Bool) (given now : Option (List ℕ)) (place : FilePlace) (v : Verifier) : Type 0 where
   pub history : List Entry
   pub reads : IsReadTo given now place history
   pub fed : IsFed v history

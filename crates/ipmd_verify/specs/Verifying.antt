@@ -11,10 +11,10 @@ use Rattle.history_verify.specs.declared.count.Count.{Count}
 use Rattle.history_verify.specs.Counts.{counts_of}
 use Rattle.history_verify.specs.Legal.{IsLegal}
 use Rattle.ipmd_command_line.specs.declared.task.VerifyOptions.{VerifyOptions}
-use Rattle.ipmd_commands.specs.declared.fault.ProgramFault.{ProgramFault}
+use Rattle.ipmd_commands.specs.declared.fault.Fault.{Fault as ProgramFault}
 use Rattle.ipmd_commands.specs.declared.failure.Place.TheVariants.{Output}
-use Rattle.ipmd_commands.specs.Failures.{FailedAt, IsNamed}
-use Rattle.ipmd_commands.specs.HexText.{WritesSome}
+use Rattle.ipmd_commands.specs.Failures.{FailedAt, NamesFile}
+use Rattle.ipmd_commands.specs.HexText.{WritesSomeOf}
 use Rattle.ipmd_verify.specs.Found.{Says, RefusesFile}
 
 -- ---- the text
@@ -51,12 +51,12 @@ pub record BeginsToTell (quiet : Bool) (given held holds : Option (List ℕ)) : 
   pub history : List Entry
   pub said : Says given history
   pub legal : IsLegal history
-  pub written : WritesSome (told_of quiet history) held holds
+  pub written : WritesSomeOf (told_of quiet history) held holds
 
 -- the file of this path is refused, and nothing was written; or the output failed
 abbrev pub RefusesToVerify : Bool → List ℕ → ProgramFault → Option (List ℕ) → Option (List ℕ) → Option (List ℕ) → Type 0
 RefusesToVerify quiet path e given held holds =
-    (((fault : ProgramFault) × RefusesFile fault given × IsNamed path fault e) × Keeps held holds) ⊎ (FailedAt Output e × BeginsToTell quiet given held holds)
+    (((fault : ProgramFault) × RefusesFile fault given × NamesFile path fault e) × Keeps held holds) ⊎ (FailedAt Output e × BeginsToTell quiet given held holds)
 
 -- what a file holds isn't told here
 abbrev pub VerifiesFile : Bool → Option (List ℕ) → Option (List ℕ) → Type 0

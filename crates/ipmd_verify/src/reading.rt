@@ -3,15 +3,15 @@ ghost use Rattle.std.specs.Prelude.{◌≡◌, List, ℕ, Option, IfOk, IfErr, O
 ghost use Rattle.event_journal.specs.declared.entry.Entry.{Entry as OneEntry};
 ghost use Rattle.history_verify.specs.Answers.{NamesFirstOfAny};
 ghost use Rattle.ipmd_commands.specs.Status.{read_fault_of};
-ghost use Rattle.ipmd_verify.specs.Found.{IsFound, RefusesFile, SaysOn};
+ghost use Rattle.ipmd_verify.specs.Found.{IsFoundIn, RefusesFile, SaysOn};
 ghost use Rattle.ipmd_verify.specs.Reading.{IsReadTo};
 ghost use Rattle.ipmd_verify.specs.Faults.{verify_fault_of};
 
 use crate::progress::Progress;
 use event_journal::Entry;
-use history_verify::{Verified, Verifier, VerifyFault};
-use ipmd_commands::ProgramFault;
-use journal_files::{JournalReader, ReadFault};
+use history_verify::{Fault as VerifyFault, Verified, Verifier};
+use ipmd_commands::Fault as ProgramFault;
+use journal_files::{Fault, JournalReader};
 use octet_io::Source;
 use std::alloc::Global;
 
@@ -27,7 +27,7 @@ pub(crate) fn read_history<S: Source, P: Progress>(
     source: &mut S,
     progress: &mut P,
 ) -> Result<Verified, ProgramFault>
-    ensures ok { IfOk result (IsFound audit (S.remaining source.old)) }
+    ensures ok { IfOk result (IsFoundIn audit (S.remaining source.old)) }
     ensures err { IfErr result (λ e. RefusesFile e (S.remaining source.old)) }
 {
     let mut reader = JournalReader::start(alloc, source)?;
@@ -70,7 +70,7 @@ pub fn refusal<S: Source>(
 }
 
 /// Reads the entries that are left.
-fn read_rest<S: Source>(reader: &mut JournalReader, source: &mut S) -> Result<(), ReadFault>
+fn read_rest<S: Source>(reader: &mut JournalReader, source: &mut S) -> Result<(), Fault>
     ensures ok { OnOk result ((given : Option (List ℕ)) (h : List OneEntry)
         → IsReadTo given (S.remaining source.old) reader.old h → SaysOn given h) }
     ensures err { IfErr result (λ e. (given : Option (List ℕ)) (h : List OneEntry)

@@ -7,7 +7,7 @@ use crate::progress::Progress;
 use crate::reading::read_history;
 use crate::telling::text_of;
 use ipmd_command_line::VerifyOptions;
-use ipmd_commands::{ProgramFault, of_file, write_text};
+use ipmd_commands::{Fault as ProgramFault, of_file, write_text};
 use octet_io::Device;
 use std::alloc::Global;
 use std::fs;

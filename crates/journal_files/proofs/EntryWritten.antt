@@ -11,9 +11,9 @@ use Rattle.sequences.proofs.ResultLaws.{same_Ok, Err-Ok, bind_Ok}
 use Rattle.policy_text.specs.Naming.{is_name}
 use Rattle.event_journal.specs.declared.entry.Entry.{Entry}
 use Rattle.event_journal.specs.declared.entry.Entry.TheVariants.{Open, Close, Message, Edit, Subscribe, Unsubscribe, Advance, Cut}
-use Rattle.journal_files.specs.declared.fault.JournalFault.TheVariants.{Truncated, BadEntry}
+use Rattle.journal_files.specs.declared.fault.Fault.TheVariants.{Truncated, BadEntry}
 use Rattle.journal_files.specs.Format.{octets_of}
-use Rattle.journal_files.specs.Reading.{Found, front_of, number_of, numbered, message_of, edit_of, subscribe_of, entry_by, entry_of}
+use Rattle.journal_files.specs.Reading.{Finding, front_of, number_of, numbered_entry, message_of, edit_of, subscribe_of, entry_by, entry_of}
 use Rattle.journal_files.specs.Laws.{EntryWrittenBack}
 use Rattle.journal_files.proofs.NumberLaws.{be_octets-be_value}
 use Rattle.journal_files.proofs.EntryRead.{found}
@@ -64,8 +64,8 @@ number_found width octets n rest are e =
 
 -- ---- entries, behind the octet of their kind
 
-numbered_found : (entry : ℕ → Entry) (kind : ℕ) → ((n : ℕ) → octets_of (entry n) ≡ kind ∷ be_octets 8 n) → (octets rest : List ℕ) (e : Entry) → AreOctets octets → numbered entry octets ≡ found e rest → kind ∷ octets ≡ octets_of e ++ rest
-unfolding numbered
+numbered_found : (entry : ℕ → Entry) (kind : ℕ) → ((n : ℕ) → octets_of (entry n) ≡ kind ∷ be_octets 8 n) → (octets rest : List ℕ) (e : Entry) → AreOctets octets → numbered_entry entry octets ≡ found e rest → kind ∷ octets ≡ octets_of e ++ rest
+unfolding numbered_entry
 numbered_found entry kind spelled octets rest e are eq =
     let b = bind_Ok (number_of 8 octets) (λ number. found (entry number.0) number.1) (e, rest) eq in
     let n = number_found 8 octets b.0.0 b.0.1 are b.1 in
@@ -82,13 +82,13 @@ behind_three octets a one b two c three e f g = behind_two octets a one (b ++ c)
 behind_four : (octets a one b two c three d four : List ℕ) → octets ≡ a ++ one → one ≡ b ++ two → two ≡ c ++ three → three ≡ d ++ four → octets ≡ (a ++ (b ++ (c ++ d))) ++ four
 behind_four octets a one b two c three d four e f g h = behind_two octets a one (b ++ (c ++ d)) four e (behind_three one b two c three d four f g h)
 
-abbrev pub message_part : ℕ → ℕ → ℕ × List ℕ → Found Entry
+abbrev pub message_part : ℕ → ℕ → ℕ × List ℕ → Finding Entry
 message_part session number len = front_of len.0 len.1 >>= λ message. Ok (Message session number message.0, message.1)
 
-abbrev pub length_part : ℕ → ℕ × List ℕ → Found Entry
+abbrev pub length_part : ℕ → ℕ × List ℕ → Finding Entry
 length_part session number = number_of 4 number.1 >>= message_part session number.0
 
-abbrev pub number_part : ℕ × List ℕ → Found Entry
+abbrev pub number_part : ℕ × List ℕ → Finding Entry
 number_part session = number_of 8 session.1 >>= length_part session.0
 
 message_found : (octets rest : List ℕ) (e : Entry) → AreOctets octets → message_of octets ≡ found e rest → 3 ∷ octets ≡ octets_of e ++ rest
@@ -112,7 +112,7 @@ pub tested : (x : Entry) (rest : List ℕ) (y : Entry × List ℕ) (b : Bool) �
 tested x rest y true e = same_Ok _ _ e
 tested x rest y false e = absurd (Err-Ok _ _ e)
 
-abbrev pub text_part : ℕ × List ℕ → Found Entry
+abbrev pub text_part : ℕ × List ℕ → Finding Entry
 text_part len = front_of len.0 len.1 >>= λ text. cond (is_utf8 text.0) (found (Edit text.0) text.1) (Err BadEntry)
 
 edit_found : (octets rest : List ℕ) (e : Entry) → AreOctets octets → edit_of octets ≡ found e rest → 4 ∷ octets ≡ octets_of e ++ rest
@@ -127,10 +127,10 @@ edit_found octets rest e are eq =
     ap (λ (t : List ℕ). 4 ∷ t) (behind_two octets (be_octets 8 (length t.0.0)) l.0.1 t.0.0 t.0.1 digits text.whole)
     ∙ ap (λ (p : Entry × List ℕ). octets_of p.0 ++ p.1) pair
 
-abbrev pub name_part : ℕ → ℕ × List ℕ → Found Entry
+abbrev pub name_part : ℕ → ℕ × List ℕ → Finding Entry
 name_part sub len = front_of len.0 len.1 >>= λ name. cond (is_name name.0) (found (Subscribe sub name.0) name.1) (Err BadEntry)
 
-abbrev pub name_length_part : ℕ × List ℕ → Found Entry
+abbrev pub name_length_part : ℕ × List ℕ → Finding Entry
 name_length_part sub = number_of 1 sub.1 >>= name_part sub.0
 
 subscribe_found : (octets rest : List ℕ) (e : Entry) → AreOctets octets → subscribe_of octets ≡ found e rest → 5 ∷ octets ≡ octets_of e ++ rest
@@ -150,7 +150,7 @@ subscribe_found octets rest e are eq =
 -- ---- an entry
 
 -- one kind, or another
-pub by_kind : {P : Type 0} (kind i : ℕ) (one other : Found Entry) (y : Entry × List ℕ) (b : Bool) → eqb kind i ≡ b → cond b one other ≡ Ok y → (kind ≡ i → one ≡ Ok y → P) → (other ≡ Ok y → P) → P
+pub by_kind : {P : Type 0} (kind i : ℕ) (one other : Finding Entry) (y : Entry × List ℕ) (b : Bool) → eqb kind i ≡ b → cond b one other ≡ Ok y → (kind ≡ i → one ≡ Ok y → P) → (other ≡ Ok y → P) → P
 by_kind kind i one other y true is e here there = here (eqb-true kind i is) e
 by_kind kind i one other y false is e here there = there e
 

@@ -9,17 +9,17 @@ use Rattle.sequences.proofs.ResultLaws.{same_Ok, same_Err, Err-Ok, bind_Ok}
 use Rattle.policy_text.specs.Naming.{is_name}
 use Rattle.event_journal.specs.declared.entry.Entry.{Entry}
 use Rattle.event_journal.specs.declared.entry.Entry.TheVariants.{Open, Close, Message, Edit, Subscribe, Unsubscribe, Advance, Cut}
-use Rattle.journal_files.specs.declared.fault.JournalFault.{JournalFault}
-use Rattle.journal_files.specs.declared.fault.JournalFault.TheVariants.{Truncated, BadEntry}
-use Rattle.journal_files.specs.Reading.{Found, front_of, number_of, numbered, message_of, edit_of, subscribe_of, entry_by}
+use Rattle.journal_files.specs.declared.fault.Fault.{Fault}
+use Rattle.journal_files.specs.declared.fault.Fault.TheVariants.{Truncated, BadEntry}
+use Rattle.journal_files.specs.Reading.{Finding, front_of, number_of, numbered_entry, message_of, edit_of, subscribe_of, entry_by}
 use Rattle.journal_files.specs.Gathering.{front_octets, announced}
 use Rattle.journal_files.proofs.EntryRead.{found}
 use Rattle.journal_files.proofs.EntryWritten.{message_part, length_part, number_part, text_part, name_part, name_length_part, tested, by_kind}
 
 -- what a step that failed was given
-pub bind_Err : {A B : Type 0} (r : Result A JournalFault) (f : A → Result B JournalFault) (why : JournalFault) → (r >>= f) ≡ Err why → (r ≡ Err why) ⊎ ((x : A) × (r ≡ Ok x) × (f x ≡ Err why))
+pub bind_Err : {A B : Type 0} (r : Result A Fault) (f : A → Result B Fault) (why : Fault) → (r >>= f) ≡ Err why → (r ≡ Err why) ⊎ ((x : A) × (r ≡ Ok x) × (f x ≡ Err why))
 bind_Err (Ok x) f why e = inr (x, refl, e)
-bind_Err {A} {B} (Err k) f why e = inl (let err : JournalFault → Result A JournalFault = λ t. Err t in ap err (same_Err {A = B} k why e))
+bind_Err {A} {B} (Err k) f why e = inl (let err : Fault → Result A Fault = λ t. Err t in ap err (same_Err {A = B} k why e))
 
 -- ---- the front of octets
 
@@ -76,8 +76,8 @@ number_short width octets e =
 
 -- ---- entries that are whole
 
-numbered_whole : (entry : ℕ → Entry) (octets rest : List ℕ) (e : Entry) → numbered entry octets ≡ found e rest → length octets ≡ 8 + length rest
-unfolding numbered
+numbered_whole : (entry : ℕ → Entry) (octets rest : List ℕ) (e : Entry) → numbered_entry entry octets ≡ found e rest → length octets ≡ 8 + length rest
+unfolding numbered_entry
 numbered_whole entry octets rest e eq =
     let b = bind_Ok (number_of 8 octets) (λ number. found (entry number.0) number.1) (e, rest) eq in
     let n = number_cut 8 octets b.0.0 b.0.1 b.1 in
@@ -148,8 +148,8 @@ kind_whole kind octets rest e eq =
 
 -- ---- entries that are cut off
 
-numbered_short : (entry : ℕ → Entry) (octets : List ℕ) → numbered entry octets ≡ Err Truncated → length octets < 8
-unfolding numbered
+numbered_short : (entry : ℕ → Entry) (octets : List ℕ) → numbered_entry entry octets ≡ Err Truncated → length octets < 8
+unfolding numbered_entry
 numbered_short entry octets e =
     elim (bind_Err (number_of 8 octets) (λ number. found (entry number.0) number.1) Truncated e) [
       | inl short ↦ number_short 8 octets short
@@ -240,7 +240,7 @@ numbered_cut_off : (kind : ℕ) (octets : List ℕ) → front_octets kind ≡ So
 numbered_cut_off kind octets front few = (9, front, omega (arith, few))
 
 -- one kind, or another
-fault_by_kind : {P : Type 0} (kind i : ℕ) (one other : Found Entry) (why : JournalFault) (b : Bool) → eqb kind i ≡ b → cond b one other ≡ Err why → (kind ≡ i → one ≡ Err why → P) → (other ≡ Err why → P) → P
+fault_by_kind : {P : Type 0} (kind i : ℕ) (one other : Finding Entry) (why : Fault) (b : Bool) → eqb kind i ≡ b → cond b one other ≡ Err why → (kind ≡ i → one ≡ Err why → P) → (other ≡ Err why → P) → P
 fault_by_kind kind i one other why true is e here there = here (eqb-true kind i is) e
 fault_by_kind kind i one other why false is e here there = there e
 

@@ -5,15 +5,15 @@ use Rattle.std.proofs.lemmas.Bool.{le-ltb, eqb-true, eq-eqb}
 use Rattle.std.proofs.lemmas.List.{drop_at}
 use Rattle.std.proofs.lemmas.List.Elements.{All-head, All-tail}
 use Rattle.std.proofs.lemmas.List.Sums.{sum_by-append, sum_by-cons}
-use Rattle.sequences.specs.Octets.{be_octets, AreOctets, IsNumber}
+use Rattle.sequences.specs.Octets.{be_octets, AreOctets, IsNumberIn}
 use Rattle.sequences.specs.Results.{◌>>=◌}
 use Rattle.sequences.proofs.OctetLaws.{AreOctets-drop}
 use Rattle.sequences.proofs.ResultLaws.{same_Ok, Err-Ok, bind_Ok}
 use Rattle.event_journal.specs.declared.entry.Entry.{Entry}
 use Rattle.event_journal.specs.declared.limits.TheConstants.{MOST_ENTRIES, MOST_OCTETS}
 use Rattle.event_journal.specs.Sizes.{entry_octets, history_octets}
-use Rattle.journal_files.specs.declared.fault.JournalFault.{JournalFault}
-use Rattle.journal_files.specs.declared.fault.JournalFault.TheVariants.{BadMagic, BadVersion, BadEntry}
+use Rattle.journal_files.specs.declared.fault.Fault.{Fault}
+use Rattle.journal_files.specs.declared.fault.Fault.TheVariants.{BadMagic, BadVersion, BadEntry}
 use Rattle.journal_files.specs.Format.{magic, version, head_octets, octets_of, history_in_octets}
 use Rattle.journal_files.specs.Reading.{number_of, past_number, head_of, entry_of, is_past, pushed_of, entries_behind, file_of}
 use Rattle.journal_files.specs.Laws.{IsWritten, FileReadBack, FileWrittenBack}
@@ -23,7 +23,7 @@ use Rattle.journal_files.proofs.EntryWritten.{number_found, entry_written_back}
 
 -- ---- the head
 
-past_number_read : (width n : ℕ) (fault : JournalFault) (a rest : List ℕ) → IsNumber width a n → past_number width n fault (a ++ rest) ≡ Ok rest
+past_number_read : (width n : ℕ) (fault : Fault) (a rest : List ℕ) → IsNumberIn width a n → past_number width n fault (a ++ rest) ≡ Ok rest
 unfolding past_number
 past_number_read width n fault a rest is = rw (number_read width n a rest is, eq-eqb n n refl) refl
 
@@ -41,11 +41,11 @@ record IsPast (width n : ℕ) (octets rest : List ℕ) : Type 0 where
   pub whole : octets ≡ be_octets width n ++ rest
   pub rest_are : AreOctets rest
 
-past_by : (n expected : ℕ) (after rest : List ℕ) (fault : JournalFault) (same : Bool) → eqb n expected ≡ same → cond same (Ok after) (Err fault) ≡ Ok rest → (n ≡ expected) × (after ≡ rest)
+past_by : (n expected : ℕ) (after rest : List ℕ) (fault : Fault) (same : Bool) → eqb n expected ≡ same → cond same (Ok after) (Err fault) ≡ Ok rest → (n ≡ expected) × (after ≡ rest)
 past_by n expected after rest fault true is e = (eqb-true n expected is, same_Ok _ _ e)
 past_by n expected after rest fault false is e = absurd (Err-Ok _ _ e)
 
-past_number_found : (width n : ℕ) (fault : JournalFault) (octets rest : List ℕ) → AreOctets octets → past_number width n fault octets ≡ Ok rest → IsPast width n octets rest
+past_number_found : (width n : ℕ) (fault : Fault) (octets rest : List ℕ) → AreOctets octets → past_number width n fault octets ≡ Ok rest → IsPast width n octets rest
 unfolding past_number
 past_number_found width n fault octets rest are e =
     let b = bind_Ok (number_of width octets) (λ number. cond (eqb number.0 n) (Ok number.1) (Err fault)) rest e in
@@ -81,12 +81,12 @@ pushed h entry few small = rw (le-ltb MOST_ENTRIES (length h + 1) few, le-ltb MO
 
 entries_read : (h done : List Entry) → All IsWritten h → length done + length h ≤ MOST_ENTRIES → history_octets done + history_octets h ≤ MOST_OCTETS → entries_behind done (length h) (history_in_octets h) ≡ Ok (done ++ h)
 unfolding entries_behind
-entries_read [] done written few small = let ok : List Entry → Result (List Entry) JournalFault = λ t. Ok t in ap ok (sym (append-nil done))
+entries_read [] done written few small = let ok : List Entry → Result (List Entry) Fault = λ t. Ok t in ap ok (sym (append-nil done))
 entries_read (entry ∷ h) done written few small =
     let one : history_octets (done ++ entry ∷ []) ≡ history_octets done + entry_octets entry = sum_by-append entry_octets done (entry ∷ []) ∙ omega (arith, sum_by-cons entry_octets entry []) in
     let all : history_octets (entry ∷ h) ≡ entry_octets entry + history_octets h = sum_by-cons entry_octets entry h in
     let longer : length (done ++ entry ∷ []) ≡ length done + 1 = length-append done (entry ∷ []) in
-    let ok : List Entry → Result (List Entry) JournalFault = λ t. Ok t in
+    let ok : List Entry → Result (List Entry) Fault = λ t. Ok t in
     let push = pushed done entry (omega (arith, few)) (omega (arith, small, all)) in
     let others = entries_read h (done ++ entry ∷ []) (All-tail IsWritten entry h written) (omega (arith, few, longer)) (omega (arith, small, all, one)) in
     rw (entry_read_back entry (history_in_octets h) (All-head IsWritten entry h written), push) (others ∙ ap ok (append_assoc done (entry ∷ []) h))

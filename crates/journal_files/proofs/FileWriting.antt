@@ -9,10 +9,11 @@ use Rattle.std.proofs.lemmas.List.{take-append-drop}
 use Rattle.std.proofs.lemmas.Grind.{flat_map-append}
 use Rattle.sequences.proofs.ListLaws.{take-add-append}
 use Rattle.event_journal.specs.declared.entry.Entry.{Entry}
+use Rattle.journal_files.specs.Faults.{IsWritingFault}
 use Rattle.journal_files.specs.Format.{octets_of, head_octets, history_in_octets, file_octets}
 use Rattle.journal_files.specs.Writing.{Stops, WritesSome}
-use Rattle.journal_files.specs.declared.writing.WriteFault.{WriteFault}
-use Rattle.journal_files.specs.declared.writing.WriteFault.TheVariants.{Write, OutOfMemory}
+use Rattle.journal_files.specs.declared.fault.Fault.{Fault}
+use Rattle.journal_files.specs.declared.fault.Fault.TheVariants.{BadMagic, BadVersion, Truncated, BadEntry, Read, Write, OutOfMemory}
 use Rattle.journal_files.proofs.HistoryLaws.{written_more, written_all}
 
 -- so many entries were written behind the head, and as many are left as the writer says
@@ -44,7 +45,7 @@ writing_end held holds h position left r none at so =
     subst (Appends held holds) (written_all (head_octets (length h) ++ history_in_octets (take position h)) (head_octets (length h)) h position r none at refl) so.written
 
 -- where it stops, a front was written of all that is due
-stopped : (e : WriteFault) (held holds after : Option (List ℕ)) (front due rest all : List ℕ) (was now : Bool) → all ≡ front ++ (due ++ rest) → Appends held holds front → Stops e holds after due was now → WritesSome held after all
+stopped : (e : Fault) (held holds after : Option (List ℕ)) (front due rest all : List ℕ) (was now : Bool) → all ≡ front ++ (due ++ rest) → Appends held holds front → Stops e holds after due was now → WritesSome held after all
 stopped (Write sent) held holds after front due rest all was now is before stops =
     let parts : all ≡ (front ++ take sent due) ++ (drop sent due ++ rest) =
     is ∙ ap (λ t. front ++ t) (ap (λ t. t ++ rest) (sym (take-append-drop sent due)) ∙ append_assoc (take sent due) (drop sent due) rest) ∙ sym (append_assoc front (take sent due) (drop sent due ++ rest)) in (
@@ -61,12 +62,27 @@ stopped OutOfMemory held holds after front due rest all was now is before stops 
     take_front : (xs ys : List ℕ) → take (length xs) (xs ++ ys) ≡ xs
     take_front [] ys = refl
     take_front (x ∷ xs) ys = ap (λ (zs : List ℕ). x ∷ zs) (take_front xs ys)
+stopped BadMagic held holds after front due rest all was now is before stops = absurd stops
+stopped BadVersion held holds after front due rest all was now is before stops = absurd stops
+stopped Truncated held holds after front due rest all was now is before stops = absurd stops
+stopped BadEntry held holds after front due rest all was now is before stops = absurd stops
+stopped Read held holds after front due rest all was now is before stops = absurd stops
 
-pub stops_at_head : (e : WriteFault) (held after : Option (List ℕ)) (h : List Entry) (n : ℕ) (was now : Bool) → n ≡ length h → Stops e held after (head_octets n) was now → WritesSome held after (file_octets h)
+-- what stops is the sink, or want of memory
+pub writing_fault : (e : Fault) (old new : Option (List ℕ)) (due : List ℕ) (was has : Bool) → Stops e old new due was has → IsWritingFault e
+writing_fault (Write sent) old new due was has stops = tt
+writing_fault OutOfMemory old new due was has stops = tt
+writing_fault BadMagic old new due was has stops = absurd stops
+writing_fault BadVersion old new due was has stops = absurd stops
+writing_fault Truncated old new due was has stops = absurd stops
+writing_fault BadEntry old new due was has stops = absurd stops
+writing_fault Read old new due was has stops = absurd stops
+
+pub stops_at_head : (e : Fault) (held after : Option (List ℕ)) (h : List Entry) (n : ℕ) (was now : Bool) → n ≡ length h → Stops e held after (head_octets n) was now → WritesSome held after (file_octets h)
 stops_at_head e held after h n was now is stops =
     stopped e held held after [] (head_octets n) (history_in_octets h) (file_octets h) was now (ap (λ m. head_octets m ++ history_in_octets h) (sym is)) (Appends-nil held) stops
 
-pub stops_at_entry : (e : WriteFault) (held holds after : Option (List ℕ)) (h : List Entry) (position left : ℕ) (entry : Entry) (was now : Bool) → slice_get h position ≡ Some entry
+pub stops_at_entry : (e : Fault) (held holds after : Option (List ℕ)) (h : List Entry) (position left : ℕ) (entry : Entry) (was now : Bool) → slice_get h position ≡ Some entry
     → IsWriting held holds h position left → Stops e holds after (octets_of entry) was now → WritesSome held after (file_octets h)
 stops_at_entry e held holds after h position left entry was now at so stops =
     let more : (head_octets (length h) ++ history_in_octets (take position h)) ++ octets_of entry ≡ head_octets (length h) ++ history_in_octets (take (position + 1) h) =

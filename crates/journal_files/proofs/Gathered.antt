@@ -3,7 +3,7 @@ use Rattle.std.proofs.Common.{◌≡◌, ℕ, ◌+◌, ◌-◌, ◌<◌, ◌≤�
 use Rattle.std.specs.Io.KnownBytes.{Consumes, Keeps, IsAtEnd}
 use Rattle.std.proofs.KnownBytes.{Consumes-trans, Consumes-nil, Consumes-kept}
 use Rattle.std.proofs.lemmas.List.{length-take-le}
-use Rattle.journal_files.specs.declared.fault.JournalFault.TheVariants.{Truncated, BadEntry}
+use Rattle.journal_files.specs.declared.fault.Fault.TheVariants.{Truncated, BadEntry}
 use Rattle.journal_files.specs.Gathering.{Gathers, Skips}
 use Rattle.journal_files.specs.Streaming.{Loses}
 

@@ -3,7 +3,7 @@ use Rattle.std.proofs.Common.{◌≡◌, ℕ, zero, suc, ◌+◌, ◌*◌, ◌/�
 use Rattle.std.proofs.Math.Nat.{mul_assoc, pow-succ', add-mul-div_right, add-mul-mod_self_right, mod-eq_of_lt}
 use Rattle.std.proofs.lemmas.Nat.{pow-add, div-mul-add}
 use Rattle.std.specs.Int.{byte_at}
-use Rattle.sequences.specs.Octets.{be_value, be_octets, AreOctets, IsNumber}
+use Rattle.sequences.specs.Octets.{be_value, be_octets, AreOctets, IsNumberIn}
 use Rattle.sequences.proofs.OctetLaws.{byte_at-pow, pow_positive, length-be_octets, be_value-be_octets, be_value-below, AreOctets-rest}
 
 -- what stands above an octet doesn't change it
@@ -37,5 +37,5 @@ be_octets-be_value (x ∷ xs) are =
     rw (first, others) refl
 
 -- a number in its octets
-pub written_number : (width n : ℕ) → n < 256 ^ width → IsNumber width (be_octets width n) n
+pub written_number : (width n : ℕ) → n < 256 ^ width → IsNumberIn width (be_octets width n) n
 written_number width n below = record { wide = length-be_octets width n; value = be_value-be_octets width n below }

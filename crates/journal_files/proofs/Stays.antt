@@ -9,25 +9,25 @@ use Rattle.sequences.proofs.ResultLaws.{same_Err}
 use Rattle.policy_text.specs.Naming.{is_name}
 use Rattle.event_journal.specs.declared.entry.Entry.{Entry}
 use Rattle.event_journal.specs.declared.entry.Entry.TheVariants.{Open, Close, Edit, Subscribe, Unsubscribe, Advance, Cut}
-use Rattle.journal_files.specs.declared.fault.JournalFault.{JournalFault}
-use Rattle.journal_files.specs.declared.fault.JournalFault.TheVariants.{BadMagic, BadVersion, Truncated, BadEntry}
+use Rattle.journal_files.specs.declared.fault.Fault.{Fault}
+use Rattle.journal_files.specs.declared.fault.Fault.TheVariants.{BadMagic, BadVersion, Truncated, BadEntry}
 use Rattle.journal_files.specs.Format.{magic, version, octets_of}
-use Rattle.journal_files.specs.Reading.{Found, front_of, number_of, past_number, head_of, numbered, message_of, edit_of, subscribe_of, entry_by, entry_of, is_past}
-use Rattle.journal_files.specs.Streaming.{Place, IsReadBack, FaultStays, HeadStays, next_of, step_of}
+use Rattle.journal_files.specs.Reading.{Finding, front_of, number_of, past_number, head_of, numbered_entry, message_of, edit_of, subscribe_of, entry_by, entry_of, is_past}
+use Rattle.journal_files.specs.Streaming.{FilePlace, IsReadBack, FaultStays, HeadStays, next_of, step_of}
 
 -- a result of the octets, and one of the octets with more behind them
-abbrev Same : {A : Type 0} → List ℕ → Found A → Found A → Type 0
+abbrev Same : {A : Type 0} → List ℕ → Finding A → Finding A → Type 0
 Same more (Ok f) after = after ≡ Ok (f.0, f.1 ++ more)
 Same more (Err why) after = (why ≡ Truncated → ⊥) → after ≡ Err why
 
-abbrev SameRest : List ℕ → Result (List ℕ) JournalFault → Result (List ℕ) JournalFault → Type 0
+abbrev SameRest : List ℕ → Result (List ℕ) Fault → Result (List ℕ) Fault → Type 0
 SameRest more (Ok rest) after = after ≡ Ok (rest ++ more)
 SameRest more (Err why) after = (why ≡ Truncated → ⊥) → after ≡ Err why
 
-abbrev Stays : {A : Type 0} → (List ℕ → Found A) → Type 0
+abbrev Stays : {A : Type 0} → (List ℕ → Finding A) → Type 0
 Stays read = (octets more : List ℕ) → Same more (read octets) (read (octets ++ more))
 
-stays_bind : {A B : Type 0} (more : List ℕ) (r s : Found A) (f : A × List ℕ → Found B) → Same more r s → ((x : A) (rest : List ℕ) → Same more (f (x, rest)) (f (x, rest ++ more))) → Same more (r >>= f) (s >>= f)
+stays_bind : {A B : Type 0} (more : List ℕ) (r s : Finding A) (f : A × List ℕ → Finding B) → Same more r s → ((x : A) (rest : List ℕ) → Same more (f (x, rest)) (f (x, rest ++ more))) → Same more (r >>= f) (s >>= f)
 stays_bind more (Ok x) s f same next = rw same (next x.0 x.1)
 stays_bind {A} {B} more (Err why) s f same next = λ other. ap (λ t. t >>= f) (same other)
 
@@ -46,8 +46,8 @@ number_stays : (width : ℕ) → Stays (number_of width)
 unfolding number_of
 number_stays width octets more = stays_bind more (front_of width octets) (front_of width (octets ++ more)) _ (front_stays width octets more) (λ x rest. refl)
 
-numbered_stays : (entry : ℕ → Entry) → Stays (numbered entry)
-unfolding numbered
+numbered_stays : (entry : ℕ → Entry) → Stays (numbered_entry entry)
+unfolding numbered_entry
 numbered_stays entry octets more = stays_bind more (number_of 8 octets) (number_of 8 (octets ++ more)) _ (number_stays 8 octets more) (λ x rest. refl)
 
 message_stays : Stays message_of
@@ -75,7 +75,7 @@ subscribe_stays octets more =
     (λ sub one. stays_bind more (number_of 1 one) (number_of 1 (one ++ more)) _ (number_stays 1 one more)
     (λ len two. stays_bind more (front_of len two) (front_of len (two ++ more)) _ (front_stays len two more) (λ name rest. tested_stays (Subscribe sub name) rest more (is_name name))))
 
-either : {A : Type 0} (more : List ℕ) (b : Bool) (r s t u : Found A) → Same more r s → Same more t u → Same more (cond b r t) (cond b s u)
+either : {A : Type 0} (more : List ℕ) (b : Bool) (r s t u : Finding A) → Same more r s → Same more t u → Same more (cond b r t) (cond b s u)
 either more true r s t u first second = first
 either more false r s t u first second = second
 
@@ -105,23 +105,23 @@ past_stays : (entry : Entry) (rest more : List ℕ) (b : Bool) → Same more (co
 past_stays entry rest more true = λ other. refl
 past_stays entry rest more false = refl
 
-next_stays : (place : Place) → Stays (next_of place)
+next_stays : (place : FilePlace) → Stays (next_of place)
 unfolding next_of
 next_stays place octets more = stays_bind more (entry_of octets) (entry_of (octets ++ more)) _ (entry_stays octets more) (λ entry rest. past_stays entry rest more (is_past place.count place.octets entry))
 
 -- ---- faults alone
 
-abbrev Faulty : {A : Type 0} → JournalFault → Result A JournalFault → Result A JournalFault → Type 0
+abbrev Faulty : {A : Type 0} → Fault → Result A Fault → Result A Fault → Type 0
 Faulty why one two = one ≡ Err why → two ≡ Err why
 
-from_same : {A : Type 0} (more : List ℕ) (why : JournalFault) (r s : Found A) → (why ≡ Truncated → ⊥) → Same more r s → Faulty why r s
+from_same : {A : Type 0} (more : List ℕ) (why : Fault) (r s : Finding A) → (why ≡ Truncated → ⊥) → Same more r s → Faulty why r s
 from_same more why (Ok x) s other same e = absurd cc
 from_same {A} more why (Err k) s other same e =
     let k_is : k ≡ why = same_Err {A = A × List ℕ} k why e in
-    let err : JournalFault → Found A = λ t. Err t in
+    let err : Fault → Finding A = λ t. Err t in
     same (λ t. other (sym k_is ∙ t)) ∙ ap err k_is
 
-step_by : (place : Place) (octets more : List ℕ) (why : JournalFault) (b : Bool) → (why ≡ Truncated → ⊥) → eqb place.left 0 ≡ b → Faulty why (step_of place octets) (step_of place (octets ++ more))
+step_by : (place : FilePlace) (octets more : List ℕ) (why : Fault) (b : Bool) → (why ≡ Truncated → ⊥) → eqb place.left 0 ≡ b → Faulty why (step_of place octets) (step_of place (octets ++ more))
 unfolding step_of
 step_by place octets more why true other none = rw none (end_by (eqb (length octets) 0) refl)
   where
@@ -130,7 +130,7 @@ step_by place octets more why true other none = rw none (end_by (eqb (length oct
     end_by false is e = let some = eqb-false (length octets) 0 is in rw (ne_eqb (length (octets ++ more)) 0 (λ z. some (omega (arith, z, length-append octets more)))) e
 step_by place octets more why false other some = rw some (next_by (next_of place octets) (next_of place (octets ++ more)) (next_stays place octets more))
   where
-    next_by : (r s : Found Entry) → Same more r s → Faulty {A = Option (Entry × List ℕ)} why (r >>= λ one. Ok (Some one)) (s >>= λ one. Ok (Some one))
+    next_by : (r s : Finding Entry) → Same more r s → Faulty {A = Option (Entry × List ℕ)} why (r >>= λ one. Ok (Some one)) (s >>= λ one. Ok (Some one))
     next_by (Ok x) s same e = absurd cc
     next_by (Err k) s same e =
         let k_is : k ≡ why = same_Err {A = Option (Entry × List ℕ)} k why e in
@@ -139,7 +139,7 @@ step_by place octets more why false other some = rw some (next_by (next_of place
 pub fault_stays : FaultStays
 fault_stays place octets more why other e = step_by place octets more why (eqb place.left 0) other refl e
 
-past_passed : (width n : ℕ) (fault : JournalFault) (octets more : List ℕ) → SameRest more (past_number width n fault octets) (past_number width n fault (octets ++ more))
+past_passed : (width n : ℕ) (fault : Fault) (octets more : List ℕ) → SameRest more (past_number width n fault octets) (past_number width n fault (octets ++ more))
 unfolding past_number
 past_passed width n fault octets more = by_number (number_of width octets) (number_of width (octets ++ more)) (number_stays width octets more)
   where
@@ -147,11 +147,11 @@ past_passed width n fault octets more = by_number (number_of width octets) (numb
     tested x rest true = refl
     tested x rest false = λ other. refl
 
-    by_number : (r s : Found ℕ) → Same more r s → SameRest more (r >>= λ x. cond (eqb x.0 n) (Ok x.1) (Err fault)) (s >>= λ x. cond (eqb x.0 n) (Ok x.1) (Err fault))
+    by_number : (r s : Finding ℕ) → Same more r s → SameRest more (r >>= λ x. cond (eqb x.0 n) (Ok x.1) (Err fault)) (s >>= λ x. cond (eqb x.0 n) (Ok x.1) (Err fault))
     by_number (Ok x) s same = rw same (tested x.0 x.1 (eqb x.0 n))
     by_number (Err k) s same = λ other. ap (λ t. t >>= λ x. cond (eqb x.0 n) (Ok x.1) (Err fault)) (same other)
 
-rest_bind : {A : Type 0} (more : List ℕ) (r s : Result (List ℕ) JournalFault) (f : List ℕ → Found A) → SameRest more r s → ((rest : List ℕ) → Same more (f rest) (f (rest ++ more))) → Same more (r >>= f) (s >>= f)
+rest_bind : {A : Type 0} (more : List ℕ) (r s : Result (List ℕ) Fault) (f : List ℕ → Finding A) → SameRest more r s → ((rest : List ℕ) → Same more (f rest) (f (rest ++ more))) → Same more (r >>= f) (s >>= f)
 rest_bind more (Ok x) s f same next = rw same (next x)
 rest_bind more (Err why) s f same next = λ other. ap (λ t. t >>= f) (same other)
 

@@ -2,8 +2,8 @@
 use Rattle.std.specs.Prelude.{◌≡◌, ◌⊎◌, ℕ, ◌<◌, Bool, true, false, List, ◌++◌, length, Option, Some, None, ◌==◌, nat_lt, if◌then◌else◌}
 use Rattle.std.specs.Io.KnownBytes.{Consumes, IsAtEnd}
 use Rattle.sequences.specs.Octets.{number_at}
-use Rattle.journal_files.specs.declared.fault.JournalFault.{JournalFault}
-use Rattle.journal_files.specs.declared.fault.JournalFault.TheVariants.{Truncated, BadEntry}
+use Rattle.journal_files.specs.declared.fault.Fault.{Fault}
+use Rattle.journal_files.specs.declared.fault.Fault.TheVariants.{Truncated, BadEntry}
 
 -- octets from the source were put behind those that were there
 pub record Gathers (given left : Option (List ℕ)) (old new : List ℕ) : Type 0 where
@@ -33,7 +33,7 @@ announced kind front =
     else 0
 
 -- so many octets were passed over; or fewer, and the source is at its end
-pub record Skips (why : JournalFault) (count : ℕ) (given left : Option (List ℕ)) : Type 0 where
+pub record Skips (why : Fault) (count : ℕ) (given left : Option (List ℕ)) : Type 0 where
   pub piece : List ℕ
   pub consumed : Consumes given left piece
   pub which : ((why ≡ BadEntry) × (length piece ≡ count)) ⊎ ((why ≡ Truncated) × (length piece < count) × IsAtEnd left)

@@ -4,6 +4,7 @@ pub use Rattle.event_journal.specs.Sizes
 pub use Rattle.octet_io.specs.Written
 pub mod Format
 pub mod FaultTexts
+pub mod Faults
 pub mod Reading
 pub mod Laws
 pub mod Seen

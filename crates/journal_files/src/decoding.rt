@@ -9,7 +9,7 @@ ghost use Rattle.journal_files.specs.Reading.{Gives, entries_behind, file_of, is
 ghost use Rattle.journal_files.specs.Laws.{IsFile};
 
 use crate::entry::{read_entry, read_head};
-use crate::fault::JournalFault;
+use crate::fault::Fault;
 use event_journal::{Entry, Journal, MOST_ENTRIES, MOST_OCTETS};
 use std::alloc::Global;
 use std::slice::from_ref;
@@ -18,9 +18,9 @@ use std::slice::from_ref;
 /// copies of their messages, texts and names, are in memory from `alloc`.
 ///
 /// # Errors
-/// The first fault of the file from its front, as [`JournalFault`] names them; or want of memory, which says nothing of
+/// The first fault of the file from its front, as [`Fault`] names them; or want of memory, which says nothing of
 /// the file.
-pub fn decode(alloc: Global, octets: &[u8]) -> Result<Journal, JournalFault>
+pub fn decode(alloc: Global, octets: &[u8]) -> Result<Journal, Fault>
     ensures exact { Gives (λ j. j.entries) result (file_of octets.now) }
     ensures limits { IfOk result (λ j.
         j.limits ≡ record { entries = MOST_ENTRIES; octets = MOST_OCTETS }) }
@@ -38,7 +38,7 @@ pub fn decode(alloc: Global, octets: &[u8]) -> Result<Journal, JournalFault>
 /// # Errors
 /// The first fault of the file from its front; or want of memory.
 #[tactic(auto, unfolding(crate::specs::Reading::file_of))]
-fn read_file(alloc: Global, octets: &[u8]) -> Result<Journal, JournalFault>
+fn read_file(alloc: Global, octets: &[u8]) -> Result<Journal, Fault>
     ensures exact { Gives (λ j. j.entries) result (file_of octets.now) }
     ensures limits { IfOk result (λ j.
         j.limits ≡ record { entries = MOST_ENTRIES; octets = MOST_OCTETS }) }
@@ -55,12 +55,7 @@ fn read_file(alloc: Global, octets: &[u8]) -> Result<Journal, JournalFault>
 /// # Errors
 /// The first fault of `octets`: an entry is cut off, is none, or is past the journal's limits, or something stands
 /// behind the last entry; or want of memory. The entries before it stay in the journal.
-fn put_entries(
-    alloc: Global,
-    count: u64,
-    octets: &[u8],
-    journal: &mut Journal,
-) -> Result<(), JournalFault>
+fn put_entries(alloc: Global, count: u64, octets: &[u8], journal: &mut Journal) -> Result<(), Fault>
     requires limits { journal.old.limits ≡ record { entries = MOST_ENTRIES; octets = MOST_OCTETS } }
     ensures read { Gives (λ _. journal.new.entries) result
         (entries_behind journal.old.entries count octets.now) }
@@ -77,7 +72,7 @@ fn put_entries(
     if rest.is_empty() {
         Ok(())
     } else {
-        Err(JournalFault::BadEntry)
+        Err(Fault::BadEntry)
     }
 }
 
@@ -85,14 +80,14 @@ fn put_entries(
 ///
 /// # Errors
 /// `BadEntry` where the entry is past the journal's limits, or want of memory; then the journal is as it was.
-fn put_entry(entry: Entry, journal: &mut Journal) -> Result<(), JournalFault>
+fn put_entry(entry: Entry, journal: &mut Journal) -> Result<(), Fault>
     requires limits { journal.old.limits ≡ record { entries = MOST_ENTRIES; octets = MOST_OCTETS } }
     requires spelled { IsSpelled entry }
     ensures pushed { Gives (λ _. journal.new.entries) result (pushed_of journal.old.entries entry) }
     ensures limits { journal.new.limits ≡ journal.old.limits }
 {
     if !journal.room(from_ref(&entry)) {
-        return Err(JournalFault::BadEntry);
+        return Err(Fault::BadEntry);
     }
     journal.reserve(1)?;
     journal.push_reserved(entry);

@@ -3,12 +3,12 @@ ghost use Rattle.std.specs.Prelude.{◌≡◌, ◌++◌, ◌≤◌, ◌<◌, ◌
 ghost use Rattle.std.specs.Str.{is_utf8};
 ghost use Rattle.policy_text.specs.Naming.{is_name};
 ghost use Rattle.event_journal.specs.Spelled.{IsSpelled};
-ghost use Rattle.journal_files.specs.Reading.{Gives, front_of, number_of, past_number, head_of, numbered, message_of, edit_of, subscribe_of, entry_by, entry_of};
+ghost use Rattle.journal_files.specs.Reading.{Gives, front_of, number_of, past_number, head_of, numbered_entry, message_of, edit_of, subscribe_of, entry_by, entry_of};
 ghost use Rattle.journal_files.specs.Format.{magic, version, head_octets, octets_of};
 ghost use Rattle.journal_files.specs.Seen.{entry_seen, number_seen, octets_seen};
-ghost use Rattle.journal_files.specs.declared.fault.JournalFault.TheVariants.{BadMagic, BadVersion, BadEntry};
+ghost use Rattle.journal_files.specs.declared.fault.Fault.TheVariants.{BadMagic, BadVersion, BadEntry};
 
-use crate::fault::JournalFault;
+use crate::fault::Fault;
 use crate::format::{
     ADVANCE, CLOSE, CUT, EDIT, MAGIC, MESSAGE, OPEN, SUBSCRIBE, UNSUBSCRIBE, VERSION,
 };
@@ -21,12 +21,12 @@ use std::str::from_utf8;
 
 /// The first `count` of `octets`, and those after them; `Truncated` where there are fewer.
 #[tactic(auto, unfolding(crate::specs::Reading::front_of))]
-fn front(count: u64, octets: &[u8]) -> Result<(&[u8], &[u8]), JournalFault>
+fn front(count: u64, octets: &[u8]) -> Result<(&[u8], &[u8]), Fault>
     ensures read { Gives octets_seen result (front_of count octets.now) }
     ensures long { IfOk result (λ f. length f.0.now ≡ count) }
 {
     if (octets.len() as u64) < count {
-        return Err(JournalFault::Truncated);
+        return Err(Fault::Truncated);
     }
     Ok(octets.split_at(count as usize))
 }
@@ -34,7 +34,7 @@ fn front(count: u64, octets: &[u8]) -> Result<(&[u8], &[u8]), JournalFault>
 /// The number in the first `width` of `octets`, in network byte order, and the octets after it; `Truncated` where there
 /// are fewer.
 #[tactic(auto, unfolding(crate::specs::Reading::number_of))]
-fn number(width: u64, octets: &[u8]) -> Result<(u64, &[u8]), JournalFault>
+fn number(width: u64, octets: &[u8]) -> Result<(u64, &[u8]), Fault>
     requires some { 1 ≤ width }
     requires few { width ≤ 8 }
     ensures read { Gives number_seen result (number_of width octets.now) }
@@ -48,7 +48,7 @@ fn number(width: u64, octets: &[u8]) -> Result<(u64, &[u8]), JournalFault>
 ///
 /// # Errors
 /// The first fault of the head: the file is cut off in it, or begins with another magic number or version.
-pub(crate) fn read_head(octets: &[u8]) -> Result<(u64, &[u8]), JournalFault>
+pub(crate) fn read_head(octets: &[u8]) -> Result<(u64, &[u8]), Fault>
     ensures read { Gives number_seen result (head_of octets.now) }
     ensures written { IfOk result (λ f. octets.now ≡ head_octets f.0 ++ f.1.now) }
 {
@@ -58,16 +58,16 @@ pub(crate) fn read_head(octets: &[u8]) -> Result<(u64, &[u8]), JournalFault>
 /// How many entries the file at the front of `octets` announces, and the octets after its head, as the definition of
 /// reading computes them.
 #[tactic(auto, unfolding(crate::specs::Reading::head_of, crate::specs::Reading::past_number))]
-fn first_head(octets: &[u8]) -> Result<(u64, &[u8]), JournalFault>
+fn first_head(octets: &[u8]) -> Result<(u64, &[u8]), Fault>
     ensures { Gives number_seen result (head_of octets.now) }
 {
     let (found, rest) = number(4, octets)?;
     if found != u64::from(MAGIC) {
-        return Err(JournalFault::BadMagic);
+        return Err(Fault::BadMagic);
     }
     let (found, rest) = number(2, rest)?;
     if found != u64::from(VERSION) {
-        return Err(JournalFault::BadVersion);
+        return Err(Fault::BadVersion);
     }
     number(8, rest)
 }
@@ -77,7 +77,7 @@ fn first_head(octets: &[u8]) -> Result<(u64, &[u8]), JournalFault>
 ///
 /// # Errors
 /// The octets are cut off in the entry (`Truncated`) or have none at their front (`BadEntry`); or want of memory.
-pub(crate) fn read_entry(alloc: Global, octets: &[u8]) -> Result<(Entry, &[u8]), JournalFault>
+pub(crate) fn read_entry(alloc: Global, octets: &[u8]) -> Result<(Entry, &[u8]), Fault>
     ensures read { Gives entry_seen result (entry_of octets.now) }
     ensures spelled { IfOk result (λ f. IsSpelled f.0) }
     ensures written { IfOk result (λ f. octets.now ≡ octets_of f.0 ++ f.1.now) }
@@ -88,7 +88,7 @@ pub(crate) fn read_entry(alloc: Global, octets: &[u8]) -> Result<(Entry, &[u8]),
 /// The entry at the front of `octets`, in memory from `alloc`, and the octets after it, as the definition of reading
 /// computes them.
 #[tactic(auto, unfolding(crate::specs::Reading::entry_of))]
-fn first_entry(alloc: Global, octets: &[u8]) -> Result<(Entry, &[u8]), JournalFault>
+fn first_entry(alloc: Global, octets: &[u8]) -> Result<(Entry, &[u8]), Fault>
     ensures read { Gives entry_seen result (entry_of octets.now) }
     ensures spelled { IfOk result (λ f. IsSpelled f.0) }
 {
@@ -97,8 +97,8 @@ fn first_entry(alloc: Global, octets: &[u8]) -> Result<(Entry, &[u8]), JournalFa
 }
 
 /// The entry of this `kind` whose numbers are at the front of `octets`, and the octets after it.
-#[tactic(auto, unfolding(crate::specs::Reading::entry_by, crate::specs::Reading::numbered))]
-fn read_by(alloc: Global, kind: u8, octets: &[u8]) -> Result<(Entry, &[u8]), JournalFault>
+#[tactic(auto, unfolding(crate::specs::Reading::entry_by, crate::specs::Reading::numbered_entry))]
+fn read_by(alloc: Global, kind: u8, octets: &[u8]) -> Result<(Entry, &[u8]), Fault>
     ensures read { Gives entry_seen result (entry_by kind octets.now) }
     ensures spelled { IfOk result (λ f. IsSpelled f.0) }
 {
@@ -126,13 +126,13 @@ fn read_by(alloc: Global, kind: u8, octets: &[u8]) -> Result<(Entry, &[u8]), Jou
             let (sub, rest) = number(8, octets)?;
             Ok((Entry::Cut { sub }, rest))
         }
-        _ => Err(JournalFault::BadEntry),
+        _ => Err(Fault::BadEntry),
     }
 }
 
 /// The entry of a message, whose octets after its kind are at the front of `octets`, and the octets after it.
 #[tactic(auto, unfolding(crate::specs::Reading::message_of))]
-fn read_message(alloc: Global, octets: &[u8]) -> Result<(Entry, &[u8]), JournalFault>
+fn read_message(alloc: Global, octets: &[u8]) -> Result<(Entry, &[u8]), Fault>
     ensures read { Gives entry_seen result (message_of octets.now) }
     ensures spelled { IfOk result (λ f. IsSpelled f.0) }
 {
@@ -150,7 +150,7 @@ fn read_message(alloc: Global, octets: &[u8]) -> Result<(Entry, &[u8]), JournalF
 
 /// The entry of an edit, whose octets after its kind are at the front of `octets`, and the octets after it.
 #[tactic(auto, unfolding(crate::specs::Reading::edit_of))]
-fn read_edit(alloc: Global, octets: &[u8]) -> Result<(Entry, &[u8]), JournalFault>
+fn read_edit(alloc: Global, octets: &[u8]) -> Result<(Entry, &[u8]), Fault>
     ensures read { Gives entry_seen result (edit_of octets.now) }
     ensures spelled { IfOk result (λ f. IsSpelled f.0) }
 {
@@ -165,13 +165,13 @@ fn read_edit(alloc: Global, octets: &[u8]) -> Result<(Entry, &[u8]), JournalFaul
 /// # Errors
 /// `BadEntry` where they are not UTF-8.
 #[tactic(auto, using(crate::proofs::TextLaws::is_text, crate::proofs::TextLaws::is_no_text))]
-fn text_in(octets: &[u8]) -> Result<&str, JournalFault>
+fn text_in(octets: &[u8]) -> Result<&str, Fault>
     ensures { MatchResult result (λ text. (text.now ≡ octets.now) × (is_utf8 octets.now ≡ true))
         (λ e. (e ≡ BadEntry) × (is_utf8 octets.now ≡ false)) }
 {
     match from_utf8(octets) {
         Ok(text) => Ok(text),
-        Err(_) => Err(JournalFault::BadEntry),
+        Err(_) => Err(Fault::BadEntry),
     }
 }
 
@@ -189,7 +189,7 @@ fn is_name_in(octets: &[u8]) -> bool
 /// The entry of a subscription's beginning, whose octets after its kind are at the front of `octets`, and the octets
 /// after it.
 #[tactic(auto, unfolding(crate::specs::Reading::subscribe_of))]
-fn read_subscribe(alloc: Global, octets: &[u8]) -> Result<(Entry, &[u8]), JournalFault>
+fn read_subscribe(alloc: Global, octets: &[u8]) -> Result<(Entry, &[u8]), Fault>
     ensures read { Gives entry_seen result (subscribe_of octets.now) }
     ensures spelled { IfOk result (λ f. IsSpelled f.0) }
 {
@@ -197,7 +197,7 @@ fn read_subscribe(alloc: Global, octets: &[u8]) -> Result<(Entry, &[u8]), Journa
     let (len, rest) = number(1, rest)?;
     let (name, rest) = front(len, rest)?;
     if !is_name_in(name) {
-        return Err(JournalFault::BadEntry);
+        return Err(Fault::BadEntry);
     }
     let name = Name::new(alloc, name)?;
     Ok((Entry::Subscribe { sub, name }, rest))

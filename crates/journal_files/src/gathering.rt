@@ -4,9 +4,8 @@ ghost use Rattle.std.specs.Io.KnownBytes.{IsAtEnd};
 ghost use Rattle.journal_files.specs.Gathering.{Gathers, IsFilled, Skips};
 ghost use Rattle.journal_files.specs.Streaming.{FailsToGather, Loses};
 
-use crate::fault::JournalFault;
+use crate::fault::Fault;
 use crate::format::{EDIT, MESSAGE, SUBSCRIBE};
-use crate::read_fault::ReadFault;
 use event_journal::MOST_OCTETS;
 use ipfix_octets::be_number;
 use octet_io::{Failed, Source};
@@ -25,7 +24,7 @@ pub(crate) fn fill<R: Source>(
     wanted: usize,
     piece: &mut Vec<u8>,
     held: &mut Vec<u8>,
-) -> Result<bool, ReadFault>
+) -> Result<bool, Fault>
     requires { vec_len held.old ≤ wanted }
     // What was read stands behind what was held: as much as is wanted, or all up to the end of the source.
     ensures gathers { OnOk result
@@ -58,7 +57,7 @@ fn read_piece<R: Source>(
     room: usize,
     piece: &mut Vec<u8>,
     held: &mut Vec<u8>,
-) -> Result<usize, ReadFault>
+) -> Result<usize, Fault>
     requires some { 0 < room }
     // What was read stands behind what was held, and there is none only at the end of the source.
     ensures gathers { OnOk result
@@ -77,14 +76,14 @@ fn read_piece<R: Source>(
             held.extend_from_slice(&piece.as_slice()[..count])?;
             Ok(count)
         }
-        Err(Failed) => Err(ReadFault::Read),
+        Err(Failed) => Err(Fault::Read),
     }
 }
 
 ghost use Rattle.std.specs.Prelude.{List, ℕ, [], ◌∷◌, ◌^◌, slice_index};
 ghost use Rattle.event_journal.specs.declared.limits.TheConstants.{MOST_OCTETS};
 ghost use Rattle.journal_files.specs.Gathering.{front_octets, announced};
-ghost use Rattle.journal_files.specs.Streaming.{Place, IsGathered, StopsReading, next_of};
+ghost use Rattle.journal_files.specs.Streaming.{FilePlace, IsGathered, StopsReadingFile, next_of};
 
 /// Reads into `held`, which is empty, the octets of the next entry of `source`, and none past them; or fewer where the
 /// source ends before, or where they are of no entry. `piece` is where each read puts its octets first.
@@ -97,7 +96,7 @@ pub(crate) fn gather<R: Source>(
     source: &mut R,
     piece: &mut Vec<u8>,
     held: &mut Vec<u8>,
-) -> Result<(), ReadFault>
+) -> Result<(), Fault>
     requires { held.old.items ≡ [] }
     // What was read are the octets of one entry, or of none.
     ensures gathers { OnOk result
@@ -105,8 +104,8 @@ pub(crate) fn gather<R: Source>(
     ensures gathered { OnOk result (IsGathered held.new.items (R.remaining source.new)) }
     ensures stays { OnOk result (R.has_failed source.new ≡ R.has_failed source.old) }
     // At a fault octets may be lost, or they show why they are of no file.
-    ensures err { IfErr result (λ e. (place : Place)
-        → StopsReading e (next_of place) (R.remaining source.old) (R.remaining source.new)
+    ensures err { IfErr result (λ e. (place : FilePlace)
+        → StopsReadingFile e (next_of place) (R.remaining source.old) (R.remaining source.new)
         (R.has_failed source.old) (R.has_failed source.new)) }
 {
     if !fill(source, 1, piece, held)? {
@@ -121,7 +120,7 @@ pub(crate) fn gather<R: Source>(
     }
     let more = announced_by(kind, held.as_slice());
     if more > MOST_OCTETS {
-        return Err(ReadFault::File(skip(source, more, piece)?));
+        return Err(skip(source, more, piece)?);
     }
     fill(source, front + more as usize, piece, held)?;
     Ok(())
@@ -165,11 +164,7 @@ fn announced_by(kind: u8, front: &[u8]) -> u64
 ///
 /// # Errors
 /// The source failed, or want of memory. In both cases octets may have been read that are lost.
-fn skip<R: Source>(
-    source: &mut R,
-    count: u64,
-    piece: &mut Vec<u8>,
-) -> Result<JournalFault, ReadFault>
+fn skip<R: Source>(source: &mut R, count: u64, piece: &mut Vec<u8>) -> Result<Fault, Fault>
     ensures skips { IfOk result (λ fault.
         Skips fault count (R.remaining source.old) (R.remaining source.new)) }
     ensures stays { OnOk result (R.has_failed source.new ≡ R.has_failed source.old) }
@@ -182,10 +177,10 @@ fn skip<R: Source>(
         let room = left.min(PIECE as u64) as usize;
         piece.resize(room, 0)?;
         match source.read(piece.as_mut_slice()) {
-            Ok(0) => return Ok(JournalFault::Truncated),
+            Ok(0) => return Ok(Fault::Truncated),
             Ok(read) => left -= read as u64,
-            Err(Failed) => return Err(ReadFault::Read),
+            Err(Failed) => return Err(Fault::Read),
         }
     }
-    Ok(JournalFault::BadEntry)
+    Ok(Fault::BadEntry)
 }

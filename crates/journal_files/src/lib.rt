@@ -3,9 +3,9 @@
 //!
 //! - `encoding`: [`encode`], the file of a journal, in memory.
 //! - `decoding`: [`decode`], the journal that a file says, or the file's first fault.
-//! - `writing`: [`write_journal`] and [`JournalWriter`] write a file to a sink, and [`WriteFault`] says how far it came.
+//! - `writing`: [`write_journal`] and [`JournalWriter`] write a file to a sink.
 //! - `reading`: [`JournalReader`] reads a file from a source.
-//! - `fault`: [`JournalFault`], why octets are no journal file; `read_fault`: [`ReadFault`], also why none were read.
+//! - `fault`: [`Fault`], why octets are no journal file, or why no more was read or written, and how far that came.
 //! - `laws`: what is written is read back, what is read is written back, and a file is read step by step.
 //! - `entry`, `gathering`, `format`: the entry at the front of octets, its octets out of a source, the format's numbers.
 //!
@@ -26,17 +26,15 @@ mod fault;
 mod format;
 mod gathering;
 mod laws;
-mod read_fault;
 mod reading;
 mod writing;
 
 pub use decoding::decode;
 pub use encoding::encode;
-pub use fault::JournalFault;
+pub use fault::Fault;
 pub use laws::{
     entry_read_back, entry_written_back, fault_stays, file_grows, file_read_back,
     file_written_back, step_by_step,
 };
-pub use read_fault::ReadFault;
 pub use reading::JournalReader;
-pub use writing::{JournalWriter, WriteFault, write_journal};
+pub use writing::{JournalWriter, write_journal};

@@ -3,12 +3,11 @@ ghost use Rattle.std.specs.Prelude.{◌≡◌, ◌+◌, ◌<◌, ◌^◌, OnOk, 
 ghost use Rattle.std.specs.Io.KnownBytes.{Consumes};
 ghost use Rattle.journal_files.specs.Format.{head_octets};
 ghost use Rattle.journal_files.specs.Reading.{head_of};
-ghost use Rattle.journal_files.specs.Streaming.{StopsReading, TakesEntry, EndsFile, step_of};
+ghost use Rattle.journal_files.specs.Streaming.{StopsReadingFile, TakesEntry, EndsFile, step_of};
 
 use crate::entry::{read_entry, read_head};
-use crate::fault::JournalFault;
+use crate::fault::Fault;
 use crate::gathering::{fill, gather};
-use crate::read_fault::ReadFault;
 use event_journal::{Entry, MOST_ENTRIES, MOST_OCTETS};
 use octet_io::Source;
 use std::alloc::Global;
@@ -34,9 +33,9 @@ pub struct JournalReader {
 impl Model for JournalReader {
     ghost use Rattle.std.specs.Prelude.{◌≤◌};
     ghost use Rattle.event_journal.specs.declared.limits.TheConstants.{MOST_ENTRIES, MOST_OCTETS};
-    ghost use Rattle.journal_files.specs.Streaming.{Place};
+    ghost use Rattle.journal_files.specs.Streaming.{FilePlace};
 
-    ghost Value = { Place };
+    ghost Value = { FilePlace };
 
     ghost view = { λ r. record { left = r.left; count = r.count; octets = r.octets } };
 
@@ -50,13 +49,13 @@ impl JournalReader {
     /// # Errors
     /// The source failed; the head has a fault, which is the file's first; or want of memory. At a failed source, and
     /// at want of memory, octets may have been read that are lost.
-    pub fn start<R: Source>(alloc: Global, source: &mut R) -> Result<JournalReader, ReadFault>
+    pub fn start<R: Source>(alloc: Global, source: &mut R) -> Result<JournalReader, Fault>
         ensures ok { IfOk result (λ r. (r.count ≡ 0) × (r.octets ≡ 0)
             × Consumes (R.remaining source.old) (R.remaining source.new) (head_octets r.left)) }
         ensures few { IfOk result (λ r. r.left < 2 ^ 64) }
         ensures stays { OnOk result (R.has_failed source.new ≡ R.has_failed source.old) }
         ensures err { IfErr result (λ e.
-            StopsReading e head_of (R.remaining source.old) (R.remaining source.new)
+            StopsReadingFile e head_of (R.remaining source.old) (R.remaining source.new)
             (R.has_failed source.old) (R.has_failed source.new)) }
     {
         let mut piece = Vec::new(alloc);
@@ -86,19 +85,19 @@ impl JournalReader {
     /// # Errors
     /// The source failed; the file has a fault there, which is its first; or want of memory. At a failed source, and at
     /// want of memory, octets may have been read that are lost. So nothing can be read after any of these.
-    pub fn next<R: Source>(&mut self, source: &mut R) -> Result<Option<Entry>, ReadFault>
+    pub fn next<R: Source>(&mut self, source: &mut R) -> Result<Option<Entry>, Fault>
         ensures ok { IfOk result (λ found. MatchOption found
             (EndsFile self.old (R.remaining source.old) (R.remaining source.new) self.new) (λ entry.
             TakesEntry self.old (R.remaining source.old) (R.remaining source.new) entry self.new)) }
         ensures stays { OnOk result (R.has_failed source.new ≡ R.has_failed source.old) }
         ensures err { IfErr result (λ e.
-            StopsReading e (step_of self.old) (R.remaining source.old) (R.remaining source.new)
+            StopsReadingFile e (step_of self.old) (R.remaining source.old) (R.remaining source.new)
             (R.has_failed source.old) (R.has_failed source.new)) }
     {
         self.held.clear();
         if self.left == 0 {
             if fill(source, 1, &mut self.piece, &mut self.held)? {
-                return Err(ReadFault::File(JournalFault::BadEntry));
+                return Err(Fault::BadEntry);
             }
             return Ok(None);
         }
@@ -122,7 +121,7 @@ ghost use Rattle.journal_files.specs.Streaming.{IsEntryIn, FailsIn};
 /// # Errors
 /// `BadEntry` or `Truncated` where there is none, `BadEntry` where it is past the greatest limits of a journal; or want
 /// of memory.
-fn entry_in(alloc: Global, count: u64, octets: u64, held: &[u8]) -> Result<Entry, JournalFault>
+fn entry_in(alloc: Global, count: u64, octets: u64, held: &[u8]) -> Result<Entry, Fault>
     requires few { count ≤ MOST_ENTRIES }
     requires small { octets ≤ MOST_OCTETS }
     ensures ok { IfOk result (λ entry. IsEntryIn count octets held.now entry) }
@@ -130,7 +129,7 @@ fn entry_in(alloc: Global, count: u64, octets: u64, held: &[u8]) -> Result<Entry
 {
     let (entry, _) = read_entry(alloc, held)?;
     if is_past(count, octets, &entry) {
-        return Err(JournalFault::BadEntry);
+        return Err(Fault::BadEntry);
     }
     Ok(entry)
 }

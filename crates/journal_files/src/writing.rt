@@ -2,35 +2,16 @@
 ghost use Rattle.std.specs.Prelude.{◌≡◌, ◌+◌, ◌<◌, OnOk, OnErr, IfOk, IfErr};
 ghost use Rattle.std.specs.Io.KnownBytes.{Appends};
 ghost use Rattle.event_journal.specs.Spelled.{IsSpelled};
+ghost use Rattle.journal_files.specs.Faults.{IsWritingFault};
 ghost use Rattle.journal_files.specs.Format.{head_octets, octets_of, file_octets};
 ghost use Rattle.journal_files.specs.Writing.{Stops, WritesSome};
 
 use crate::encoding::{put_entry, put_head};
+use crate::fault::Fault;
 use event_journal::{Entry, Journal};
 use octet_io::{Sink, write_all};
-use std::alloc::{AllocError, Global};
+use std::alloc::Global;
 use std::marker::Model;
-
-/// Why a file could not be written further.
-#[derive(Clone, Copy, Debug, PartialEq, Eq)]
-pub enum WriteFault {
-    /// The sink failed. Of the octets that were due, which are a head or one entry, `sent` were written, and that is
-    /// not all of them. The file is broken there.
-    Write { sent: usize },
-    /// Want of memory. Nothing was written of the head or of the entry that was due.
-    OutOfMemory,
-}
-
-impl From<AllocError> for WriteFault {
-    ghost use Rattle.std.specs.Prelude.{◌≡◌};
-    ghost use Rattle.journal_files.specs.declared.writing.WriteFault.TheVariants.{OutOfMemory};
-
-    ghost from_gives = { λ _ e. e ≡ OutOfMemory };
-
-    fn from(_e: AllocError) -> WriteFault {
-        WriteFault::OutOfMemory
-    }
-}
 
 /// Writes a file to a sink, an entry at a time. It keeps room for the octets of one entry. Contracts see how many
 /// entries are left to write.
@@ -54,13 +35,9 @@ impl JournalWriter {
     /// writer takes memory from `alloc`.
     ///
     /// # Errors
-    /// [`WriteFault::Write`] where the sink failed: a front of the head was written. [`WriteFault::OutOfMemory`] at
+    /// [`Fault::Write`] where the sink failed: a front of the head was written. [`Fault::OutOfMemory`] at
     /// want of memory: nothing was written.
-    pub fn start<S: Sink>(
-        alloc: Global,
-        entries: u64,
-        sink: &mut S,
-    ) -> Result<JournalWriter, WriteFault>
+    pub fn start<S: Sink>(alloc: Global, entries: u64, sink: &mut S) -> Result<JournalWriter, Fault>
         ensures ok { IfOk result (λ w. w ≡ entries) }
         ensures written { OnOk result (Appends (S.contents sink.old) (S.contents sink.new)
             (head_octets entries)) }
@@ -88,10 +65,10 @@ impl JournalWriter {
     /// that a journal file can spell this one; `sink` is the one that [`start`](JournalWriter::start) had.
     ///
     /// # Errors
-    /// [`WriteFault::Write`] where the sink failed: a front of the entry was written, and the file is broken.
-    /// [`WriteFault::OutOfMemory`] at want of memory: nothing was written, and the entry may be written again. In both
+    /// [`Fault::Write`] where the sink failed: a front of the entry was written, and the file is broken.
+    /// [`Fault::OutOfMemory`] at want of memory: nothing was written, and the entry may be written again. In both
     /// cases as many entries are left as before.
-    pub fn put<S: Sink>(&mut self, entry: &Entry, sink: &mut S) -> Result<(), WriteFault>
+    pub fn put<S: Sink>(&mut self, entry: &Entry, sink: &mut S) -> Result<(), Fault>
         requires left { 0 < self.old }
         requires spelled { IsSpelled entry.now }
         // One entry less is left to write, or as many as before.
@@ -116,18 +93,15 @@ impl JournalWriter {
 /// entry.
 ///
 /// # Errors
-/// [`WriteFault::Write`] where the sink failed, or [`WriteFault::OutOfMemory`] at want of memory. In both cases a front
+/// [`Fault::Write`] where the sink failed, or [`Fault::OutOfMemory`] at want of memory. In both cases a front
 /// of the file was written; `sent` counts the octets of the head or entry at which it stopped, and not of the file.
-pub fn write_journal<S: Sink>(
-    alloc: Global,
-    journal: &Journal,
-    sink: &mut S,
-) -> Result<(), WriteFault>
+pub fn write_journal<S: Sink>(alloc: Global, journal: &Journal, sink: &mut S) -> Result<(), Fault>
     ensures written { OnOk result (Appends (S.contents sink.old) (S.contents sink.new)
         (file_octets journal.now.entries)) }
     ensures stays { OnOk result (S.has_failed sink.new ≡ S.has_failed sink.old) }
     ensures err { OnErr result (WritesSome (S.contents sink.old) (S.contents sink.new)
         (file_octets journal.now.entries)) }
+    ensures fault { IfErr result IsWritingFault }
 {
     let mut writer = JournalWriter::start(alloc, journal.len(), sink)?;
     let mut position = 0;
@@ -142,7 +116,7 @@ pub fn write_journal<S: Sink>(
 ///
 /// # Errors
 /// The sink failed, and a front of the octets was written.
-fn send<S: Sink>(octets: &[u8], sink: &mut S) -> Result<(), WriteFault>
+fn send<S: Sink>(octets: &[u8], sink: &mut S) -> Result<(), Fault>
     ensures written { OnOk result (Appends (S.contents sink.old) (S.contents sink.new) octets.now) }
     ensures stays { OnOk result (S.has_failed sink.new ≡ S.has_failed sink.old) }
     ensures err { IfErr result (λ e. Stops e (S.contents sink.old) (S.contents sink.new) octets.now
@@ -150,6 +124,6 @@ fn send<S: Sink>(octets: &[u8], sink: &mut S) -> Result<(), WriteFault>
 {
     match write_all(sink, octets) {
         Ok(()) => Ok(()),
-        Err(stopped) => Err(WriteFault::Write { sent: stopped.sent }),
+        Err(stopped) => Err(Fault::Write { sent: stopped.sent }),
     }
 }

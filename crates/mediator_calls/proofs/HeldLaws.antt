@@ -6,10 +6,10 @@ use Rattle.std.proofs.lemmas.Bool.{ltb-false, eqb-true, eqb-false, and_parts}
 use Rattle.std.proofs.lemmas.List.{length-drop, drop-drop, drop-append-le, take-append-drop}
 use Rattle.sequences.proofs.BeforeLaws.{last_of-push}
 use Rattle.ipfix_template.specs.DataRecord.{DataRecord}
-use Rattle.subscriber_stream.specs.declared.limits.Limits.{Limits as Streamed}
+use Rattle.subscriber_stream.specs.declared.limits.StreamLimits.{StreamLimits}
 use Rattle.subscriber_stream.specs.Shapes.{shapes_of}
 use Rattle.subscriber_stream.specs.Parts.{Part, parts, records_in}
-use Rattle.subscriber_stream.specs.Message.{taken}
+use Rattle.subscriber_stream.specs.Message.{parts_taken}
 use Rattle.subscriber_stream.proofs.CallLaws.{parts_bring, parts_more}
 use Rattle.subscriber_stream.proofs.Standings.{records_in-append}
 use Rattle.disclosure_audit.specs.declared.entry.AuditEntry.{AuditEntry}
@@ -32,7 +32,7 @@ use Rattle.mediator_calls.specs.declared.limits.Limits.{Limits}
 use Rattle.mediator_calls.specs.Mediation.{Mediation, started, place_at, waiting_at, noted_at, stream_limits}
 use Rattle.mediator_calls.specs.Held.{IsHeld}
 use Rattle.mediator_calls.specs.Calls.{GoesOn, AuditHolds, with_cuts, Opens, Closes, Receives, Edits, Subscribes, Unsubscribes, Advances, Pulls, Drains}
-use Rattle.mediator_calls.specs.Sound.{IsSound}
+use Rattle.mediator_calls.specs.Sound.{IsSoundMediation}
 
 -- ---- what waits
 
@@ -67,10 +67,10 @@ waits_less ps n = omega (arith, counts_add (take n ps) (drop n ps), ap count_in 
 -- ---- what an entry brings
 
 -- where there are some records, the limits leave room for them
-abbrev pub Fits : Streamed → List DataRecord → ℕ → List DataRecord → Type 0
+abbrev pub Fits : StreamLimits → List DataRecord → ℕ → List DataRecord → Type 0
 Fits limits listed waiting more = 0 < length more → (waiting + length more ≤ limits.queue) × (length (shapes_of (listed ++ more)) ≤ limits.shapes)
 
-uncut_fits : (limits : Streamed) (listed : List DataRecord) (waiting : ℕ) (more : List DataRecord) → overflows limits listed waiting more ≡ false → Fits limits listed waiting more
+uncut_fits : (limits : StreamLimits) (listed : List DataRecord) (waiting : ℕ) (more : List DataRecord) → overflows limits listed waiting more ≡ false → Fits limits listed waiting more
 uncut_fits limits listed waiting more none some = first (nat_lt 0 (length more)) refl none where
   last : (b c : Bool) → nat_lt limits.queue (waiting + length more) ≡ b → nat_lt limits.shapes (length (shapes_of (listed ++ more))) ≡ c → (b || c) ≡ false → (waiting + length more ≤ limits.queue) × (length (shapes_of (listed ++ more)) ≤ limits.shapes)
   last true c f g over = absurd cc
@@ -92,15 +92,15 @@ pub record Brings (old : Mediation) (more : List Entry) : Type 0 where
   pub notes : audit_list (old.history ++ more) ≡ audit_list old.history ++ noted
   pub audit : length (drop old.drained (audit_list (old.history ++ more))) ≤ old.limits.audit
 
-few_given : (limits : Streamed) (listed : List DataRecord) (waiting : ℕ) (more : List DataRecord) → Fits limits listed waiting more → length more ≤ limits.queue
+few_given : (limits : StreamLimits) (listed : List DataRecord) (waiting : ℕ) (more : List DataRecord) → Fits limits listed waiting more → length more ≤ limits.queue
 few_given limits listed waiting [] fits = omega arith
 few_given limits listed waiting (r ∷ more) fits = omega (arith, (fits (omega arith)).0)
 
-few_wait : (limits : Streamed) (listed : List DataRecord) (waiting : ℕ) (more : List DataRecord) → waiting ≤ limits.queue → Fits limits listed waiting more → waiting + length more ≤ limits.queue
+few_wait : (limits : StreamLimits) (listed : List DataRecord) (waiting : ℕ) (more : List DataRecord) → waiting ≤ limits.queue → Fits limits listed waiting more → waiting + length more ≤ limits.queue
 few_wait limits listed waiting [] low fits = omega (arith, low)
 few_wait limits listed waiting (r ∷ more) low fits = (fits (omega arith)).0
 
-few_shapes : (limits : Streamed) (listed : List DataRecord) (waiting : ℕ) (more : List DataRecord) → length (shapes_of listed) ≤ limits.shapes → Fits limits listed waiting more → length (shapes_of (listed ++ more)) ≤ limits.shapes
+few_shapes : (limits : StreamLimits) (listed : List DataRecord) (waiting : ℕ) (more : List DataRecord) → length (shapes_of listed) ≤ limits.shapes → Fits limits listed waiting more → length (shapes_of (listed ++ more)) ≤ limits.shapes
 few_shapes limits listed waiting [] low fits = subst (λ (l : List DataRecord). length (shapes_of l) ≤ limits.shapes) (sym (append-nil listed)) low
 few_shapes limits listed waiting (r ∷ more) low fits = (fits (omega arith)).1
 
@@ -116,7 +116,7 @@ within_more q total more n k whole some low few is = by_bounds (q * n) (q * (n +
   by_bounds : (a b : ℕ) → total ≤ a → a + q ≤ b → whole ≤ b
   by_bounds a b low up = omega (arith, low, up, few, is)
 
-pub held_on : (old new : Mediation) (more : List Entry) → IsSound old → GoesOn old more new → Brings old more → IsHeld new
+pub held_on : (old new : Mediation) (more : List Entry) → IsSoundMediation old → GoesOn old more new → Brings old more → IsHeld new
 held_on old new more sound on brings = record {
   queued = λ sub live. omega (
     arith,
@@ -170,7 +170,7 @@ held_on old new more sound on brings = record {
 
 -- ---- entries that give nothing
 
-brings_nothing : (m : Mediation) (x : Entry) → IsSound m → ((sub : ℕ) → given_at sub m.history x ≡ []) → audit_at m.history x ≡ [] → ((sub : ℕ) → is_live sub (m.history ++ x ∷ []) ≡ true → waiting_at m sub ≤ m.limits.queue) → Brings m (x ∷ [])
+brings_nothing : (m : Mediation) (x : Entry) → IsSoundMediation m → ((sub : ℕ) → given_at sub m.history x ≡ []) → audit_at m.history x ≡ [] → ((sub : ℕ) → is_live sub (m.history ++ x ∷ []) ≡ true → waiting_at m sub ≤ m.limits.queue) → Brings m (x ∷ [])
 brings_nothing m x sound given named waits = record {
   some = omega arith;
   given = λ sub. [];
@@ -186,15 +186,15 @@ brings_nothing m x sound given named waits = record {
 still_live : (h : List Entry) (x : Entry) (sub : ℕ) → begins sub x ≡ None → is_live sub (h ++ x ∷ []) ≡ true → is_live sub h ≡ true
 still_live h x sub none live = sym (last_of-push (begins sub) false h x ∙ ap (λ (o : Option Bool). unwrap_or o (is_live sub h)) none) ∙ live
 
-pub held_open : (old new : Mediation) (n : ℕ) → IsSound old → Opens old n new → IsHeld new
+pub held_open : (old new : Mediation) (n : ℕ) → IsSoundMediation old → Opens old n new → IsHeld new
 held_open old new n sound is =
     held_on old new (Open n ∷ []) sound is.goes_on (brings_nothing old (Open n) sound (λ sub. refl) refl (λ sub live. sound.held.queued sub (still_live old.history (Open n) sub refl live)))
 
-pub held_close : (old new : Mediation) (session : ℕ) → IsSound old → Closes old session new → IsHeld new
+pub held_close : (old new : Mediation) (session : ℕ) → IsSoundMediation old → Closes old session new → IsHeld new
 held_close old new session sound is =
     held_on old new (Close session ∷ []) sound is.goes_on (brings_nothing old (Close session) sound (λ sub. refl) refl (λ sub live. sound.held.queued sub (still_live old.history (Close session) sub refl live)))
 
-pub held_edit : (old new : Mediation) (text : List ℕ) (n : ℕ) → IsSound old → Edits old text n new → IsHeld new
+pub held_edit : (old new : Mediation) (text : List ℕ) (n : ℕ) → IsSoundMediation old → Edits old text n new → IsHeld new
 held_edit old new text n sound is =
     held_on old new (Edit text ∷ []) sound is.goes_on (brings_nothing old (Edit text) sound (λ sub. refl) refl (λ sub live. sound.held.queued sub (still_live old.history (Edit text) sub refl live)))
 
@@ -207,13 +207,13 @@ none_wait m sub nothing = omega (
   ap (λ (rs : List DataRecord). length rs) (parts_bring []),
 )
 
-pub held_subscribe : (old new : Mediation) (name : List ℕ) (n : ℕ) → IsSound old → Subscribes old name n new → IsHeld new
+pub held_subscribe : (old new : Mediation) (name : List ℕ) (n : ℕ) → IsSoundMediation old → Subscribes old name n new → IsHeld new
 held_subscribe old new name n sound is = held_on old new (Subscribe n name ∷ []) sound is.goes_on (brings_nothing old (Subscribe n name) sound (λ sub. refl) refl (λ sub live. by_number sub (n == sub) refl live)) where
   by_number : (sub : ℕ) (same : Bool) → (n == sub) ≡ same → is_live sub (old.history ++ Subscribe n name ∷ []) ≡ true → waiting_at old sub ≤ old.limits.queue
   by_number sub true same live = none_wait old sub (sound.numbered.subscriptions sub (omega (arith, is.number, eqb-true n sub same))).nothing
   by_number sub false same live = sound.held.queued sub (still_live old.history (Subscribe n name) sub (rw same refl) live)
 
-pub held_unsubscribe : (old new : Mediation) (sub : ℕ) → IsSound old → Unsubscribes old sub new → IsHeld new
+pub held_unsubscribe : (old new : Mediation) (sub : ℕ) → IsSoundMediation old → Unsubscribes old sub new → IsHeld new
 held_unsubscribe old new sub sound is = held_on old new (Unsubscribe sub ∷ []) sound is.goes_on (brings_nothing old (Unsubscribe sub) sound (λ q. refl) refl (λ q live. by_number q (sub == q) refl live)) where
   ended : (same : Bool) → same ≡ true → (on : Bool) → (let at : Option Bool = cond same (Some false) None in unwrap_or at on) ≡ true → ⊥
   ended true is on live = absurd cc
@@ -243,7 +243,7 @@ uncut m entry sub on =
       not_true true is = absurd cc
       not_true false is = refl
 
-brings_with_cuts : (m : Mediation) (entry : Entry) → ((h : List Entry) → GivesServedOnly h entry) → ((sub : ℕ) → begins sub entry ≡ None) → IsSound m → AuditHolds m (with_cuts m entry) → Brings m (with_cuts m entry)
+brings_with_cuts : (m : Mediation) (entry : Entry) → ((h : List Entry) → GivesServedOnly h entry) → ((sub : ℕ) → begins sub entry ≡ None) → IsSoundMediation m → AuditHolds m (with_cuts m entry) → Brings m (with_cuts m entry)
 brings_with_cuts m entry only silent sound holds = record {
   some = omega (arith, length-append (map Cut (cut_by m entry)) (entry ∷ []));
   given = given;
@@ -268,12 +268,12 @@ brings_with_cuts m entry only silent sound holds = record {
       subst (λ (more : List DataRecord). Fits (stream_limits m.limits) (disclosed sub m.history) (waiting_at m sub) more) (sym (given_at-cuts sub m.history (cut_by m entry) entry left.0))
       (uncut_fits (stream_limits m.limits) (disclosed sub m.history) (waiting_at m sub) (given_at sub m.history entry) left.1) some
 
-pub held_receive : (old new : Mediation) (session number : ℕ) (octets : List ℕ) (r : Receipt) → IsSound old → Receives old session number octets r new → IsHeld new
+pub held_receive : (old new : Mediation) (session number : ℕ) (octets : List ℕ) (r : Receipt) → IsSoundMediation old → Receives old session number octets r new → IsHeld new
 held_receive old new session number octets r sound is =
     held_on old new (with_cuts old (Message session number octets)) sound is.goes_on
     (brings_with_cuts old (Message session number octets) (λ h sub off. given-unserved sub session number octets h off) (λ sub. refl) sound is.audit)
 
-pub held_advance : (old new : Mediation) (t : ℕ) → IsSound old → Advances old t new → IsHeld new
+pub held_advance : (old new : Mediation) (t : ℕ) → IsSoundMediation old → Advances old t new → IsHeld new
 held_advance old new t sound is = held_on old new (with_cuts old (Advance t)) sound is.goes_on (brings_with_cuts old (Advance t) (λ h. closes_served_only h t) (λ sub. refl) sound is.audit)
 
 -- ---- what is handed out
@@ -303,7 +303,7 @@ held_pull old new sub now target answer held is = held_still old new is.history 
   past : waiting_at new sub ≤ waiting_at old sub
   past =
       let ps : List Part = parts (disclosed sub old.history) in
-      let more : ℕ = length (take (taken (disclosed sub old.history) (place_at old sub) target) (drop (place_at old sub) ps)) in
+      let more : ℕ = length (take (parts_taken (disclosed sub old.history) (place_at old sub) target) (drop (place_at old sub) ps)) in
       omega (
         arith,
         same sub,

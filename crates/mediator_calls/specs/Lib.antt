@@ -19,7 +19,6 @@ pub use Rattle.mediator_state.specs.Planning
 pub use Rattle.mediator_state.specs.Standing as StateStanding
 pub use Rattle.mediator_state.specs.Accepting
 pub use Rattle.mediator_state.specs.Calls as StateCalls
-pub mod FaultTexts
 pub mod Limited
 pub mod Mediation
 pub mod Held

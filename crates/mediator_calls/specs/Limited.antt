@@ -3,9 +3,9 @@ use Rattle.std.specs.Prelude.{ℕ, ◌≤◌}
 use Rattle.subscriber_stream.specs.declared.limits.TheConstants.{MOST_QUEUE, MOST_SHAPES}
 use Rattle.disclosure_audit.specs.declared.audit.TheConstants.{MOST_ENTRIES as MOST_AUDITED}
 use Rattle.event_journal.specs.declared.limits.TheConstants.{MOST_ENTRIES, MOST_OCTETS}
+use Rattle.mediator_state.specs.declared.fault.Fault.{Fault}
+use Rattle.mediator_state.specs.declared.fault.Fault.TheVariants.{BadLimits, OutOfMemory}
 use Rattle.mediator_calls.specs.declared.limits.Limits.{Limits}
-use Rattle.mediator_calls.specs.declared.fault.RunFault.{RunFault}
-use Rattle.mediator_calls.specs.declared.fault.RunFault.TheVariants.{BadLimits, OutOfMemory}
 
 -- each is at least 1, and at most so much
 pub record AreAllowed (limits : Limits) : Type 0 where
@@ -21,6 +21,7 @@ pub record AreAllowed (limits : Limits) : Type 0 where
   pub most_octets : limits.octets ≤ MOST_OCTETS
 
 -- the limits are out of their ranges, or memory ran out where they aren't
-abbrev pub RefusesLimits : RunFault → Limits → Type 0
+abbrev pub RefusesLimits : Fault → Limits → Type 0
 RefusesLimits BadLimits limits = AreAllowed limits → ⊥
 RefusesLimits OutOfMemory limits = AreAllowed limits
+RefusesLimits _ limits = ⊥

@@ -1,7 +1,7 @@
 -- What a mediator is to its callers.
 use Rattle.std.specs.Prelude.{ℕ, Bool, List, [], ◌∷◌, length, filter, drop, if◌then◌else◌, ◌==◌}
 use Rattle.std.specs.List.{flat_map}
-use Rattle.subscriber_stream.specs.declared.limits.Limits.{Limits as Streamed}
+use Rattle.subscriber_stream.specs.declared.limits.StreamLimits.{StreamLimits}
 use Rattle.subscriber_stream.specs.Parts.{parts, records_in}
 use Rattle.disclosure_audit.specs.declared.entry.AuditEntry.{AuditEntry}
 use Rattle.event_journal.specs.declared.entry.Entry.{Entry}
@@ -48,7 +48,7 @@ abbrev pub noted_at : Mediation → List AuditEntry
 noted_at m = drop m.drained (audit_list m.history)
 
 -- the limits of each subscription's stream
-abbrev pub stream_limits : Limits → Streamed
+abbrev pub stream_limits : Limits → StreamLimits
 stream_limits l = record { queue = l.queue; shapes = l.shapes }
 
 -- the limits of the journal

@@ -10,7 +10,7 @@ use Rattle.mediator_calls.specs.Held.{IsHeld}
 
 -- what is disclosed can be streamed, no place is past the end of what is disclosed, no more was drained than was noted, no number of
 -- a session or a subscription comes again, and no more is held than the limits allow
-pub record IsSound (m : Mediation) : Type 0 where
+pub record IsSoundMediation (m : Mediation) : Type 0 where
   pub streamable : (sub : ℕ) → AreStreamable (disclosed sub m.history)
   pub places : (sub : ℕ) → place_at m sub ≤ length (parts (disclosed sub m.history))
   pub drained : m.drained ≤ length (audit_list m.history)

@@ -1,22 +1,22 @@
 -- How a mediator is seen in what it stores, and what it keeps of that.
 use Rattle.std.specs.Prelude.{◌≡◌, ℕ, List, map}
 use Rattle.event_journal.specs.declared.entry.Entry.{Entry}
-use Rattle.event_journal.specs.Kept.{Kept}
+use Rattle.event_journal.specs.Kept.{KeptJournal}
 use Rattle.event_journal.specs.Room.{Limits as Journaled}
 use Rattle.mediator_state.specs.declared.engine.Engine.{Engine}
 use Rattle.mediator_state.specs.declared.state.State.{State}
 use Rattle.mediator_state.specs.Seen.{place_of}
-use Rattle.mediator_state.specs.Calls.{StandsFor}
+use Rattle.mediator_state.specs.Calls.{StateStandsFor}
 use Rattle.mediator_calls.specs.Mediation.{Place, Mediation, live}
 use Rattle.mediator_calls.specs.Held.{IsHeld}
 
-abbrev pub placed : Engine → ℕ → Place
-placed e sub = record { sub = sub; reached = place_of e sub }
+abbrev pub engine_place : Engine → ℕ → Place
+engine_place e sub = record { sub = sub; reached = place_of e sub }
 
-abbrev pub view_of : State Kept → Mediation
+abbrev pub view_of : State KeptJournal → Mediation
 view_of s = record {
   history = s.chronicle.entries;
-  places = map (placed s.engine) (live s.chronicle.entries);
+  places = map (engine_place s.engine) (live s.chronicle.entries);
   drained = s.engine.audit.standing.drained;
   limits = record {
     queue = s.engine.limits.queue;
@@ -28,17 +28,17 @@ view_of s = record {
 }
 
 -- a journal tells the history of its entries
-abbrev pub tells : Kept → List Entry → Type 0
+abbrev pub tells : KeptJournal → List Entry → Type 0
 tells j h = j.entries ≡ h
 
-abbrev pub limits_of : Kept → Journaled
+abbrev pub limits_of : KeptJournal → Journaled
 limits_of j = j.limits
 
 -- the state stands for its journal
-abbrev pub StandsForJournal : State Kept → Type 0
-StandsForJournal s = StandsFor tells s s.chronicle.entries
+abbrev pub StandsForJournal : State KeptJournal → Type 0
+StandsForJournal s = StateStandsFor tells s s.chronicle.entries
 
 -- so it does, and holds no more than its limits allow
-pub record IsKept (s : State Kept) : Type 0 where
+pub record IsStateKept (s : State KeptJournal) : Type 0 where
   pub stands : StandsForJournal s
   pub held : IsHeld (view_of s)

@@ -1,9 +1,9 @@
 //! The calls of a mediator as values, and what they are answered.
 
-use crate::ids::{SessionId, SubId};
 use bytes::Bytes;
 use disclosure_audit::AuditEntry;
 use mediator_state::{Fault, Receipt, Status};
+use mediator_tables::{SessionId, SubId};
 
 /// A call of a [`Mediator`](crate::Mediator), with its arguments, which have the meaning of its method of that name.
 #[derive(Debug, Drop)]

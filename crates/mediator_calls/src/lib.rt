@@ -2,8 +2,10 @@
 //!
 //! - `mediator`: [`Mediator`], with its calls. `finished`: [`Finished`], the journal that stays of a run.
 //! - `call`: [`Call`] and [`Reply`].
-//! - `ids`: [`SessionId`] and [`SubId`]. `limits`: [`Limits`], with the ranges that a mediator allows.
-//! - `fault`: [`RunFault`] and [`UnknownSub`]; the other refusals are [`mediator_state::Fault`].
+//! - `limits`: [`Limits`], with the ranges that a mediator allows.
+//! - [`SessionId`] and [`SubId`], by which calls name sessions and subscriptions, are those of [`mediator_tables`].
+//!
+//! Refusals are [`mediator_state::Fault`].
 //!
 //! Proved of each call, by what contracts see of a mediator (its history, the places of its live subscriptions, how
 //! many audit entries were drained, its limits): an accepted call answers what the history says and goes on with just
@@ -16,16 +18,13 @@
 #![tactic(auto)]
 
 mod call;
-mod fault;
 mod finished;
-mod ids;
 mod limits;
 mod mediator;
 
 pub use call::{Call, Reply};
-pub use fault::{RunFault, UnknownSub};
 pub use finished::Finished;
-pub use ids::{SessionId, SubId};
 pub use limits::Limits;
 pub use mediator::Mediator;
 pub use mediator_state::{Fault, Receipt, Status};
+pub use mediator_tables::{SessionId, SubId};

@@ -1,23 +1,25 @@
 //! The mediator, with its calls.
 ghost use Rattle.std.specs.Prelude.{◌≡◌, [], take, true, false, IsOk, IfOk, IfErr, OnOk, OnErr};
 ghost use Rattle.mediator_history.specs.Subscriptions.{is_live};
+ghost use Rattle.mediator_state.specs.declared.fault.Fault.TheVariants.{UnknownSub};
 ghost use Rattle.mediator_state.specs.Calls.{IsSnapshot, RefusesSnapshot, RefusesClose, RefusesEdit, RefusesSubscribe, RefusesUnsubscribe, RefusesPull};
 ghost use Rattle.mediator_calls.specs.Mediation.{started, noted_at, journal_limits};
 ghost use Rattle.mediator_calls.specs.Limited.{AreAllowed, RefusesLimits};
-ghost use Rattle.mediator_calls.specs.Sound.{IsSound};
+ghost use Rattle.mediator_calls.specs.Sound.{IsSoundMediation};
 ghost use Rattle.mediator_calls.specs.Calls.{Opens, RefusesOpen, Closes, Receives, RefusesReceive, RefusesReceivePrepared, Edits, Subscribes, Unsubscribes, Advances, RefusesAdvance, Pulls, IsStatusOf, Drains};
 
+use crate::Limits;
 use crate::finished::Finished;
-use crate::{Limits, RunFault, SessionId, SubId, UnknownSub};
 use bytes::Bytes;
 use disclosure_audit::AuditEntry;
 use event_journal::Journal;
 use hash_keys::HashKeys;
 use mediator_state::{Fault, Receipt, State, Status};
-use mediator_tables::Share;
+use mediator_tables::{SessionId, Share, SubId};
 use prepared_message::{JudgedAhead, Prepared, Snapshot};
 use std::alloc::{AllocError, Global};
 use std::marker::Model;
+use subscriber_stream::StreamLimits;
 
 /// A mediator: sessions of exporters, a policy, subscriptions that are given what the policy discloses to them, and an
 /// audit of what it keeps back. All that it accepted stands in its journal.
@@ -64,13 +66,13 @@ impl Drop for Mediator {
 
 impl Model for Mediator {
     ghost use Rattle.mediator_calls.specs.Mediation.{Mediation};
-    ghost use Rattle.mediator_calls.specs.View.{view_of, IsKept};
+    ghost use Rattle.mediator_calls.specs.View.{view_of, IsStateKept};
 
     ghost Value = { Mediation };
 
     ghost view = { λ m. view_of m.state };
 
-    ghost invariant = { λ m. IsKept m.state };
+    ghost invariant = { λ m. IsStateKept m.state };
 }
 
 impl Mediator {
@@ -78,22 +80,21 @@ impl Mediator {
     /// the policy has no rules, so it withholds all. All of it is in memory from `alloc`.
     ///
     /// # Errors
-    /// [`RunFault::BadLimits`] where a limit is out of its range; or [`RunFault::OutOfMemory`].
-    pub fn new(alloc: Global, limits: Limits) -> Result<Mediator, RunFault>
+    /// [`Fault::BadLimits`] where a limit is out of its range; or [`Fault::OutOfMemory`].
+    pub fn new(alloc: Global, limits: Limits) -> Result<Mediator, Fault>
         ensures ok { IfOk result (λ m. m ≡ started limits) }
         ensures allowed { OnOk result (AreAllowed limits) }
         ensures err { IfErr result (λ e. RefusesLimits e limits) }
     {
         if !limits.are_allowed() {
-            return Err(RunFault::BadLimits);
+            return Err(Fault::BadLimits);
         }
-        let held = mediator_state::Limits {
+        let streams = StreamLimits {
             queue: limits.queue,
             shapes: limits.shapes,
-            audit: limits.audit,
         };
         let journal = Journal::new(alloc, limits.entries, limits.octets);
-        let state = State::new(alloc, held, journal)?;
+        let state = State::new(alloc, streams, limits.audit, journal)?;
         Ok(Mediator { state })
     }
 
@@ -111,7 +112,7 @@ impl Mediator {
         ensures entries { result.now.entries ≡ self.now.history }
         ensures limits { result.now.limits ≡ journal_limits self.now.limits }
         // What is kept of every mediator: callers learn it here.
-        ensures sound { IsSound self.now }
+        ensures sound { IsSoundMediation self.now }
     {
         self.state.chronicle()
     }
@@ -125,10 +126,7 @@ impl Mediator {
         ensures unchanged { OnErr result (self.new ≡ self.old) }
         ensures err { IfErr result (λ e. RefusesOpen e self.old) }
     {
-        match self.state.open() {
-            Ok(session) => Ok(SessionId(session)),
-            Err(fault) => Err(fault),
-        }
+        self.state.open()
     }
 
     /// Closes the session with the number `session`, which never comes again.
@@ -142,7 +140,7 @@ impl Mediator {
         ensures err { IfErr result (λ e.
             RefusesClose e (journal_limits self.old.limits) self.old.history session.0) }
     {
-        self.state.close(session.0)
+        self.state.close(session)
     }
 
     /// Accepts `message` as the next one of the session with the number `session`. `number` is to be how many messages
@@ -186,7 +184,7 @@ impl Mediator {
         ensures unchanged { OnErr result (self.new ≡ self.old) }
         ensures err { IfErr result (λ e. RefusesReceive e self.old session.0 number message) }
     {
-        self.state.receive_judged(session.0, number, message, ahead)
+        self.state.receive_judged(session, number, message, ahead)
     }
 
     /// The templates of the open session with the number `session` as they stand, by which its messages can be prepared
@@ -199,7 +197,7 @@ impl Mediator {
         ensures unchanged { self.new ≡ self.old }
         ensures err { IfErr result (λ e. RefusesSnapshot e self.old.history session.0) }
     {
-        self.state.snapshot(session.0)
+        self.state.snapshot(session)
     }
 
     /// Accepts `prepared`, a message that was prepared without the mediator, as the next one of the session with the
@@ -223,7 +221,7 @@ impl Mediator {
             RefusesReceivePrepared e.0 self.old session.0 number prepared) }
         ensures handed_back { IfErr result (λ e. e.1 ≡ prepared) }
     {
-        self.state.receive_prepared(session.0, number, prepared)
+        self.state.receive_prepared(session, number, prepared)
     }
 
     /// Puts the policy that `text` spells in force, and answers how many edits there were then. What was accepted
@@ -251,10 +249,7 @@ impl Mediator {
         ensures err { IfErr result (λ e.
             RefusesSubscribe e (journal_limits self.old.limits) self.old.history name.now) }
     {
-        match self.state.subscribe(name) {
-            Ok(sub) => Ok(SubId(sub)),
-            Err(fault) => Err(fault),
-        }
+        self.state.subscribe(name)
     }
 
     /// Ends the subscription with the number `sub`, which never comes again: what waits for it is gone, and its name is
@@ -268,7 +263,7 @@ impl Mediator {
         ensures err { IfErr result (λ e.
             RefusesUnsubscribe e (journal_limits self.old.limits) self.old.history sub.0) }
     {
-        self.state.unsubscribe(sub.0)
+        self.state.unsubscribe(sub)
     }
 
     /// Advances the clock to `t`, in milliseconds since 1970. Each running group is closed whose interval's end, and
@@ -297,20 +292,21 @@ impl Mediator {
         ensures unchanged { OnErr result (self.new ≡ self.old) }
         ensures err { IfErr result (λ e. RefusesPull e self.old.history sub.0) }
     {
-        self.state.pull(sub.0, now, target)
+        self.state.pull(sub, now, target)
     }
 
     /// How the live subscription with the number `sub` stands. It takes no memory.
     ///
     /// # Errors
-    /// [`UnknownSub`] where no subscription with this number is live.
-    pub fn status(&self, sub: SubId) -> Result<Status, UnknownSub>
+    /// [`Fault::UnknownSub`] where no subscription with this number is live.
+    pub fn status(&self, sub: SubId) -> Result<Status, Fault>
         ensures ok { IfOk result (λ status. IsStatusOf self.now sub.0 status) }
         ensures err { OnErr result (is_live sub.0 self.now.history ≡ false) }
+        ensures fault { IfErr result (λ e. e ≡ UnknownSub) }
     {
-        match self.state.status(sub.0) {
+        match self.state.status(sub) {
             Some(status) => Ok(status),
-            None => Err(UnknownSub),
+            None => Err(Fault::UnknownSub),
         }
     }
 
@@ -358,7 +354,7 @@ impl Mediator {
         ensures entries { result.journal.entries ≡ self.history }
         ensures limits { result.journal.limits ≡ journal_limits self.limits }
         // What is kept of every mediator holds of the history that is left.
-        ensures sound { IsSound self }
+        ensures sound { IsSoundMediation self }
     {
         let Mediator { state } = self;
         Finished {

@@ -4,13 +4,13 @@ use Rattle.std.specs.Result.{IsErr, IsErrAnd, IfErr, result_ok}
 use Rattle.std.specs.Prelude.{IfOk, IfSome, Option}
 use Rattle.std.specs.List.{AllZip}
 use Rattle.std.proofs.lemmas.List.{length-map, map-append}
-use Rattle.prepared_message.specs.declared.fault.PrepareFault.{PrepareFault}
+use Rattle.prepared_message.specs.declared.fault.Fault.{Fault as PrepareFault}
 use Rattle.prepared_message.specs.Preparation.{Preparation}
 use Rattle.decode_workers.specs.Workers.{Tables, AreAnswers}
 use Rattle.event_journal.specs.declared.entry.Entry.TheVariants.{Message}
 use Rattle.shared_mediator.specs.declared.kept.KeptEntry.{KeptEntry}
 use Rattle.shared_mediator.specs.Locked.{Exporting}
-use Rattle.mediator_connections.specs.declared.fault.ServeFault.{ServeFault}
+use Rattle.mediator_connections.specs.declared.fault.Fault.{Fault}
 use Rattle.mediator_connections.specs.Serving.{messages_from, IsRefusalOf, Offers, RefusesAmong}
 use Rattle.mediator_connections.specs.Preparing.{ArePreparations, IsFrontOf}
 
@@ -81,7 +81,7 @@ offering_on old d e all more rest m is so next = record {
 pub offering_ends : (old d : Exporting) (all rest : List (List ℕ)) → rest ≡ [] → IsOffering old d all rest → Offers old d all
 offering_ends old d all rest none so = subst (Offers old d) (sym (so.parts ∙ ap (λ t. so.done ++ t) none ∙ append-nil so.done)) so.offers
 
-pub offering_stops : (e : ServeFault) (old d : Exporting) (all more rest : List (List ℕ)) (m : List ℕ) → IsRefusalOf e m → more ≡ m ∷ rest → IsOffering old d all more → RefusesAmong e old d all
+pub offering_stops : (e : Fault) (old d : Exporting) (all more rest : List (List ℕ)) (m : List ℕ) → IsRefusalOf e m → more ≡ m ∷ rest → IsOffering old d all more → RefusesAmong e old d all
 offering_stops e old d all more rest m is here so = record {
   before = so.done;
   message = m;

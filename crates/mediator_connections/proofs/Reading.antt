@@ -2,17 +2,16 @@
 use Rattle.std.proofs.Common.{◌≡◌, inl, inr, ℕ, ◌+◌, Bool, false, List, [], ◌∷◌, ◌++◌, length, Option, Some, None, refl, sym, ap, ◌∙◌, subst, append-nil, append_assoc, arith, length-append}
 use Rattle.std.specs.Io.KnownBytes.{Consumes}
 use Rattle.std.proofs.KnownBytes.{Consumes-trans, Consumes-nil}
-use Rattle.ipfix_message.specs.declared.frame_error.FrameError.{FrameError}
-use Rattle.ipfix_message.specs.declared.frame_error.FrameError.TheVariants as frame
+use Rattle.ipfix_message.specs.declared.fault.Fault.{Fault as DecodeError}
+use Rattle.ipfix_message.specs.declared.fault.Fault.TheVariants as frame
 use Rattle.ipfix_message.specs.Framing.{IsFramed}
 use Rattle.ipfix_reader.specs.declared.fault.FramingFault.TheVariants as framing
-use Rattle.ipfix_reader.specs.declared.fault.IntakeFault.{IntakeFault}
-use Rattle.ipfix_reader.specs.declared.fault.IntakeFault.TheVariants as intake
-use Rattle.ipfix_reader.specs.Intake.{IntakeState, nothing_read, Takes, Ends, Stops, HasFault, reader_after as intake_reader}
+use Rattle.ipfix_reader.specs.declared.fault.Fault.{Fault as IntakeFault}
+use Rattle.ipfix_reader.specs.declared.fault.Fault.TheVariants as intake
+use Rattle.ipfix_reader.specs.Intake.{IntakeState, nothing_read, Yields, Ends, StopsIntake, StreamHasFault, reader_after as intake_reader}
 use Rattle.shared_mediator.specs.Locked.{Exporting}
-use Rattle.shared_mediator.specs.declared.fault.PullFault.TheVariants as pull
-use Rattle.mediator_connections.specs.declared.fault.ServeFault.{ServeFault}
-use Rattle.mediator_connections.specs.declared.fault.ServeFault.TheVariants.{Read, Write, Framing, Turns, TooWide, TooManyCounts, Core}
+use Rattle.mediator_connections.specs.declared.fault.Fault.{Fault}
+use Rattle.mediator_connections.specs.declared.fault.Fault.TheVariants.{Read, Write, Framing, Turns, TooWide, TooManyCounts, Mediator}
 use Rattle.mediator_connections.specs.Faults.{out_of_memory, intake_refusal, reader_after}
 use Rattle.mediator_connections.specs.Serving.{IsRefusalOf, Offers, OffersWhole, OffersBefore, AreRead, RefusesOne, Serves, StopsAt, StopsServing, RefusesAmong, Reaches}
 use Rattle.mediator_connections.proofs.Offering.{offers_none, offers_then, receipts_count}
@@ -25,7 +24,7 @@ nothing_framed = record {
   ends = (refl, record { version = λ le. absurd (omega arith); least = λ le. absurd (omega arith); short = λ le. absurd (omega arith) });
 }
 
-emptied : (w : FrameError) (octets : List ℕ) (messages : List (List ℕ)) (pending : List ℕ) → IsFramed octets messages (Some w) pending → IsFramed octets messages (Some w) []
+emptied : (w : DecodeError) (octets : List ℕ) (messages : List (List ℕ)) (pending : List ℕ) → IsFramed octets messages (Some w) pending → IsFramed octets messages (Some w) []
 emptied w octets messages pending framed = subst (IsFramed octets messages (Some w)) framed.ends.0 framed
 
 -- a call that read nothing leaves all as it was
@@ -45,7 +44,7 @@ reading_starts turns i given d new = record {
 }
 
 -- a piece was read, and the messages that it made whole were offered
-pub reads_on : (turns : ℕ) (i k : IntakeState) (given mid left : Option (List ℕ)) (old d e : Exporting) (out : List (List ℕ)) → Reaches turns i given mid old d → Takes i mid left out k → Offers d e out → Reaches turns k given left old e
+pub reads_on : (turns : ℕ) (i k : IntakeState) (given mid left : Option (List ℕ)) (old d e : Exporting) (out : List (List ℕ)) → Reaches turns i given mid old d → Yields i mid left out k → Offers d e out → Reaches turns k given left old e
 reads_on turns i k given mid left old d e out so takes offers = record {
   octets = so.octets ++ takes.piece;
   messages = so.messages ++ out;
@@ -90,7 +89,7 @@ begins_not turns given d = record {
 }
 
 -- one of the messages is refused
-refuses_one : (e : ServeFault) (turns : ℕ) (i k : IntakeState) (given mid left : Option (List ℕ)) (old d new : Exporting) (out : List (List ℕ)) → (so : Reaches turns i given mid old d) → (takes : Takes i mid left out k) → RefusesAmong e d new out
+refuses_one : (e : Fault) (turns : ℕ) (i k : IntakeState) (given mid left : Option (List ℕ)) (old d new : Exporting) (out : List (List ℕ)) → (so : Reaches turns i given mid old d) → (takes : Yields i mid left out k) → RefusesAmong e d new out
     → RefusesOne (so.octets ++ takes.piece) old new
 refuses_one e turns i k given mid left old d new out so takes stop = record {
   before = so.messages ++ stop.before;
@@ -103,9 +102,8 @@ refuses_one e turns i k given mid left old d new out so takes stop = record {
   offers = offers_then old d new so.messages stop.before so.all.offers stop.offers;
 }
 
-stops_there : (e : ServeFault) (turns : ℕ) (octets : List ℕ) (left : Option (List ℕ)) (old new : Exporting) → (one : RefusesOne octets old new) → IsRefusalOf e one.message → AreRead turns octets → StopsAt e turns octets left old new
-stops_there (Core (pull.Core why)) turns octets left old new one is few = (inl one, few)
-stops_there (Core pull.HandedFull) turns octets left old new one is few = absurd is
+stops_there : (e : Fault) (turns : ℕ) (octets : List ℕ) (left : Option (List ℕ)) (old new : Exporting) → (one : RefusesOne octets old new) → IsRefusalOf e one.message → AreRead turns octets → StopsAt e turns octets left old new
+stops_there (Mediator why) turns octets left old new one is few = (inl (one, is), few)
 stops_there TooWide turns octets left old new one is few = ((one, is), few)
 stops_there TooManyCounts turns octets left old new one is few = ((one, is), few)
 stops_there Read turns octets left old new one is few = absurd is
@@ -113,7 +111,7 @@ stops_there (Write sent) turns octets left old new one is few = absurd is
 stops_there (Framing why) turns octets left old new one is few = absurd is
 stops_there Turns turns octets left old new one is few = absurd is
 
-pub message_stops : (e : ServeFault) (turns : ℕ) (i k : IntakeState) (given mid left : Option (List ℕ)) (old d new : Exporting) (out : List (List ℕ)) → Reaches turns i given mid old d → Takes i mid left out k → RefusesAmong e d new out
+pub message_stops : (e : Fault) (turns : ℕ) (i k : IntakeState) (given mid left : Option (List ℕ)) (old d new : Exporting) (out : List (List ℕ)) → Reaches turns i given mid old d → Yields i mid left out k → RefusesAmong e d new out
     → StopsServing e turns given left old new
 unfolding refuses_one
 message_stops e turns i k given mid left old d new out so takes stop = record {
@@ -130,13 +128,13 @@ whole_after turns i given left old d so sound = record {
 }
 
 -- the octets of a stream with a fault
-record FaultIn (w : FrameError) (turns : ℕ) (given left : Option (List ℕ)) (old d : Exporting) : Type 0 where
+record FaultIn (w : DecodeError) (turns : ℕ) (given left : Option (List ℕ)) (old d : Exporting) : Type 0 where
   pub octets : List ℕ
   pub taken : Consumes given left octets
   pub before : OffersBefore w octets old d
   pub few : AreRead turns octets
 
-faulty : (w : FrameError) (turns : ℕ) (i k : IntakeState) (given mid left : Option (List ℕ)) (old d : Exporting) → Reaches turns i given mid old d → HasFault w i mid left k → FaultIn w turns given left old d
+faulty : (w : DecodeError) (turns : ℕ) (i k : IntakeState) (given mid left : Option (List ℕ)) (old d : Exporting) → Reaches turns i given mid old d → StreamHasFault w i mid left k → FaultIn w turns given left old d
 faulty w turns i k given mid left old d so (inl was) = record {
   octets = so.octets;
   taken = same_read given mid left so.octets so.taken was.1.read;
@@ -160,7 +158,7 @@ faulty w turns i k given mid left old d so (inr now) = record {
 }
 
 -- the intake hands out nothing more
-pub intake_stops : (w : IntakeFault) (turns : ℕ) (i k : IntakeState) (given mid left : Option (List ℕ)) (old d : Exporting) → Reaches turns i given mid old d → Stops w i mid left k → StopsServing (intake_refusal w) turns given left old d
+pub intake_stops : (w : IntakeFault) (turns : ℕ) (i k : IntakeState) (given mid left : Option (List ℕ)) (old d : Exporting) → Reaches turns i given mid old d → StopsIntake w i mid left k → StopsServing (intake_refusal w) turns given left old d
 intake_stops intake.Read turns i k given mid left old d so stops = record {
   octets = so.octets;
   taken = same_read given mid left so.octets so.taken stops.read;
@@ -200,15 +198,14 @@ intake_stops intake.OutOfMemory turns i k given mid left old d so stops = record
 }
 
 -- only a failed read leaves a failed reader
-pub intake_reads : (w : IntakeFault) (e : ServeFault) (failed : Bool) → e ≡ intake_refusal w → failed ≡ intake_reader w false → failed ≡ reader_after e
+pub intake_reads : (w : IntakeFault) (e : Fault) (failed : Bool) → e ≡ intake_refusal w → failed ≡ intake_reader w false → failed ≡ reader_after e
 intake_reads intake.Read e failed is fails = rw is fails
 intake_reads (intake.Framing why) e failed is fails = rw is fails
 intake_reads intake.Turns e failed is fails = rw is fails
 intake_reads intake.OutOfMemory e failed is fails = rw is fails
 
-pub refusal_reads : (e : ServeFault) (message : List ℕ) (failed : Bool) → IsRefusalOf e message → failed ≡ false → failed ≡ reader_after e
-refusal_reads (Core (pull.Core why)) message failed is sound = sound
-refusal_reads (Core pull.HandedFull) message failed is sound = absurd is
+pub refusal_reads : (e : Fault) (message : List ℕ) (failed : Bool) → IsRefusalOf e message → failed ≡ false → failed ≡ reader_after e
+refusal_reads (Mediator why) message failed is sound = sound
 refusal_reads TooWide message failed is sound = sound
 refusal_reads TooManyCounts message failed is sound = sound
 refusal_reads Read message failed is sound = absurd is
@@ -216,5 +213,5 @@ refusal_reads (Write sent) message failed is sound = absurd is
 refusal_reads (Framing why) message failed is sound = absurd is
 refusal_reads Turns message failed is sound = absurd is
 
-pub core_reads : (e : ServeFault) (old new : Exporting) (out : List (List ℕ)) (failed : Bool) → RefusesAmong e old new out → failed ≡ false → failed ≡ reader_after e
-core_reads e old new out failed stop sound = refusal_reads e stop.message failed stop.is sound
+pub mediator_reads : (e : Fault) (old new : Exporting) (out : List (List ℕ)) (failed : Bool) → RefusesAmong e old new out → failed ≡ false → failed ≡ reader_after e
+mediator_reads e old new out failed stop sound = refusal_reads e stop.message failed stop.is sound

@@ -1,5 +1,5 @@
 -- Messages that are pulled and written one after another.
-use Rattle.std.proofs.Common.{◌≡◌, ℕ, zero, suc, ◌+◌, ◌-◌, ◌*◌, ◌≤◌, ◌<◌, ◌^◌, Bool, List, [], ◌∷◌, ◌++◌, length, take, drop, Option, Some, None, refl, sym, ap, ◌∙◌, subst, arith, append-nil, append_assoc, length-append, get_or}
+use Rattle.std.proofs.Common.{◌≡◌, ℕ, zero, suc, ◌+◌, ◌*◌, ◌≤◌, ◌<◌, ◌^◌, Bool, List, [], ◌∷◌, ◌++◌, length, take, drop, Option, Some, None, refl, sym, ap, ◌∙◌, subst, arith, append-nil, append_assoc, length-append, get_or}
 use Rattle.std.specs.List.{AllByRecursion}
 use Rattle.std.specs.Io.KnownBytes.{Appends}
 use Rattle.std.proofs.KnownBytes.{Appends-trans, Appends-nil}
@@ -19,13 +19,13 @@ use Rattle.stream_meaning.proofs.Steps.{run_fits}
 use Rattle.stream_meaning.proofs.Listed.{parts_known}
 use Rattle.mediator_history.proofs.HistoryLaws.{flat_map-push}
 use Rattle.shared_mediator.specs.declared.handed.Handed.{Handed}
-use Rattle.shared_mediator.specs.declared.fault.PullFault.{PullFault}
+use Rattle.mediator_state.specs.declared.fault.Fault.{Fault as MediatorFault}
 use Rattle.shared_mediator.specs.Locked.{Delivering}
-use Rattle.shared_mediator.specs.Handles.{IsBuilt, KeepsSome}
-use Rattle.mediator_connections.specs.declared.fault.ServeFault.{ServeFault}
-use Rattle.mediator_connections.specs.declared.fault.ServeFault.TheVariants.{Write, Core}
+use Rattle.shared_mediator.specs.Handles.{IsBuilt, KeepsSome, MayRefusePull}
+use Rattle.mediator_connections.specs.declared.fault.Fault.{Fault}
+use Rattle.mediator_connections.specs.declared.fault.Fault.TheVariants.{Write, Mediator}
 use Rattle.mediator_connections.specs.Faults.{writer_after}
-use Rattle.mediator_connections.specs.Delivering.{octets_of, IsDue, Pulls, Delivers, StopsInside, FailsToDeliver, Sends, StopsSending}
+use Rattle.mediator_connections.specs.Delivering.{octets_of, IsDue, PullsSome, DeliversSome, StopsInsideMessages, FailsToDeliver, Sends, StopsSending}
 
 -- ---- how long a message is
 
@@ -68,35 +68,13 @@ pub record Pulled (Shows : ℕ → Type 0) (target : ℕ) (old new : Delivering)
   pub kept : new.kept ≡ old.kept ++ messages
   pub short : length (octets_of messages) ≤ length messages * 65535
 
-pub pulled : (Shows : ℕ → Type 0) (now target count : ℕ) (old new : Delivering) → Shows now → target < 2 ^ 16 → (k : KeepsSome old.kept now target count new.kept) → new.sub ≡ old.sub → Pulled Shows target old new k.messages
-pulled Shows now target count old new shown below k same = record {
-  due = all_due Shows now target k.messages shown k.built;
+pub pulled : (Shows : ℕ → Type 0) (now target : ℕ) (old new : Delivering) (messages : List Handed) → Shows now → target < 2 ^ 16 → KeepsSome old.kept now target messages new.kept → new.sub ≡ old.sub → Pulled Shows target old new messages
+pulled Shows now target old new messages shown below k same = record {
+  due = all_due Shows now target messages shown k.built;
   sub = same;
   kept = k.kept;
-  short = all_short now target k.messages below k.built;
+  short = all_short now target messages below k.built;
 }
-
-pub kept_same : (now target count : ℕ) (old new : Delivering) → count ≤ 0 → KeepsSome old.kept now target count new.kept → new.kept ≡ old.kept
-kept_same now target count old new none k = k.kept ∙ ap (λ t. old.kept ++ t) (empty k.messages (omega (arith, none, k.counted))) ∙ append-nil old.kept
-  where
-    empty : (hs : List Handed) → length hs ≡ 0 → hs ≡ []
-    empty [] l = refl
-    empty (h ∷ hs) l = absurd (omega (arith, l))
-
--- those that were pulled stand behind as many as were there
-pub pulled_are : (before old shown new messages : List Handed) → before ≡ old → shown ≡ new → new ≡ old ++ messages → take (length shown - length before) (drop (length before) shown) ≡ messages
-pulled_are before old shown new messages was is kept =
-    ap (take (length shown - length before)) dropped ∙ take_all (length shown - length before) messages (omega (arith, ap length whole, ap length was, length-append old messages))
-  where
-    behind : (xs ys : List Handed) → drop (length xs) (xs ++ ys) ≡ ys
-    behind [] ys = refl
-    behind (x ∷ xs) ys = behind xs ys
-
-    whole : shown ≡ old ++ messages
-    whole = is ∙ kept
-
-    dropped : drop (length before) shown ≡ messages
-    dropped = ap (λ (xs : List Handed). drop (length xs) shown) was ∙ ap (drop (length old)) whole ∙ behind old messages
 
 -- ---- messages one after another
 
@@ -104,7 +82,7 @@ all_pushed : {X : Type 0} (P : X → Type 0) (xs : List X) (x : X) → AllByRecu
 all_pushed P [] x all p = (p, tt)
 all_pushed P (y ∷ xs) x all p = (all.0, all_pushed P xs x all.1 p)
 
-pub sends_none : (Shows : ℕ → Type 0) (target : ℕ) (d : Delivering) (held : Option (List ℕ)) → Delivers Shows target 0 d d (writer_of held held)
+pub sends_none : (Shows : ℕ → Type 0) (target : ℕ) (d : Delivering) (held : Option (List ℕ)) → DeliversSome Shows target 0 d d (writer_of held held)
 sends_none Shows target d held = record {
   messages = [];
   pulls = record { sub = refl; kept = sym (append-nil d.kept); due = tt };
@@ -113,7 +91,7 @@ sends_none Shows target d held = record {
 }
 
 -- nothing was pulled
-pub sends_same : (Shows : ℕ → Type 0) (target sent : ℕ) (old d e : Delivering) (held holds : Option (List ℕ)) → Delivers Shows target sent old d (writer_of held holds) → e.kept ≡ d.kept → e.sub ≡ d.sub → Delivers Shows target sent old e (writer_of held holds)
+pub sends_same : (Shows : ℕ → Type 0) (target sent : ℕ) (old d e : Delivering) (held holds : Option (List ℕ)) → DeliversSome Shows target sent old d (writer_of held holds) → e.kept ≡ d.kept → e.sub ≡ d.sub → DeliversSome Shows target sent old e (writer_of held holds)
 sends_same Shows target sent old d e held holds so kept sub = record {
   messages = so.messages;
   pulls = record { sub = sub ∙ so.pulls.sub; kept = kept ∙ so.pulls.kept; due = so.pulls.due };
@@ -126,7 +104,7 @@ all_behind : {X : Type 0} (P : X → Type 0) (xs ys : List X) → AllByRecursion
 all_behind P [] ys all then = then
 all_behind P (x ∷ xs) ys all then = (all.0, all_behind P xs ys all.1 then)
 
-pulls_on : (Shows : ℕ → Type 0) (target : ℕ) (old d e : Delivering) (messages more : List Handed) → Pulls Shows target old d messages → Pulled Shows target d e more → Pulls Shows target old e (messages ++ more)
+pulls_on : (Shows : ℕ → Type 0) (target : ℕ) (old d e : Delivering) (messages more : List Handed) → PullsSome Shows target old d messages → Pulled Shows target d e more → PullsSome Shows target old e (messages ++ more)
 pulls_on Shows target old d e messages more so p = record {
   sub = p.sub ∙ so.sub;
   kept = p.kept ∙ ap (λ t. t ++ more) so.kept ∙ append_assoc old.kept messages more;
@@ -137,8 +115,8 @@ octets_joined : (messages more : List Handed) → octets_of (messages ++ more) �
 octets_joined messages more = flat_map-append (λ k. k.message) messages more
 
 -- and written
-pub sends_on : (Shows : ℕ → Type 0) (target sent n : ℕ) (old d e : Delivering) (more : List Handed) (held holds writes : Option (List ℕ)) → Delivers Shows target sent old d (writer_of held holds) → Pulled Shows target d e more
-    → Sends (octets_of more) sent n holds writes → Delivers Shows target n old e (writer_of held writes)
+pub sends_on : (Shows : ℕ → Type 0) (target sent n : ℕ) (old d e : Delivering) (more : List Handed) (held holds writes : Option (List ℕ)) → DeliversSome Shows target sent old d (writer_of held holds) → Pulled Shows target d e more
+    → Sends (octets_of more) sent n holds writes → DeliversSome Shows target n old e (writer_of held writes)
 sends_on Shows target sent n old d e more held holds writes so p sends = record {
   messages = so.messages ++ more;
   pulls = pulls_on Shows target old d e so.messages more so.pulls p;
@@ -158,14 +136,14 @@ front_behind before due front held holds writes failed so stops = record {
 }
 
 -- inside the messages that were pulled at once
-pub sends_inside : (f : ServeFault) (Shows : ℕ → Type 0) (target sent : ℕ) (old d e : Delivering) (more : List Handed) (held holds writes : Option (List ℕ)) (failed : Bool) → Delivers Shows target sent old d (writer_of held holds) → Pulled Shows target d e more
+pub sends_inside : (f : Fault) (Shows : ℕ → Type 0) (target sent : ℕ) (old d e : Delivering) (more : List Handed) (held holds writes : Option (List ℕ)) (failed : Bool) → DeliversSome Shows target sent old d (writer_of held holds) → Pulled Shows target d e more
     → length more ≤ 32 → StopsSending f (octets_of more) sent holds writes failed → FailsToDeliver f Shows target old e (writer_of held writes) failed
 sends_inside f Shows target sent old d e more held holds writes failed so p few stops = rw stops.is inside
   where
     place : sent + stops.front ≡ length (octets_of so.messages) + stops.front
     place = ap (λ n. n + stops.front) so.counted
 
-    inside : StopsInside Shows target (sent + stops.front) old e (writer_of held writes) failed
+    inside : StopsInsideMessages Shows target (sent + stops.front) old e (writer_of held writes) failed
     inside = record {
       messages = so.messages;
       last = more;
@@ -176,7 +154,7 @@ sends_inside f Shows target sent old d e more held holds writes failed so p few 
       whole = omega (arith, so.counted);
     }
 
-pub inside_fails : (f : ServeFault) (octets : List ℕ) (sent : ℕ) (holds writes : Option (List ℕ)) (failed : Bool) → StopsSending f octets sent holds writes failed → failed ≡ writer_after f
+pub inside_fails : (f : Fault) (octets : List ℕ) (sent : ℕ) (holds writes : Option (List ℕ)) (failed : Bool) → StopsSending f octets sent holds writes failed → failed ≡ writer_after f
 inside_fails f octets sent holds writes failed stops = rw stops.is (stops.inside.failed)
 
 -- ---- messages are written one after another
@@ -233,7 +211,7 @@ sending_ends messages begun sent place held holds so over = record {
   counted = so.counted ∙ ap (λ ms. begun + length (octets_of ms)) (take_all place messages over);
 }
 
-pub sending_stops : (f : ServeFault) (messages : List Handed) (begun sent place : ℕ) (h other : Handed) (held holds writes : Option (List ℕ)) (failed : Bool) → IsSending messages begun sent place held holds → place < length messages
+pub sending_stops : (f : Fault) (messages : List Handed) (begun sent place : ℕ) (h other : Handed) (held holds writes : Option (List ℕ)) (failed : Bool) → IsSending messages begun sent place held holds → place < length messages
     → h ≡ get_or messages place other → StopsSending f h.message sent holds writes failed → StopsSending f (octets_of messages) begun held writes failed
 sending_stops f messages begun sent place h other held holds writes failed so l at stops = record {
   front = length (octets_of (take place messages)) + stops.front;
@@ -253,6 +231,6 @@ sending_stops f messages begun sent place h other held holds writes failed so l 
     }
 
 -- a pull is refused
-pub refused : (f : ServeFault) (why : PullFault) (Shows : ℕ → Type 0) (target sent : ℕ) (old d e : Delivering) (held holds : Option (List ℕ)) (failed : Bool) → f ≡ Core why → e ≡ d → Delivers Shows target sent old d (writer_of held holds)
+pub refused : (f : Fault) (why : MediatorFault) (Shows : ℕ → Type 0) (target sent : ℕ) (old d e : Delivering) (held holds : Option (List ℕ)) (failed : Bool) → f ≡ Mediator why → MayRefusePull why → e ≡ d → DeliversSome Shows target sent old d (writer_of held holds)
     → FailsToDeliver f Shows target old e (writer_of held holds) failed
-refused f why Shows target sent old d e held holds failed is same so = rw is (sent, subst (λ x. Delivers Shows target sent old x (writer_of held holds)) (sym same) so)
+refused f why Shows target sent old d e held holds failed is may same so = rw is ((sent, subst (λ x. DeliversSome Shows target sent old x (writer_of held holds)) (sym same) so), may)

@@ -8,17 +8,16 @@ use Rattle.event_journal.specs.declared.entry.Entry.TheVariants.{Edit, Subscribe
 use Rattle.shared_mediator.specs.declared.kept.KeptEntry.{KeptEntry}
 use Rattle.ipfix_reader.specs.declared.fault.FramingFault.TheVariants as framing
 use Rattle.mediator_state.specs.declared.fault.Fault.TheVariants as fault
-use Rattle.shared_mediator.specs.declared.fault.PullFault.TheVariants as pull
 use Rattle.shared_mediator.specs.Handles.{KeepsEntry}
-use Rattle.admin_text.specs.Sayings.{Saying}
-use Rattle.admin_text.specs.Sayings.Saying.{to_edit, to_subscribe, to_unsubscribe, to_advance, to_tell_status, to_drain_audit, to_tell, to_stop}
+use Rattle.admin_text.specs.Sayings.{AdminSaying}
+use Rattle.admin_text.specs.Sayings.AdminSaying.{to_edit, to_subscribe, to_unsubscribe, to_advance, to_tell_status, to_drain_audit, to_tell, to_stop}
 use Rattle.admin_text.specs.Reading.{command_of}
-use Rattle.admin_text.specs.Answers.{IsTextOf}
+use Rattle.admin_text.specs.Answers.{IsAnswerText}
 use Rattle.admin_text.specs.declared.answer.Answer.{Answer}
 use Rattle.admin_text.specs.declared.answer.Answer.TheVariants as answer
-use Rattle.mediator_connections.specs.declared.fault.ServeFault.{ServeFault}
-use Rattle.mediator_connections.specs.declared.fault.ServeFault.TheVariants.{Read, Write, Framing, Turns, Core}
-use Rattle.mediator_connections.specs.CommandInput.{InputState, HandsOut, IsLine, IsBegun, StopsReading}
+use Rattle.mediator_connections.specs.declared.fault.Fault.{Fault}
+use Rattle.mediator_connections.specs.declared.fault.Fault.TheVariants.{Read, Write, Framing, Turns, Mediator}
+use Rattle.mediator_connections.specs.CommandInput.{InputState, HandsOutOctets, IsLine, IsInside, StopsReading}
 
 -- what an administrator's handle keeps, before and after
 pub record Handle : Type 0 where
@@ -31,26 +30,26 @@ handle_of before after = record { before = before; after = after }
 -- ---- one call
 
 -- what an edit by these octets answers, and what the handle keeps
-abbrev pub Edits : List ℕ → Answer → List KeptEntry → List KeptEntry → Type 0
-Edits text (answer.Edited revision) old new = KeepsEntry old (Edit text) new
-Edits text (answer.Refused why) old new = new ≡ old
-Edits text answer.BadText old new = ¬ (IsUtf8 text) × (new ≡ old)
-Edits text _ old new = ⊥
+abbrev pub AnswersEdit : List ℕ → Answer → List KeptEntry → List KeptEntry → Type 0
+AnswersEdit text (answer.Edited revision) old new = KeepsEntry old (Edit text) new
+AnswersEdit text (answer.Refused why) old new = new ≡ old
+AnswersEdit text answer.BadText old new = ¬ (IsUtf8 text) × (new ≡ old)
+AnswersEdit text _ old new = ⊥
 
-abbrev pub Subscribes : List ℕ → Answer → List KeptEntry → List KeptEntry → Type 0
-Subscribes name (answer.Subscribed sub) old new = KeepsEntry old (Subscribe sub name) new
-Subscribes name (answer.Refused why) old new = new ≡ old
-Subscribes name _ old new = ⊥
+abbrev pub AnswersSubscribe : List ℕ → Answer → List KeptEntry → List KeptEntry → Type 0
+AnswersSubscribe name (answer.Subscribed sub) old new = KeepsEntry old (Subscribe sub name) new
+AnswersSubscribe name (answer.Refused why) old new = new ≡ old
+AnswersSubscribe name _ old new = ⊥
 
-abbrev pub Unsubscribes : ℕ → Answer → List KeptEntry → List KeptEntry → Type 0
-Unsubscribes sub answer.Done old new = KeepsEntry old (Unsubscribe sub) new
-Unsubscribes sub (answer.Refused why) old new = new ≡ old
-Unsubscribes sub _ old new = ⊥
+abbrev pub AnswersUnsubscribe : ℕ → Answer → List KeptEntry → List KeptEntry → Type 0
+AnswersUnsubscribe sub answer.Done old new = KeepsEntry old (Unsubscribe sub) new
+AnswersUnsubscribe sub (answer.Refused why) old new = new ≡ old
+AnswersUnsubscribe sub _ old new = ⊥
 
-abbrev pub Advances : ℕ → Answer → List KeptEntry → List KeptEntry → Type 0
-Advances t answer.Done old new = KeepsEntry old (Advance t) new
-Advances t (answer.Refused why) old new = new ≡ old
-Advances t _ old new = ⊥
+abbrev pub AnswersAdvance : ℕ → Answer → List KeptEntry → List KeptEntry → Type 0
+AnswersAdvance t answer.Done old new = KeepsEntry old (Advance t) new
+AnswersAdvance t (answer.Refused why) old new = new ≡ old
+AnswersAdvance t _ old new = ⊥
 
 -- no subscription has the number, or this is how it stands
 abbrev pub TellsStatus : Answer → List KeptEntry → List KeptEntry → Type 0
@@ -64,22 +63,22 @@ DrainsAudit (answer.Refused why) old new = (why ≡ fault.OutOfMemory) × (new �
 DrainsAudit _ old new = ⊥
 
 -- a page was told, or there was no memory for it
-abbrev pub Tells : Answer → List KeptEntry → List KeptEntry → Type 0
-Tells (answer.Told page) old new = new ≡ old
-Tells (answer.Refused why) old new = (why ≡ fault.OutOfMemory) × (new ≡ old)
-Tells _ old new = ⊥
+abbrev pub TellsPage : Answer → List KeptEntry → List KeptEntry → Type 0
+TellsPage (answer.Told page) old new = new ≡ old
+TellsPage (answer.Refused why) old new = (why ≡ fault.OutOfMemory) × (new ≡ old)
+TellsPage _ old new = ⊥
 
 -- what is answered to what a line asks for, with the octets behind the line that belong to it, and what the handle keeps by it
-abbrev pub Answers : Option Saying → List ℕ → Answer → List KeptEntry → List KeptEntry → Type 0
-Answers (Some (to_edit octets)) text reply old new = (length text ≡ octets) × Edits text reply old new
-Answers (Some (to_subscribe name)) text reply old new = (text ≡ []) × Subscribes name reply old new
-Answers (Some (to_unsubscribe sub)) text reply old new = (text ≡ []) × Unsubscribes sub reply old new
-Answers (Some (to_advance t)) text reply old new = (text ≡ []) × Advances t reply old new
-Answers (Some (to_tell_status sub)) text reply old new = (text ≡ []) × TellsStatus reply old new
-Answers (Some (to_drain_audit max)) text reply old new = (text ≡ []) × DrainsAudit reply old new
-Answers (Some (to_tell topic)) text reply old new = (text ≡ []) × Tells reply old new
-Answers (Some to_stop) text reply old new = (text ≡ []) × (reply ≡ answer.Done) × (new ≡ old)
-Answers None text reply old new = (text ≡ []) × (reply ≡ answer.BadLine) × (new ≡ old)
+abbrev pub AnswersLine : Option AdminSaying → List ℕ → Answer → List KeptEntry → List KeptEntry → Type 0
+AnswersLine (Some (to_edit octets)) text reply old new = (length text ≡ octets) × AnswersEdit text reply old new
+AnswersLine (Some (to_subscribe name)) text reply old new = (text ≡ []) × AnswersSubscribe name reply old new
+AnswersLine (Some (to_unsubscribe sub)) text reply old new = (text ≡ []) × AnswersUnsubscribe sub reply old new
+AnswersLine (Some (to_advance t)) text reply old new = (text ≡ []) × AnswersAdvance t reply old new
+AnswersLine (Some (to_tell_status sub)) text reply old new = (text ≡ []) × TellsStatus reply old new
+AnswersLine (Some (to_drain_audit most)) text reply old new = (text ≡ []) × DrainsAudit reply old new
+AnswersLine (Some (to_tell topic)) text reply old new = (text ≡ []) × TellsPage reply old new
+AnswersLine (Some to_stop) text reply old new = (text ≡ []) × (reply ≡ answer.Done) × (new ≡ old)
+AnswersLine None text reply old new = (text ≡ []) × (reply ≡ answer.BadLine) × (new ≡ old)
 
 -- ---- one line after another
 
@@ -92,31 +91,31 @@ pub record Exchange : Type 0 where
   pub written : List ℕ
 
 -- the octets of exchanges, as they are read and as they are written
-abbrev pub asked : List Exchange → List ℕ
-asked exchanges = flat_map (λ x. x.octets ++ x.text) exchanges
+abbrev pub octets_read : List Exchange → List ℕ
+octets_read exchanges = flat_map (λ x. x.octets ++ x.text) exchanges
 
-abbrev pub answered : List Exchange → List ℕ
-answered exchanges = flat_map (λ x. x.written) exchanges
+abbrev pub octets_written : List Exchange → List ℕ
+octets_written exchanges = flat_map (λ x. x.written) exchanges
 
 -- the line was read, and its call was made: the handle keeps what the reply says
 pub record IsExchange (x : Exchange) (old new : List KeptEntry) : Type 0 where
   pub line : IsLine x.line x.octets
-  pub answers : Answers (command_of x.line) x.text x.reply old new
-  pub written : IsTextOf x.reply x.written
+  pub answers : AnswersLine (command_of x.line) x.text x.reply old new
+  pub written : IsAnswerText x.reply x.written
 
 abbrev pub AreExchanges : List Exchange → List KeptEntry → List KeptEntry → Type 0
 AreExchanges [] old new = new ≡ old
 AreExchanges (x ∷ xs) old new = (mid : List KeptEntry) × IsExchange x old mid × AreExchanges xs mid new
 
 -- a command, behind which more may come: one that isn't to stop
-abbrev pub GoesOn : Exchange → Type 0
-GoesOn x = IsSome (command_of x.line) × (command_of x.line ≢ Some to_stop)
+abbrev pub MayBeFollowed : Exchange → Type 0
+MayBeFollowed x = IsSome (command_of x.line) × (command_of x.line ≢ Some to_stop)
 
 -- commands were read and their calls were made, in order, and then this line's, if there is one; and these octets behind them were read
 pub record Exchanges (commands last : List Exchange) (rest : List ℕ) (reader : Reader) (handle : Handle) : Type 0 where
-  pub are : AllByRecursion GoesOn commands
+  pub are : AllByRecursion MayBeFollowed commands
   pub done : AreExchanges (commands ++ last) handle.before handle.after
-  pub read : Consumes reader.given reader.left (asked (commands ++ last) ++ rest)
+  pub read : Consumes reader.given reader.left (octets_read (commands ++ last) ++ rest)
 
 -- ---- where it ends
 
@@ -132,7 +131,7 @@ pub record ServesAdmin (count : ℕ) (reader : Reader) (writer : Writer) (handle
   pub last : List Exchange
   pub rest : List ℕ
   pub exchanges : Exchanges commands last rest reader handle
-  pub written : Appends writer.held writer.holds (answered (commands ++ last))
+  pub written : Appends writer.held writer.holds (octets_written (commands ++ last))
   pub more : ℕ
   pub counted : count ≡ length commands + more
   pub ends : EndsAt last more rest reader.left
@@ -142,7 +141,7 @@ pub record ServesAdmin (count : ℕ) (reader : Reader) (writer : Writer) (handle
 -- commands were answered, and of the next one these octets were read at least, and no call was made
 pub record StopsInside (commands : List Exchange) (begun : List ℕ) (reader : Reader) (writer : Writer) (handle : Handle) : Type 0 where
   pub exchanges : Exchanges commands [] begun reader handle
-  pub written : Appends writer.held writer.holds (answered commands)
+  pub written : Appends writer.held writer.holds (octets_written commands)
 
 -- commands were answered, and the call of the next line was made
 pub record StopsBehind (commands : List Exchange) (last : Exchange) (reader : Reader) (handle : Handle) : Type 0 where
@@ -151,29 +150,29 @@ pub record StopsBehind (commands : List Exchange) (last : Exchange) (reader : Re
 
 -- why it stops: the reader failed; no read is left, and each gave some octets; the input ended inside a command; there was no memory
 -- for what was read; the writer failed inside an answer; or with the next answer, the octets could not be counted
-abbrev pub StopsAdmin : ServeFault → ℕ → Reader → Writer → Bool → Handle → List Exchange → Type 0
+abbrev pub StopsAdmin : Fault → ℕ → Reader → Writer → Bool → Handle → List Exchange → Type 0
 StopsAdmin Read turns reader writer has_failed handle commands = (begun : List ℕ) × StopsInside commands begun reader writer handle
 StopsAdmin Turns turns reader writer has_failed handle commands =
-    (begun : List ℕ) × StopsInside commands begun reader writer handle × (turns ≤ length (asked commands ++ begun))
+    (begun : List ℕ) × StopsInside commands begun reader writer handle × (turns ≤ length (octets_read commands ++ begun))
 StopsAdmin (Framing framing.CutOff) turns reader writer has_failed handle commands =
     (begun : List ℕ) × StopsInside commands begun reader writer handle × (0 < length begun) × IsAtEnd reader.left
-StopsAdmin (Core (pull.Core fault.OutOfMemory)) turns reader writer has_failed handle commands =
+StopsAdmin (Mediator fault.OutOfMemory) turns reader writer has_failed handle commands =
     (begun : List ℕ) × StopsInside commands begun reader writer handle
 StopsAdmin (Write sent) turns reader writer has_failed handle commands =
     (last : Exchange) × StopsBehind commands last reader handle
-    × WritesFront writer.held writer.holds (answered (commands ++ last ∷ [])) sent has_failed × (length (answered commands) ≤ sent)
-StopsAdmin (Core pull.HandedFull) turns reader writer has_failed handle commands =
+    × WritesFront writer.held writer.holds (octets_written (commands ++ last ∷ [])) sent has_failed × (length (octets_written commands) ≤ sent)
+StopsAdmin (Mediator fault.HandedFull) turns reader writer has_failed handle commands =
     (last : Exchange) × StopsBehind commands last reader handle
-    × Appends writer.held writer.holds (answered commands) × (2 ^ 64 ≤ length (answered (commands ++ last ∷ [])))
+    × Appends writer.held writer.holds (octets_written commands) × (2 ^ 64 ≤ length (octets_written (commands ++ last ∷ [])))
 StopsAdmin _ turns reader writer has_failed handle commands = ⊥
 
 -- ---- what no public clause cites
 
 -- octets behind a line were handed out, and what the line asks for was answered so
-pub record Performs (read : Option Saying) (reply : Answer) (old : InputState) (reader : Reader) (new : InputState) (handle : Handle) : Type 0 where
+pub record Performs (read : Option AdminSaying) (reply : Answer) (old : InputState) (reader : Reader) (new : InputState) (handle : Handle) : Type 0 where
   pub text : List ℕ
-  pub handed : HandsOut old reader.given reader.left text new
-  pub answers : Answers read text reply handle.before handle.after
+  pub handed : HandsOutOctets old reader.given reader.left text new
+  pub answers : AnswersLine read text reply handle.before handle.after
 
 -- a line was handed out, with the text behind it, and answered so; and whether it asks to stop
 pub record Hears (reply : Answer) (stops : Bool) (old : InputState) (reader : Reader) (new : InputState) (handle : Handle) : Type 0 where
@@ -181,23 +180,23 @@ pub record Hears (reply : Answer) (stops : Bool) (old : InputState) (reader : Re
   pub octets : List ℕ
   pub text : List ℕ
   pub is_line : IsLine line octets
-  pub handed : HandsOut old reader.given reader.left (octets ++ text) new
-  pub answers : Answers (command_of line) text reply handle.before handle.after
+  pub handed : HandsOutOctets old reader.given reader.left (octets ++ text) new
+  pub answers : AnswersLine (command_of line) text reply handle.before handle.after
   pub stop : IsTrue stops ↔ (command_of line ≡ Some to_stop)
 
 -- nothing was answered, behind these octets of a command
-pub record StopsHearing (e : ServeFault) (old : InputState) (given left : Option (List ℕ)) (new : InputState) : Type 0 where
+pub record StopsHearing (e : Fault) (old : InputState) (given left : Option (List ℕ)) (new : InputState) : Type 0 where
   pub octets : List ℕ
   pub stops : StopsReading e old given left octets new
-  pub begun : IsBegun e octets
+  pub begun : IsInside e octets
 
 -- the writer failed inside these octets; or behind so many they can't be counted
-abbrev pub StopsSendingOctets : ServeFault → List ℕ → ℕ → Option (List ℕ) → Option (List ℕ) → Bool → Type 0
+abbrev pub StopsSendingOctets : Fault → List ℕ → ℕ → Option (List ℕ) → Option (List ℕ) → Bool → Type 0
 StopsSendingOctets (Write count) octets sent held holds has_failed = (front : ℕ) × (count ≡ sent + front) × WritesFront held holds octets front has_failed
-StopsSendingOctets (Core pull.HandedFull) octets sent held holds has_failed = (holds ≡ held) × (2 ^ 64 ≤ sent + length octets)
+StopsSendingOctets (Mediator fault.HandedFull) octets sent held holds has_failed = (holds ≡ held) × (2 ^ 64 ≤ sent + length octets)
 StopsSendingOctets _ octets sent held holds has_failed = ⊥
 
-pub record StopsReplying (e : ServeFault) (reply : Answer) (sent : ℕ) (held holds : Option (List ℕ)) (has_failed : Bool) : Type 0 where
+pub record StopsReplying (e : Fault) (reply : Answer) (sent : ℕ) (held holds : Option (List ℕ)) (has_failed : Bool) : Type 0 where
   pub text : List ℕ
-  pub is : IsTextOf reply text
+  pub is : IsAnswerText reply text
   pub stops : StopsSendingOctets e text sent held holds has_failed

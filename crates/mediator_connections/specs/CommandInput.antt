@@ -6,9 +6,8 @@ use Rattle.std.specs.Io.KnownBytes.{Consumes, IsAtEnd, prepend_known}
 use Rattle.ipfix_reader.specs.declared.fault.FramingFault.TheVariants as framing
 use Rattle.admin_text.specs.Grammar.{longest_line}
 use Rattle.mediator_state.specs.declared.fault.Fault.TheVariants as fault
-use Rattle.shared_mediator.specs.declared.fault.PullFault.TheVariants as pull
-use Rattle.mediator_connections.specs.declared.fault.ServeFault.{ServeFault}
-use Rattle.mediator_connections.specs.declared.fault.ServeFault.TheVariants.{Read, Framing, Turns, Core}
+use Rattle.mediator_connections.specs.declared.fault.Fault.{Fault}
+use Rattle.mediator_connections.specs.declared.fault.Fault.TheVariants.{Read, Framing, Turns, Mediator}
 
 -- what was read and isn't handed out yet, and how many reads are left
 pub record InputState : Type 0 where
@@ -24,7 +23,7 @@ abbrev pub ahead : InputState → Option (List ℕ) → Option (List ℕ)
 ahead i left = prepend_known i.pending left
 
 -- these octets were handed out; each read for them gave some
-pub record HandsOut (old : InputState) (given left : Option (List ℕ)) (octets : List ℕ) (new : InputState) : Type 0 where
+pub record HandsOutOctets (old : InputState) (given left : Option (List ℕ)) (octets : List ℕ) (new : InputState) : Type 0 where
   pub taken : Consumes (ahead old given) (ahead new left) octets
   pub reads : length old.pending + old.turns ≤ length octets + length new.pending + new.turns
 
@@ -40,17 +39,17 @@ pub record IsLine (line octets : List ℕ) : Type 0 where
 
 -- why no line and no text is handed out, behind these octets of it: the reader failed, no read is left, the input ended, or there was
 -- no memory
-abbrev pub StopsReading : ServeFault → InputState → Option (List ℕ) → Option (List ℕ) → List ℕ → InputState → Type 0
+abbrev pub StopsReading : Fault → InputState → Option (List ℕ) → Option (List ℕ) → List ℕ → InputState → Type 0
 StopsReading Read old given left octets new = Consumes (ahead old given) (ahead new left) octets
-StopsReading Turns old given left octets new = HandsOut old given left octets new × (new.pending ≡ []) × (new.turns ≡ 0)
+StopsReading Turns old given left octets new = HandsOutOctets old given left octets new × (new.pending ≡ []) × (new.turns ≡ 0)
 StopsReading (Framing framing.CutOff) old given left octets new = EndsBehind old given left octets
-StopsReading (Core (pull.Core fault.OutOfMemory)) old given left octets new = HandsOut old given left octets new
+StopsReading (Mediator fault.OutOfMemory) old given left octets new = HandsOutOctets old given left octets new
 StopsReading _ old given left octets new = ⊥
 
 -- where the input ended inside a command, some octets of it were handed out
-abbrev pub IsBegun : ServeFault → List ℕ → Type 0
-IsBegun (Framing framing.CutOff) octets = 0 < length octets
-IsBegun _ octets = Unit {0}
+abbrev pub IsInside : Fault → List ℕ → Type 0
+IsInside (Framing framing.CutOff) octets = 0 < length octets
+IsInside _ octets = Unit {0}
 
 -- ---- what no public clause cites
 

@@ -1,28 +1,27 @@
 -- What refusals of the parts are called here, and which device has failed after a fault.
 use Rattle.std.specs.Prelude.{Bool, true, false}
 use Rattle.mediator_state.specs.declared.fault.Fault.TheVariants as fault
-use Rattle.shared_mediator.specs.declared.fault.PullFault.TheVariants as pull
-use Rattle.ipfix_reader.specs.declared.fault.IntakeFault.{IntakeFault}
-use Rattle.ipfix_reader.specs.declared.fault.IntakeFault.TheVariants as intake
-use Rattle.mediator_connections.specs.declared.fault.ServeFault.{ServeFault}
-use Rattle.mediator_connections.specs.declared.fault.ServeFault.TheVariants.{Read, Write, Framing, Turns, Core}
+use Rattle.ipfix_reader.specs.declared.fault.Fault.{Fault as IntakeFault}
+use Rattle.ipfix_reader.specs.declared.fault.Fault.TheVariants as intake
+use Rattle.mediator_connections.specs.declared.fault.Fault.{Fault}
+use Rattle.mediator_connections.specs.declared.fault.Fault.TheVariants.{Read, Write, Framing, Turns, Mediator}
 
-abbrev pub out_of_memory : ServeFault
-out_of_memory = Core (pull.Core fault.OutOfMemory)
+abbrev pub out_of_memory : Fault
+out_of_memory = Mediator fault.OutOfMemory
 
 -- what an intake's refusal is called
-abbrev pub intake_refusal : IntakeFault → ServeFault
+abbrev pub intake_refusal : IntakeFault → Fault
 intake_refusal intake.Read = Read
 intake_refusal (intake.Framing why) = Framing why
 intake_refusal intake.Turns = Turns
 intake_refusal intake.OutOfMemory = out_of_memory
 
 -- whether a reader has failed that had not failed before: where that is the fault
-abbrev pub reader_after : ServeFault → Bool
+abbrev pub reader_after : Fault → Bool
 reader_after Read = true
 reader_after _ = false
 
 -- whether such a writer has
-abbrev pub writer_after : ServeFault → Bool
+abbrev pub writer_after : Fault → Bool
 writer_after (Write sent) = true
 writer_after _ = false

@@ -1,6 +1,6 @@
 -- Messages that were prepared without the lock.
 use Rattle.std.specs.Prelude.{◌≡◌, ℕ, List, [], ◌∷◌, take, Result, IfOk}
-use Rattle.prepared_message.specs.declared.fault.PrepareFault.{PrepareFault}
+use Rattle.prepared_message.specs.declared.fault.Fault.{Fault as PrepareFault}
 use Rattle.prepared_message.specs.Preparation.{Preparation}
 
 -- each of these is what was found of the message at its place, or why it wasn't prepared; there may be fewer than messages

@@ -3,22 +3,22 @@
 use Rattle.std.specs.Prelude.{◌≡◌, ◌⊎◌, ℕ, ◌+◌, ◌*◌, ◌<◌, ◌≤◌, List, [], ◌∷◌, ◌++◌, map, length, Option, Some, None}
 use Rattle.std.specs.Io.KnownBytes.{Consumes, IsAtEnd}
 use Rattle.ipfix_template.specs.declared.template.Template.{Template}
-use Rattle.ipfix_message.specs.declared.frame_error.FrameError.{FrameError}
-use Rattle.ipfix_message.specs.declared.frame_error.FrameError.TheVariants as frame
+use Rattle.ipfix_message.specs.declared.fault.Fault.{Fault as DecodeError}
+use Rattle.ipfix_message.specs.declared.fault.Fault.TheVariants as frame
 use Rattle.ipfix_message.specs.Framing.{IsFramed}
 use Rattle.ipfix_reader.specs.declared.fault.FramingFault.TheVariants as framing
 use Rattle.ipfix_reader.specs.Intake.{IntakeState}
 use Rattle.event_journal.specs.declared.entry.Entry.{Entry}
 use Rattle.event_journal.specs.declared.entry.Entry.TheVariants.{Message}
 use Rattle.shared_mediator.specs.declared.kept.KeptEntry.{KeptEntry}
-use Rattle.mediator_state.specs.declared.fault.Fault.{Fault}
+use Rattle.mediator_state.specs.declared.fault.Fault.{Fault as MediatorFault}
 use Rattle.mediator_state.specs.declared.fault.Fault.TheVariants as fault
-use Rattle.shared_mediator.specs.declared.fault.PullFault.TheVariants as pull
 use Rattle.prepared_message.specs.Widths.{IsTooWide}
 use Rattle.prepared_message.specs.Holding.{CountsTooMany}
 use Rattle.shared_mediator.specs.Locked.{Exporting}
-use Rattle.mediator_connections.specs.declared.fault.ServeFault.{ServeFault}
-use Rattle.mediator_connections.specs.declared.fault.ServeFault.TheVariants.{Read, Write, Framing, Turns, TooWide, TooManyCounts, Core}
+use Rattle.shared_mediator.specs.Handles.{MayRefuseOffer}
+use Rattle.mediator_connections.specs.declared.fault.Fault.{Fault}
+use Rattle.mediator_connections.specs.declared.fault.Fault.TheVariants.{Read, Write, Framing, Turns, TooWide, TooManyCounts, Mediator}
 
 -- ---- receipts
 
@@ -45,7 +45,7 @@ abbrev pub AreReadBut : ℕ → List ℕ → Type 0
 AreReadBut reads octets = length octets + 65536 ≤ 65536 * reads
 
 -- these octets are these messages, and then this fault or these octets that are pending; all of the messages were offered
-pub record OffersAll (octets : List ℕ) (messages : List (List ℕ)) (faulty : Option FrameError) (pending : List ℕ) (old new : Exporting) : Type 0 where
+pub record OffersAll (octets : List ℕ) (messages : List (List ℕ)) (faulty : Option DecodeError) (pending : List ℕ) (old new : Exporting) : Type 0 where
   pub framed : IsFramed octets messages faulty pending
   pub offers : Offers old new messages
 
@@ -67,7 +67,7 @@ pub record OffersWhole (octets pending : List ℕ) (old new : Exporting) : Type 
   pub all : OffersAll octets messages None pending old new
 
 -- all messages of these octets before this fault were offered
-pub record OffersBefore (faulty : FrameError) (octets : List ℕ) (old new : Exporting) : Type 0 where
+pub record OffersBefore (faulty : DecodeError) (octets : List ℕ) (old new : Exporting) : Type 0 where
   pub messages : List (List ℕ)
   pub all : OffersAll octets messages (Some faulty) [] old new
 
@@ -80,13 +80,13 @@ pub record RefusesOne (octets : List ℕ) (old new : Exporting) : Type 0 where
   pub before : List (List ℕ)
   pub message : List ℕ
   pub later : List (List ℕ)
-  pub faulty : Option FrameError
+  pub faulty : Option DecodeError
   pub pending : List ℕ
   pub framed : IsFramed octets (before ++ message ∷ later) faulty pending
   pub offers : Offers old new before
 
 -- what the last read gave found no memory, or there was none before the first; all whole messages of the octets before that were offered
-pub record LosesPiece (why : Fault) (octets : List ℕ) (old new : Exporting) : Type 0 where
+pub record LosesLastRead (why : MediatorFault) (octets : List ℕ) (old new : Exporting) : Type 0 where
   pub memory : why ≡ fault.OutOfMemory
   pub fed : List ℕ
   pub piece : List ℕ
@@ -96,19 +96,19 @@ pub record LosesPiece (why : Fault) (octets : List ℕ) (old new : Exporting) : 
   pub whole : OffersWhole fed pending old new
 
 -- where it stops that has read these octets, by what cause, and which of their messages were offered
-abbrev pub StopsAt : ServeFault → ℕ → List ℕ → Option (List ℕ) → Exporting → Exporting → Type 0
+abbrev pub StopsAt : Fault → ℕ → List ℕ → Option (List ℕ) → Exporting → Exporting → Type 0
 StopsAt Read turns octets left old new = ((pending : List ℕ) × OffersWhole octets pending old new) × AreReadBut turns octets
 StopsAt Turns turns octets left old new = ((pending : List ℕ) × OffersWhole octets pending old new) × (turns ≤ length octets) × AreRead turns octets
 StopsAt (Framing framing.CutOff) turns octets left old new = ((pending : List ℕ) × OffersWhole octets pending old new × (0 < length pending)) × AreReadBut turns octets × IsAtEnd left
 StopsAt (Framing framing.BadVersion) turns octets left old new = OffersBefore frame.BadVersion octets old new × AreRead turns octets
 StopsAt (Framing framing.BadLength) turns octets left old new = OffersBefore frame.BadLength octets old new × AreRead turns octets
-StopsAt (Core (pull.Core why)) turns octets left old new = (RefusesOne octets old new ⊎ LosesPiece why octets old new) × AreRead turns octets
+StopsAt (Mediator why) turns octets left old new = ((RefusesOne octets old new × MayRefuseOffer why) ⊎ LosesLastRead why octets old new) × AreRead turns octets
 StopsAt TooWide turns octets left old new = ((one : RefusesOne octets old new) × IsTooWideAt one.message) × AreRead turns octets
 StopsAt TooManyCounts turns octets left old new = ((one : RefusesOne octets old new) × CountsTooMany one.message) × AreRead turns octets
 StopsAt _ turns octets left old new = ⊥
 
 -- octets were read, and it stops so
-pub record StopsServing (e : ServeFault) (turns : ℕ) (given left : Option (List ℕ)) (old new : Exporting) : Type 0 where
+pub record StopsServing (e : Fault) (turns : ℕ) (given left : Option (List ℕ)) (old new : Exporting) : Type 0 where
   pub octets : List ℕ
   pub taken : Consumes given left octets
   pub stops : StopsAt e turns octets left old new
@@ -116,9 +116,8 @@ pub record StopsServing (e : ServeFault) (turns : ℕ) (given left : Option (Lis
 -- ---- what no public clause cites
 
 -- why a message isn't offered: the mediator refuses it, it's too wide, or too many of its records count
-abbrev pub IsRefusalOf : ServeFault → List ℕ → Type 0
-IsRefusalOf (Core (pull.Core why)) message = Unit {0}
-IsRefusalOf (Core pull.HandedFull) message = ⊥
+abbrev pub IsRefusalOf : Fault → List ℕ → Type 0
+IsRefusalOf (Mediator why) message = MayRefuseOffer why
 IsRefusalOf TooWide message = IsTooWideAt message
 IsRefusalOf TooManyCounts message = CountsTooMany message
 IsRefusalOf Read message = ⊥
@@ -127,7 +126,7 @@ IsRefusalOf (Framing why) message = ⊥
 IsRefusalOf Turns message = ⊥
 
 -- one of these messages is refused; those before it were offered
-pub record RefusesAmong (e : ServeFault) (old new : Exporting) (messages : List (List ℕ)) : Type 0 where
+pub record RefusesAmong (e : Fault) (old new : Exporting) (messages : List (List ℕ)) : Type 0 where
   pub before : List (List ℕ)
   pub message : List ℕ
   pub later : List (List ℕ)

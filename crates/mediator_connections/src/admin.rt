@@ -2,26 +2,24 @@
 ghost use Rattle.std.specs.Prelude.{◌≡◌, ◌↔◌, IsTrue, ℕ, List, [], Some, false, IfOk, IfErr, OnOk, OnErr, MatchOption};
 ghost use Rattle.octet_io.specs.Moments.{reader_of, writer_of};
 ghost use Rattle.admin_text.specs.Sayings.{saying};
-ghost use Rattle.admin_text.specs.Sayings.Saying.{to_stop};
+ghost use Rattle.admin_text.specs.Sayings.AdminSaying.{to_stop};
 ghost use Rattle.admin_text.specs.Reading.{command_of};
 ghost use Rattle.admin_text.specs.Answers.{WritesAnswer};
 ghost use Rattle.mediator_connections.specs.Faults.{reader_after, writer_after};
 ghost use Rattle.mediator_connections.specs.CommandInput.{EndsBehind, StopsReading};
-ghost use Rattle.mediator_connections.specs.Answering.{handle_of, Edits, Subscribes, Unsubscribes, Advances, TellsStatus, DrainsAudit, Tells, Exchange, ServesAdmin, StopsAdmin, Performs, Hears, StopsHearing, StopsReplying};
+ghost use Rattle.mediator_connections.specs.Answering.{handle_of, AnswersEdit, AnswersSubscribe, AnswersUnsubscribe, AnswersAdvance, TellsStatus, DrainsAudit, TellsPage, Exchange, ServesAdmin, StopsAdmin, Performs, Hears, StopsHearing, StopsReplying};
 
 use crate::command_input::CommandInput;
 use crate::control::{Control, Patience};
-use crate::fault::ServeFault;
+use crate::fault::Fault;
 use crate::room::wait_for_advance;
 use admin_text::{Answer, Command, Topic, read_command, write_answer};
 use answer_writing::{AnswerBuffer, Stopped, drained_length};
 use disclosure_audit::AuditEntry;
-use mediator_calls::{SubId, UnknownSub};
-use mediator_state::Fault;
+use mediator_calls::SubId;
+use mediator_state::Fault as MediatorFault;
 use octet_io::{Sink, Source};
-use shared_mediator::{
-    AdminHandle, EntryLedger, KeptEntry, PullFault, RecordLedger, SharedMediator,
-};
+use shared_mediator::{AdminHandle, EntryLedger, KeptEntry, RecordLedger, SharedMediator};
 use std::alloc::{AllocError, Global};
 use std::str::from_utf8;
 use std::sync::Wait;
@@ -53,10 +51,10 @@ struct Heard {
 ///
 /// # Errors
 /// `Read` where the reader failed; `Framing` where the input ends inside a command; `Turns` where its end isn't read within
-/// `turns` reads; or `Core` where memory ran out for what is read. Then no call was made for the command in hand, and those
-/// before it were answered. `Write` where the writer failed, which says how many octets of all answers were sent; or `Core` where
-/// the octets sent can't be counted in 64 bits. Then the call that was to be answered has been made. What the mediator refuses is
-/// an answer, and no error.
+/// `turns` reads; or `Mediator` where memory ran out for what is read. Then no call was made for the command in hand, and those
+/// before it were answered. `Write` where the writer failed, which says how many octets of all answers were sent; or `Mediator`,
+/// with `HandedFull`, where the octets sent can't be counted in 64 bits. Then the call that was to be answered has been made. What
+/// the mediator refuses is an answer, and no error.
 pub fn serve_admin<E: EntryLedger, H: RecordLedger, R: Source, W: Sink, C: Control>(
     rt: &impl Wait,
     alloc: Global,
@@ -66,7 +64,7 @@ pub fn serve_admin<E: EntryLedger, H: RecordLedger, R: Source, W: Sink, C: Contr
     writer: &mut W,
     turns: u64,
     control: &C,
-) -> Result<u64, ServeFault>
+) -> Result<u64, Fault>
     requires reader { R.has_failed reader.old ≡ false }
     requires writer { W.has_failed writer.old ≡ false }
     // All commands were read, their calls made, and their answers written.
@@ -117,7 +115,7 @@ fn hear<E: EntryLedger, H: RecordLedger, R: Source, C: Control>(
     input: &mut CommandInput,
     reader: &mut R,
     control: &C,
-) -> Result<Option<Heard>, ServeFault>
+) -> Result<Option<Heard>, Fault>
     requires reader { R.has_failed reader.old ≡ false }
     // What came of the line, or that the input ended before it.
     ensures ok { IfOk result (λ found. MatchOption found
@@ -155,7 +153,7 @@ fn answer_line<E: EntryLedger, H: RecordLedger, R: Source, C: Control>(
     reader: &mut R,
     line: &[u8],
     control: &C,
-) -> Result<Heard, ServeFault>
+) -> Result<Heard, Fault>
     requires reader { R.has_failed reader.old ≡ false }
     // What came of the line.
     ensures ok { IfOk result (λ heard. Performs (command_of line.now) heard.answer input.old
@@ -186,7 +184,7 @@ fn answer_line<E: EntryLedger, H: RecordLedger, R: Source, C: Control>(
             stops: false,
         }),
         Err(AllocError) => Ok(Heard {
-            answer: Answer::Refused(Fault::OutOfMemory),
+            answer: Answer::Refused(MediatorFault::OutOfMemory),
             stops: false,
         }),
     }
@@ -228,7 +226,7 @@ fn perform<E: EntryLedger, H: RecordLedger, R: Source, C: Control>(
     reader: &mut R,
     command: Command,
     control: &C,
-) -> Result<Answer, ServeFault>
+) -> Result<Answer, Fault>
     requires reader { R.has_failed reader.old ≡ false }
     // What came of the command.
     ensures ok { IfOk result (λ answer. Performs (Some (saying command)) answer input.old
@@ -251,7 +249,7 @@ fn perform<E: EntryLedger, H: RecordLedger, R: Source, C: Control>(
         Command::Unsubscribe { sub } => Ok(unsubscribe(rt, shared, handle, sub)),
         Command::Advance { t } => Ok(advance(rt, shared, handle, t, control)),
         Command::Status { sub } => Ok(status(rt, shared, handle, sub)),
-        Command::Audit { max } => Ok(drain_audit(rt, alloc, shared, handle, max)),
+        Command::Audit { most } => Ok(drain_audit(rt, alloc, shared, handle, most)),
         Command::Tell { topic } => Ok(tell(handle, topic, control)),
         Command::Stop => {
             control.stop();
@@ -267,7 +265,7 @@ fn edit<E: EntryLedger, H: RecordLedger>(
     handle: &mut AdminHandle<E>,
     octets: &[u8],
 ) -> Answer
-    ensures { Edits octets.now result handle.old handle.new }
+    ensures { AnswersEdit octets.now result handle.old handle.new }
 {
     match from_utf8(octets) {
         Ok(text) => edit_by_text(rt, shared, handle, text),
@@ -282,7 +280,7 @@ fn edit_by_text<E: EntryLedger, H: RecordLedger>(
     handle: &mut AdminHandle<E>,
     text: &str,
 ) -> Answer
-    ensures { Edits text.now result handle.old handle.new }
+    ensures { AnswersEdit text.now result handle.old handle.new }
 {
     match handle.edit(rt, shared, text) {
         Ok(revision) => Answer::Edited(revision),
@@ -297,12 +295,12 @@ fn subscribe<E: EntryLedger, H: RecordLedger>(
     handle: &mut AdminHandle<E>,
     octets: &[u8],
 ) -> Answer
-    ensures { Subscribes octets.now result handle.old handle.new }
+    ensures { AnswersSubscribe octets.now result handle.old handle.new }
 {
     match from_utf8(octets) {
         Ok(name) => subscribe_by_name(rt, shared, handle, name),
         // A name is ASCII.
-        Err(_) => Answer::Refused(Fault::BadName),
+        Err(_) => Answer::Refused(MediatorFault::BadName),
     }
 }
 
@@ -313,7 +311,7 @@ fn subscribe_by_name<E: EntryLedger, H: RecordLedger>(
     handle: &mut AdminHandle<E>,
     name: &str,
 ) -> Answer
-    ensures { Subscribes name.now result handle.old handle.new }
+    ensures { AnswersSubscribe name.now result handle.old handle.new }
 {
     match handle.subscribe(rt, shared, name) {
         Ok(sub) => Answer::Subscribed(sub.0),
@@ -328,7 +326,7 @@ fn unsubscribe<E: EntryLedger, H: RecordLedger>(
     handle: &mut AdminHandle<E>,
     sub: u64,
 ) -> Answer
-    ensures { Unsubscribes sub result handle.old handle.new }
+    ensures { AnswersUnsubscribe sub result handle.old handle.new }
 {
     match handle.unsubscribe(rt, shared, SubId(sub)) {
         Ok(()) => Answer::Done,
@@ -344,7 +342,7 @@ fn advance<E: EntryLedger, H: RecordLedger, P: Patience>(
     t: u64,
     patience: &P,
 ) -> Answer
-    ensures { Advances t result handle.old handle.new }
+    ensures { AnswersAdvance t result handle.old handle.new }
 {
     wait_for_advance(rt, shared, t, patience);
     match handle.advance(rt, shared, t) {
@@ -364,17 +362,17 @@ fn status<E: EntryLedger, H: RecordLedger>(
 {
     match handle.status(rt, shared, SubId(sub)) {
         Ok(status) => Answer::Stands(status),
-        Err(UnknownSub) => Answer::Refused(Fault::UnknownSub),
+        Err(fault) => Answer::Refused(fault),
     }
 }
 
 /// The lines of a page.
 fn tell<E: EntryLedger, C: Control>(handle: &AdminHandle<E>, topic: Topic, control: &C) -> Answer
-    ensures { Tells result handle.now handle.now }
+    ensures { TellsPage result handle.now handle.now }
 {
     match control.tell(topic, handle.kept()) {
         Ok(page) => Answer::Told(page),
-        Err(AllocError) => Answer::Refused(Fault::OutOfMemory),
+        Err(AllocError) => Answer::Refused(MediatorFault::OutOfMemory),
     }
 }
 
@@ -389,7 +387,7 @@ fn drain_audit<E: EntryLedger, H: RecordLedger>(
     ensures { DrainsAudit result handle.now handle.now }
 {
     let Ok(mut buffer) = AnswerBuffer::new(alloc) else {
-        return Answer::Refused(Fault::OutOfMemory);
+        return Answer::Refused(MediatorFault::OutOfMemory);
     };
     let (mut drained, mut octets) = (Vec::new(alloc), 0u64);
     'entries: for _ in 0..most {
@@ -403,7 +401,7 @@ fn drain_audit<E: EntryLedger, H: RecordLedger>(
             )),
             Ok(false) => break,
             Err(AllocError) if drained.is_empty() => {
-                return Answer::Refused(Fault::OutOfMemory);
+                return Answer::Refused(MediatorFault::OutOfMemory);
             }
             Err(AllocError) => break,
         }
@@ -452,7 +450,7 @@ fn reply<W: Sink>(
     writer: &mut W,
     answer: &Answer,
     sent: u64,
-) -> Result<u64, ServeFault>
+) -> Result<u64, Fault>
     requires writer { W.has_failed writer.old ≡ false }
     // The whole answer was written.
     ensures ok { IfOk result (λ n.
@@ -465,7 +463,7 @@ fn reply<W: Sink>(
 {
     match write_answer(alloc, buffer, writer, answer, sent) {
         Ok(sent) => Ok(sent),
-        Err(Stopped::Failed { sent }) => Err(ServeFault::Write { sent }),
-        Err(Stopped::Uncounted) => Err(ServeFault::Core(PullFault::HandedFull)),
+        Err(Stopped::Failed { sent }) => Err(Fault::Write { sent }),
+        Err(Stopped::Uncounted) => Err(Fault::Mediator(MediatorFault::HandedFull)),
     }
 }

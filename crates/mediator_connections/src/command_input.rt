@@ -1,11 +1,11 @@
 //! The octets of an administrator's connection, handed out as lines and as texts of a given length.
 ghost use Rattle.std.specs.Prelude.{◌≡◌, ℕ, ◌+◌, ◌≤◌, ◌<◌, List, [], ◌∷◌, true, false, length, take, IfOk, IfErr, OnOk, MatchOption};
 ghost use Rattle.std.specs.Io.KnownBytes.{Consumes, IsAtEnd, Keeps};
-ghost use Rattle.mediator_connections.specs.declared.fault.ServeFault.TheVariants.{Read};
+ghost use Rattle.mediator_connections.specs.declared.fault.Fault.TheVariants.{Read};
 ghost use Rattle.mediator_connections.specs.Faults.{reader_after};
-ghost use Rattle.mediator_connections.specs.CommandInput.{unread, Fills, HandsOut, EndsBehind, IsLine, IsBegun, StopsReading};
+ghost use Rattle.mediator_connections.specs.CommandInput.{unread, Fills, HandsOutOctets, EndsBehind, IsLine, IsInside, StopsReading};
 
-use crate::fault::ServeFault;
+use crate::fault::Fault;
 use admin_text::LONGEST_LINE;
 use ipfix_reader::FramingFault;
 use octet_io::{Failed, Source};
@@ -65,18 +65,18 @@ impl CommandInput {
         &mut self,
         alloc: Global,
         reader: &mut R,
-    ) -> Result<Option<Vec<u8>>, ServeFault>
+    ) -> Result<Option<Vec<u8>>, Fault>
         requires reader { R.has_failed reader.old ≡ false }
         // The line, or that the input ended before it.
         ensures ok { IfOk result (λ found. MatchOption found
             (EndsBehind self.old (R.remaining reader.old) (R.remaining reader.new) [])
-            (λ line. (octets : List ℕ) × IsLine line.items octets × HandsOut self.old
+            (λ line. (octets : List ℕ) × IsLine line.items octets × HandsOutOctets self.old
             (R.remaining reader.old) (R.remaining reader.new) octets self.new)) }
         ensures sound { OnOk result (R.has_failed reader.new ≡ false) }
         // The reader has failed only where the fault is `Read`; and behind which octets of the line it stopped.
         ensures fails { IfErr result (λ e. R.has_failed reader.new ≡ reader_after e) }
         ensures err { IfErr result (λ e. (octets : List ℕ) × StopsReading e self.old
-            (R.remaining reader.old) (R.remaining reader.new) octets self.new × IsBegun e octets) }
+            (R.remaining reader.old) (R.remaining reader.new) octets self.new × IsInside e octets) }
     {
         let mut line = Vec::new(alloc);
         'octets: while line.len() <= LONGEST_LINE {
@@ -87,7 +87,7 @@ impl CommandInput {
                     line.push_reserved(octet);
                 }
                 None if line.is_empty() => return Ok(None),
-                None => return Err(ServeFault::Framing(FramingFault::CutOff)),
+                None => return Err(Fault::Framing(FramingFault::CutOff)),
             }
         }
         Ok(Some(line))
@@ -102,10 +102,10 @@ impl CommandInput {
         alloc: Global,
         reader: &mut R,
         count: u32,
-    ) -> Result<Vec<u8>, ServeFault>
+    ) -> Result<Vec<u8>, Fault>
         requires reader { R.has_failed reader.old ≡ false }
         // The next octets, and just as many as are wanted.
-        ensures ok { IfOk result (λ text. HandsOut self.old
+        ensures ok { IfOk result (λ text. HandsOutOctets self.old
             (R.remaining reader.old) (R.remaining reader.new) text.items self.new) }
         ensures count { IfOk result (λ text. length text.items ≡ count) }
         // The reader has failed only where the fault is `Read`; and behind which octets of the text it stopped.
@@ -121,7 +121,7 @@ impl CommandInput {
                     text.reserve(1)?;
                     text.push_reserved(octet);
                 }
-                None => return Err(ServeFault::Framing(FramingFault::CutOff)),
+                None => return Err(Fault::Framing(FramingFault::CutOff)),
             }
         }
         Ok(text)
@@ -131,18 +131,18 @@ impl CommandInput {
     ///
     /// # Errors
     /// The reader failed; or no read is left.
-    fn next_octet<R: Source>(&mut self, reader: &mut R) -> Result<Option<u8>, ServeFault>
+    fn next_octet<R: Source>(&mut self, reader: &mut R) -> Result<Option<u8>, Fault>
         requires reader { R.has_failed reader.old ≡ false }
         // The next octet, or that the input ended before it.
         ensures ok { IfOk result (λ found. MatchOption found
             (EndsBehind self.old (R.remaining reader.old) (R.remaining reader.new) [])
-            (λ octet. HandsOut self.old (R.remaining reader.old) (R.remaining reader.new)
+            (λ octet. HandsOutOctets self.old (R.remaining reader.old) (R.remaining reader.new)
             (octet ∷ []) self.new)) }
         ensures sound { OnOk result (R.has_failed reader.new ≡ false) }
         // The reader has failed only where the fault is `Read`. No octet was handed out.
         ensures fails { IfErr result (λ e. R.has_failed reader.new ≡ reader_after e) }
         ensures err { IfErr result (λ e. StopsReading e self.old
-            (R.remaining reader.old) (R.remaining reader.new) [] self.new × IsBegun e []) }
+            (R.remaining reader.old) (R.remaining reader.new) [] self.new × IsInside e []) }
     {
         self.fill(reader)?;
         Ok(self.pop())
@@ -152,7 +152,7 @@ impl CommandInput {
     ///
     /// # Errors
     /// The reader failed; or no read is left.
-    fn fill<R: Source>(&mut self, reader: &mut R) -> Result<(), ServeFault>
+    fn fill<R: Source>(&mut self, reader: &mut R) -> Result<(), Fault>
         requires reader { R.has_failed reader.old ≡ false }
         // An octet is pending, or the input has ended.
         ensures ok { OnOk result (Fills self.old
@@ -161,13 +161,13 @@ impl CommandInput {
         // The reader has failed only where the fault is `Read`. No octet was handed out.
         ensures fails { IfErr result (λ e. R.has_failed reader.new ≡ reader_after e) }
         ensures err { IfErr result (λ e. StopsReading e self.old
-            (R.remaining reader.old) (R.remaining reader.new) [] self.new × IsBegun e []) }
+            (R.remaining reader.old) (R.remaining reader.new) [] self.new × IsInside e []) }
     {
         if self.from != self.to {
             return Ok(());
         }
         if self.turns == 0 {
-            return Err(ServeFault::Turns);
+            return Err(Fault::Turns);
         }
         self.turns -= 1;
         self.from = 0;
@@ -195,7 +195,7 @@ impl CommandInput {
 ///
 /// # Errors
 /// The reader failed.
-fn read_piece<R: Source>(reader: &mut R, piece: &mut Vec<u8>) -> Result<usize, ServeFault>
+fn read_piece<R: Source>(reader: &mut R, piece: &mut Vec<u8>) -> Result<usize, Fault>
     requires { 0 < length piece.old.items }
     // What was read stands in the front of the piece; nothing, only at the end.
     ensures length { length piece.new.items ≡ length piece.old.items }
@@ -210,6 +210,6 @@ fn read_piece<R: Source>(reader: &mut R, piece: &mut Vec<u8>) -> Result<usize, S
 {
     match reader.read(piece.as_mut_slice()) {
         Ok(count) => Ok(count),
-        Err(Failed) => Err(ServeFault::Read),
+        Err(Failed) => Err(Fault::Read),
     }
 }

@@ -3,15 +3,15 @@ ghost use Rattle.std.specs.Prelude.{◌≡◌, ◌+◌, ◌<◌, ◌^◌, false,
 ghost use Rattle.std.specs.Io.KnownBytes.{Appends};
 ghost use Rattle.octet_io.specs.Moments.{writer_of};
 ghost use Rattle.mediator_connections.specs.Faults.{writer_after};
-ghost use Rattle.mediator_connections.specs.Delivering.{Delivers, FailsToDeliver, Sends, StopsSending, EndsOnWrite, octets_of};
+ghost use Rattle.mediator_connections.specs.Delivering.{DeliversSome, FailsToDeliver, Sends, StopsSending, EndsOnWrite, octets_of};
 
 use crate::clock::Clock;
-use crate::fault::ServeFault;
-use mediator_calls::{SubId, UnknownSub};
+use crate::fault::Fault;
+use mediator_calls::SubId;
+use mediator_state::Fault as MediatorFault;
 use octet_io::{Sink, write_all};
 use shared_mediator::{
-    AdminHandle, DeliveryHandle, EntryLedger, Handed, PullFault, RecordLedger, SharedMediator,
-    Waited,
+    AdminHandle, DeliveryHandle, EntryLedger, Handed, RecordLedger, SharedMediator, Waited,
 };
 use std::alloc::{AllocError, Global};
 use std::sync::Wait;
@@ -31,7 +31,7 @@ const MOST_AT_ONCE: u64 = 32;
 ///
 /// # Errors
 /// `Write` where the writer failed: it says how many octets were sent of all that was pulled. Only messages of the last pull were
-/// not sent whole. `Core` where the mediator refuses a pull, or the octets sent, with those of one pull more, might not be
+/// not sent whole. `Mediator` where the mediator refuses a pull, or the octets sent, with those of one pull more, might not be
 /// counted in 64 bits: all that was pulled before is sent. Beside the fault stands how many records waited for the subscription
 /// then, before it was ended; 0 where it is no longer live.
 pub fn deliver<E: EntryLedger, H: RecordLedger, W: Sink, C: Clock>(
@@ -42,10 +42,10 @@ pub fn deliver<E: EntryLedger, H: RecordLedger, W: Sink, C: Clock>(
     writer: &mut W,
     target: u16,
     clock: &C,
-) -> Result<u64, (ServeFault, u64)>
+) -> Result<u64, (Fault, u64)>
     requires writer { W.has_failed writer.old ≡ false }
     // All that was pulled was written.
-    ensures delivers { IfOk result (λ sent. Delivers (C.shows clock.now) target sent
+    ensures delivers { IfOk result (λ sent. DeliversSome (C.shows clock.now) target sent
         handle.old handle.new (writer_of (W.contents writer.old) (W.contents writer.new))) }
     ensures sound { OnOk result (W.has_failed writer.new ≡ false) }
     // Where it stopped, and what was written by then.
@@ -76,7 +76,7 @@ fn records_waiting<E: EntryLedger, H: RecordLedger>(
 ) -> u64 {
     match admin.status(rt, shared, sub) {
         Ok(status) => u64::from(status.queued),
-        Err(UnknownSub) => 0,
+        Err(_) => 0,
     }
 }
 
@@ -86,11 +86,11 @@ fn end_on_write<E: EntryLedger, H: RecordLedger>(
     shared: &SharedMediator<E, H>,
     sub: SubId,
     admin: &mut AdminHandle<E>,
-    fault: ServeFault,
+    fault: Fault,
 )
     ensures { EndsOnWrite fault sub.0 admin.old admin.new }
 {
-    if let ServeFault::Write { .. } = fault {
+    if let Fault::Write { .. } = fault {
         let _ended = admin.unsubscribe(rt, shared, sub);
     }
 }
@@ -106,10 +106,10 @@ fn send_messages<E: EntryLedger, H: RecordLedger, W: Sink, C: Clock>(
     writer: &mut W,
     target: u16,
     clock: &C,
-) -> Result<u64, ServeFault>
+) -> Result<u64, Fault>
     requires writer { W.has_failed writer.old ≡ false }
     // All that was pulled was written.
-    ensures delivers { IfOk result (λ sent. Delivers (C.shows clock.now) target sent
+    ensures delivers { IfOk result (λ sent. DeliversSome (C.shows clock.now) target sent
         handle.old handle.new (writer_of (W.contents writer.old) (W.contents writer.new))) }
     ensures sound { OnOk result (W.has_failed writer.new ≡ false) }
     // Where it stopped, and what was written by then.
@@ -118,14 +118,15 @@ fn send_messages<E: EntryLedger, H: RecordLedger, W: Sink, C: Clock>(
         (writer_of (W.contents writer.old) (W.contents writer.new)) (W.has_failed writer.new)) }
     ensures fails { IfErr result (λ e. W.has_failed writer.new ≡ writer_after e) }
 {
+    let alloc = handle.allocator();
     let mut sent = 0u64;
     'pulls: for _ in rt.forever() {
         if sent > u64::MAX - MOST_AT_ONCE * LONGEST_MESSAGE {
-            return Err(ServeFault::Core(PullFault::HandedFull));
+            return Err(Fault::Mediator(MediatorFault::HandedFull));
         }
-        let before = handle.kept().len();
-        if handle.pull_some(rt, shared, clock.now(), target, MOST_AT_ONCE)? > 0 {
-            sent = send_all(handle.allocator(), &handle.kept()[before..], writer, sent)?;
+        let messages = handle.pull_some(rt, shared, clock.now(), target, MOST_AT_ONCE)?;
+        if !messages.is_empty() {
+            sent = send_all(alloc, messages, writer, sent)?;
         } else if handle.wait(rt, shared) != Waited::Queued {
             return Ok(sent);
         }
@@ -143,7 +144,7 @@ fn send_all<W: Sink>(
     messages: &[Handed],
     writer: &mut W,
     sent: u64,
-) -> Result<u64, ServeFault>
+) -> Result<u64, Fault>
     requires fits { sent + length (octets_of messages.now) < 2 ^ 64 }
     ensures ok { IfOk result (λ n. Sends (octets_of messages.now) sent n
         (W.contents writer.old) (W.contents writer.new)) }
@@ -176,7 +177,7 @@ fn joined(alloc: Global, messages: &[Handed]) -> Result<Vec<u8>, AllocError>
 ///
 /// # Errors
 /// The writer failed, and the fault says how many octets were sent in all.
-fn send_each<W: Sink>(messages: &[Handed], writer: &mut W, mut sent: u64) -> Result<u64, ServeFault>
+fn send_each<W: Sink>(messages: &[Handed], writer: &mut W, mut sent: u64) -> Result<u64, Fault>
     requires fits { sent + length (octets_of messages.now) < 2 ^ 64 }
     ensures ok { IfOk result (λ n. Sends (octets_of messages.now) sent n
         (W.contents writer.old) (W.contents writer.new)) }
@@ -194,7 +195,7 @@ fn send_each<W: Sink>(messages: &[Handed], writer: &mut W, mut sent: u64) -> Res
 ///
 /// # Errors
 /// The writer failed, and the fault says how many octets were sent in all.
-fn send<W: Sink>(message: &[u8], writer: &mut W, sent: u64) -> Result<u64, ServeFault>
+fn send<W: Sink>(message: &[u8], writer: &mut W, sent: u64) -> Result<u64, Fault>
     requires fits { sent + length message.now < 2 ^ 64 }
     ensures ok { IfOk result (λ n.
         Sends message.now sent n (W.contents writer.old) (W.contents writer.new)) }
@@ -204,7 +205,7 @@ fn send<W: Sink>(message: &[u8], writer: &mut W, sent: u64) -> Result<u64, Serve
 {
     match write_all(writer, message) {
         Ok(()) => Ok(sent + message.len() as u64),
-        Err(stopped) => Err(ServeFault::Write {
+        Err(stopped) => Err(Fault::Write {
             sent: sent + stopped.sent as u64,
         }),
     }

@@ -8,15 +8,15 @@ ghost use Rattle.mediator_connections.specs.Preparing.{ArePreparations, IsFrontO
 ghost use Rattle.mediator_connections.specs.Faults.{reader_after};
 
 use crate::control::{Patience, Reception};
-use crate::fault::ServeFault;
+use crate::fault::Fault;
 use crate::room::wait_for_room;
 use bytes::Bytes;
 use decode_workers::{NoGate, Workers};
 use ipfix_reader::Intake;
 use mediator_shares::Workspace;
-use mediator_state::{Fault, Receipt};
+use mediator_state::{Fault as MediatorFault, Receipt};
 use octet_io::Source;
-use prepared_message::{JudgedAhead, PrepareFault, Prepared, Snapshot};
+use prepared_message::{Fault as PrepareFault, JudgedAhead, Prepared, Snapshot};
 use shared_mediator::{EntryLedger, ExporterHandle, RecordLedger, SharedMediator};
 use std::alloc::{AllocError, Global};
 use std::sync::Wait;
@@ -100,8 +100,8 @@ impl Progress {
 /// `Read` where the reader failed; `Framing` where the stream is faulty, or ends inside a message; `Turns` where its end isn't
 /// read within `turns` reads; `TooWide` where a message is too wide to be offered
 /// ([`Snapshot::is_too_wide`](prepared_message::Snapshot::is_too_wide)); `TooManyCounts` where too many of its records count in
-/// aggregates ([`JudgedAhead::counts_too_many`]); or `Core` where the mediator refuses a message, or memory ran out. The messages
-/// before that were accepted, and what they brought stands beside the fault.
+/// aggregates ([`JudgedAhead::counts_too_many`]); or `Mediator` where the mediator refuses a message, or memory ran out. The
+/// messages before that were accepted, and what they brought stands beside the fault.
 pub fn serve_exporter<
     E: EntryLedger,
     H: RecordLedger,
@@ -117,7 +117,7 @@ pub fn serve_exporter<
     turns: u64,
     workers: u64,
     reception: &O,
-) -> Result<Served, (ServeFault, Served)>
+) -> Result<Served, (Fault, Served)>
     requires reader { R.has_failed reader.old ≡ false }
     // All of the stream was read, and each of its messages was accepted.
     ensures serves { IfOk result (λ served. Serves turns served.messages
@@ -167,7 +167,7 @@ fn offer_stream<E: EntryLedger, H: RecordLedger, R: Source, O: Reception, T: Thr
     pace: Pace,
     progress: &mut Progress,
     reception: &O,
-) -> Result<u64, ServeFault>
+) -> Result<u64, Fault>
     requires reader { R.has_failed reader.old ≡ false }
     // All of the stream was read, and each of its messages was accepted.
     ensures serves { IfOk result (λ offered. Serves pace.turns offered
@@ -249,7 +249,7 @@ fn offer_piece<E: EntryLedger, H: RecordLedger, O: Reception>(
     answers: Vec<Result<Prepared, PrepareFault>>,
     progress: &mut Progress,
     reception: &O,
-) -> Result<(), ServeFault>
+) -> Result<(), Fault>
     requires prepared { ArePreparations messages.items answers.items }
     ensures ok { OnOk result (Offers handle.old handle.new messages.items) }
     ensures err { IfErr result (λ e. RefusesAmong e handle.old handle.new messages.items) }
@@ -271,7 +271,7 @@ fn offer_each<E: EntryLedger, H: RecordLedger, O: Reception>(
     answers: Vec<Result<Prepared, PrepareFault>>,
     progress: &mut Progress,
     reception: &O,
-) -> Result<(), ServeFault>
+) -> Result<(), Fault>
     requires prepared { ArePreparations messages.items answers.items }
     ensures ok { OnOk result (Offers handle.old handle.new messages.items) }
     ensures err { IfErr result (λ e. RefusesAmong e handle.old handle.new messages.items) }
@@ -311,7 +311,7 @@ fn offer_one<E: EntryLedger, H: RecordLedger, P: Patience>(
     message: Bytes,
     workspace: &mut Workspace,
     patience: &P,
-) -> Result<Receipt, ServeFault>
+) -> Result<Receipt, Fault>
     requires prepared { IfSome prepared (λ p. p.message ≡ message) }
     // The message was accepted, and the handle keeps its receipt.
     ensures kept { IfOk result (λ receipt.
@@ -334,10 +334,10 @@ fn offer_one<E: EntryLedger, H: RecordLedger, P: Patience>(
     let waited = wait_for_room(rt, shared, prepared.shares(), patience, 0);
     match handle.offer_prepared_silently(rt, shared, prepared) {
         Ok(receipt) => Ok(receipt),
-        Err((Fault::Stale, _prepared)) => {
+        Err((MediatorFault::Stale, _prepared)) => {
             offer_judged(rt, shared, handle, message, workspace, patience, waited)
         }
-        Err((fault, _prepared)) => Err(ServeFault::from(fault)),
+        Err((fault, _prepared)) => Err(Fault::from(fault)),
     }
 }
 
@@ -354,7 +354,7 @@ fn offer_judged<E: EntryLedger, H: RecordLedger, P: Patience>(
     workspace: &mut Workspace,
     patience: &P,
     waited: u64,
-) -> Result<Receipt, ServeFault>
+) -> Result<Receipt, Fault>
     ensures kept { IfOk result (λ receipt.
         handle.new.kept ≡ handle.old.kept ++ record {
           position = receipt.position;
@@ -366,11 +366,11 @@ fn offer_judged<E: EntryLedger, H: RecordLedger, P: Patience>(
 {
     let snapshot = handle.snapshot(rt, shared)?;
     if is_too_wide(&snapshot, &message)? {
-        return Err(ServeFault::TooWide);
+        return Err(Fault::TooWide);
     }
     let ahead = judged_ahead(&snapshot, &message, workspace);
     if counts_too_many(&ahead) {
-        return Err(ServeFault::TooManyCounts);
+        return Err(Fault::TooManyCounts);
     }
     wait_for_judged(rt, shared, &ahead, patience, waited);
     Ok(handle.offer_judged_silently(rt, shared, message, ahead)?)

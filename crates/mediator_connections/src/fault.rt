@@ -1,15 +1,14 @@
 //! Why a connection is served no more, for exporters, collectors and administrators alike.
 
-use ipfix_reader::{FramingFault, IntakeFault};
-use mediator_state::Fault;
-use shared_mediator::PullFault;
+use ipfix_reader::{Fault as IntakeFault, FramingFault};
+use mediator_state::Fault as MediatorFault;
 use std::alloc::AllocError;
 use std::error::Error;
 use std::fmt::{self, Display, Formatter, Write};
 
 /// Why a connection is served no more. Its text is its name.
 #[derive(Clone, Copy, Debug, PartialEq, Eq)]
-pub enum ServeFault {
+pub enum Fault {
     /// The reader failed.
     Read,
     /// The writer failed, when `sent` octets in all had been written.
@@ -24,13 +23,14 @@ pub enum ServeFault {
     /// More records of a message count in aggregates than [`MOST_COUNTS`](prepared_message::MOST_COUNTS), added up over all
     /// subscriptions: it isn't offered.
     TooManyCounts,
-    /// The mediator refused a call; or memory ran out; or the octets that were sent can't be counted any further.
-    Core(PullFault),
+    /// The mediator refused a call; or memory ran out (`OutOfMemory`, wherever it did); or the octets that were sent can't
+    /// be counted any further (`HandedFull`).
+    Mediator(MediatorFault),
 }
 
-impl Error for ServeFault {}
+impl Error for Fault {}
 
-impl Display for ServeFault {
+impl Display for Fault {
     ghost use Rattle.std.specs.Prelude.{Option, Some};
     ghost use Rattle.mediator_connections.specs.FaultTexts.{text_of_serve};
 
@@ -38,63 +38,51 @@ impl Display for ServeFault {
 
     fn fmt<W: Write>(&self, f: &mut Formatter<W>) -> fmt::Result {
         f.write_str(match self {
-            ServeFault::Read => "Read",
-            ServeFault::Write { .. } => "Write",
-            ServeFault::Framing(_) => "Framing",
-            ServeFault::Turns => "Turns",
-            ServeFault::TooWide => "TooWide",
-            ServeFault::TooManyCounts => "TooManyCounts",
-            ServeFault::Core(_) => "Core",
+            Fault::Read => "Read",
+            Fault::Write { .. } => "Write",
+            Fault::Framing(_) => "Framing",
+            Fault::Turns => "Turns",
+            Fault::TooWide => "TooWide",
+            Fault::TooManyCounts => "TooManyCounts",
+            Fault::Mediator(_) => "Mediator",
         })
     }
 }
 
-impl From<PullFault> for ServeFault {
+impl From<MediatorFault> for Fault {
     ghost use Rattle.std.specs.Prelude.{◌≡◌};
-    ghost use Rattle.mediator_connections.specs.declared.fault.ServeFault.TheVariants.{Core};
+    ghost use Rattle.mediator_connections.specs.declared.fault.Fault.TheVariants.{Mediator};
 
-    ghost from_gives = { λ f e. e ≡ Core f };
+    ghost from_gives = { λ f e. e ≡ Mediator f };
 
-    fn from(fault: PullFault) -> ServeFault {
-        ServeFault::Core(fault)
+    fn from(fault: MediatorFault) -> Fault {
+        Fault::Mediator(fault)
     }
 }
 
-impl From<Fault> for ServeFault {
-    ghost use Rattle.std.specs.Prelude.{◌≡◌};
-    ghost use Rattle.shared_mediator.specs.declared.fault.PullFault.TheVariants as pull;
-    ghost use Rattle.mediator_connections.specs.declared.fault.ServeFault.TheVariants.{Core};
-
-    ghost from_gives = { λ f e. e ≡ Core (pull.Core f) };
-
-    fn from(fault: Fault) -> ServeFault {
-        ServeFault::Core(PullFault::Core(fault))
-    }
-}
-
-impl From<AllocError> for ServeFault {
+impl From<AllocError> for Fault {
     ghost use Rattle.std.specs.Prelude.{◌≡◌};
     ghost use Rattle.mediator_connections.specs.Faults.{out_of_memory};
 
     ghost from_gives = { λ _ e. e ≡ out_of_memory };
 
-    fn from(_e: AllocError) -> ServeFault {
-        ServeFault::Core(PullFault::Core(Fault::OutOfMemory))
+    fn from(_e: AllocError) -> Fault {
+        Fault::Mediator(MediatorFault::OutOfMemory)
     }
 }
 
-impl From<IntakeFault> for ServeFault {
+impl From<IntakeFault> for Fault {
     ghost use Rattle.std.specs.Prelude.{◌≡◌};
     ghost use Rattle.mediator_connections.specs.Faults.{intake_refusal};
 
     ghost from_gives = { λ f e. e ≡ intake_refusal f };
 
-    fn from(fault: IntakeFault) -> ServeFault {
+    fn from(fault: IntakeFault) -> Fault {
         match fault {
-            IntakeFault::Read => ServeFault::Read,
-            IntakeFault::Framing(why) => ServeFault::Framing(why),
-            IntakeFault::Turns => ServeFault::Turns,
-            IntakeFault::OutOfMemory => ServeFault::Core(PullFault::Core(Fault::OutOfMemory)),
+            IntakeFault::Read => Fault::Read,
+            IntakeFault::Framing(why) => Fault::Framing(why),
+            IntakeFault::Turns => Fault::Turns,
+            IntakeFault::OutOfMemory => Fault::Mediator(MediatorFault::OutOfMemory),
         }
     }
 }

@@ -4,20 +4,20 @@
 //! messages `ipfix_reader`'s, and what lines mean `admin_text`'. Sockets and threads are `mediator_server`'s.
 //!
 //! - `exporter`: [`serve_exporter`], the messages of a stream.
-//! - `delivery`: [`deliver`], the messages of a subscription.
+//! - `delivery`: [`deliver`], the messages of a subscription. `collector`: [`Collector`], to whom they are sent.
 //! - `admin`: [`serve_admin`], the commands of an administrator's connection, which `command_input` cuts out of its octets.
 //! - `control`: [`Reception`] and [`Control`], what an exporter's and an administrator's connection ask of their server and tell it,
 //!   and [`Patience`], how long they wait for room in the queues, as `room` does.
 //! - `clock`: [`Clock`], which tells the Export Times.
-//! - `fault`: [`ServeFault`], why a call stops.
+//! - `fault`: [`Fault`], why a call stops.
 //!
 //! Proved of `serve_exporter`: the messages that it adds to its handle's receipts, under the handle's session and numbered on,
 //! are those that the octets that it read are cut into (RFC 7011, section 10.4): where the answer is `Ok`, all of them, and the
 //! stream ended (`serves`); at a fault those before it (`stops`). Each fault stands only where its cause does: `Read` where the
 //! reader has failed (`fails`), `Framing` where what was read is framed in that way, `Turns` where as many reads were made as are
 //! allowed, `TooWide` where a message in hand is too wide by the templates of some session, `TooManyCounts` where more of its
-//! records count than are allowed, by the templates of some session and on some terms, and `Core` where one was refused or memory
-//! ran out.
+//! records count than are allowed, by the templates of some session and on some terms, and `Mediator` where one was refused for
+//! what a message may be refused for, or memory ran out.
 //!
 //! Proved of `deliver`: what it writes are the messages that its handle kept in that call, in order, each built for an Export
 //! Time that the clock may show and for the target; all of them where the answer is `Ok` or a refusal, with their octets counted,
@@ -44,6 +44,7 @@
 
 mod admin;
 mod clock;
+mod collector;
 mod command_input;
 mod control;
 mod delivery;
@@ -53,7 +54,8 @@ mod room;
 
 pub use admin::serve_admin;
 pub use clock::Clock;
+pub use collector::Collector;
 pub use control::{Control, Patience, Reception};
 pub use delivery::deliver;
 pub use exporter::{Served, serve_exporter};
-pub use fault::ServeFault;
+pub use fault::Fault;

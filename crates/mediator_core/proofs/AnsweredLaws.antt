@@ -6,11 +6,11 @@ use Rattle.event_journal.specs.declared.entry.Entry.{Entry}
 use Rattle.event_journal.specs.declared.entry.Entry.TheVariants.{Message, Advance}
 use Rattle.mediator_history.specs.Auditing.{audit_list}
 use Rattle.mediator_calls.specs.Mediation.{Mediation, noted_at}
-use Rattle.mediator_calls.specs.Sound.{IsSound}
+use Rattle.mediator_calls.specs.Sound.{IsSoundMediation}
 use Rattle.mediator_calls.specs.Calls.{AuditHolds, with_cuts}
 use Rattle.mediator_core.specs.Answered.{FullAuditRefusesMessage, FullAuditRefusesAdvance}
 
-holds_not : (m : Mediation) (more : List Entry) (noted : List AuditEntry) (need room : ℕ) → IsSound m → audit_list (m.history ++ more) ≡ audit_list m.history ++ noted → need ≡ length noted → room + length (noted_at m) ≡ m.limits.audit → room < need
+holds_not : (m : Mediation) (more : List Entry) (noted : List AuditEntry) (need room : ℕ) → IsSoundMediation m → audit_list (m.history ++ more) ≡ audit_list m.history ++ noted → need ≡ length noted → room + length (noted_at m) ≡ m.limits.audit → room < need
     → AuditHolds m more → ⊥
 holds_not m more noted need room sound is needs has lacks holds = absurd (omega (
   arith,

@@ -31,7 +31,7 @@ use Rattle.mediator_calls.specs.Mediation.{Mediation, started, place_at, waiting
 use Rattle.mediator_calls.specs.Calls.{GoesOn, with_cuts, Drains}
 use Rattle.mediator_core.specs.Runs.{Answers, Runs, entry_in, entries_of, is_of_call, answer_in, answers_to, handed_to, GiveUntilNone, MeanFront, drained_in, drained_by, asked_in, Ask}
 use Rattle.mediator_core.specs.Headline.{IsBuiltFromDisclosed}
-use Rattle.mediator_calls.specs.Sound.{IsSound}
+use Rattle.mediator_calls.specs.Sound.{IsSoundMediation}
 use Rattle.mediator_core.proofs.Holding.{Holds, holds_first, HoldsAfter, holds_after}
 
 -- ---- lists of answers
@@ -106,7 +106,7 @@ until_none (turn ∷ turns) (message ∷ more) messages records p may ranges are
     subst (λ (ms : List (List ℕ)). Means ms records) (append_assoc messages (message ∷ []) more)
     (until_none turns more (messages ++ message ∷ []) records (place_after records p turn.1) may ranges.1 (handed_answer messages some records p turn.0 turn.1 ranges.0.0 ranges.0.1 are (sym give.0)) give.1)
 
-pub handed_is_disclosed : (limits : Limits) (calls : List Call) (replies : List Reply) (new : Mediation) → Runs (started limits) calls replies new → IsSound new
+pub handed_is_disclosed : (limits : Limits) (calls : List Call) (replies : List Reply) (new : Mediation) → Runs (started limits) calls replies new → IsSoundMediation new
     → (sub : ℕ) (turns : List (ℕ × ℕ)) (more : List (List ℕ)) → is_live sub new.history ≡ true → AreInRange (pulls turns) → GiveUntilNone (disclosed sub new.history) (place_at new sub) turns more
     → Means (handed_to sub calls replies ++ more) (disclosed sub new.history)
 handed_is_disclosed limits calls replies new run sound sub turns more live ranges give =
@@ -123,7 +123,7 @@ mean_front messages records p are may = record {
   means = handed_means messages records p are may;
 }
 
-pub handed_is_front : (limits : Limits) (calls : List Call) (replies : List Reply) (new : Mediation) → Runs (started limits) calls replies new → IsSound new → (sub : ℕ) → MeanFront (handed_to sub calls replies) (disclosed sub new.history)
+pub handed_is_front : (limits : Limits) (calls : List Call) (replies : List Reply) (new : Mediation) → Runs (started limits) calls replies new → IsSoundMediation new → (sub : ℕ) → MeanFront (handed_to sub calls replies) (disclosed sub new.history)
 handed_is_front limits calls replies new run sound sub =
     let all = at_end sub limits calls replies new run in
     mean_front (handed_to sub calls replies) (disclosed sub new.history) (place_from 0 all.asked) all.after.handed (sound.streamable sub)

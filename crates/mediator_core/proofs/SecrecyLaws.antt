@@ -11,8 +11,8 @@ use Rattle.ipfix_template.specs.Template.{shortest_record}
 use Rattle.ipfix_template.specs.DataRecord.{DataRecord}
 use Rattle.ipfix_session.specs.Meaning.{meaning_of, domain_of}
 use Rattle.policy_text.specs.declared.rule.Rule.{Rule}
-use Rattle.policy_text.specs.declared.fault.PolicyFault.{PolicyFault}
-use Rattle.policy_text.specs.Policies.{Meaning as Policy, Aggregate as Definition, nothing as no_policy}
+use Rattle.policy_text.specs.declared.fault.Fault.{Fault as PolicyFault}
+use Rattle.policy_text.specs.Policies.{PolicyMeaning as Policy, Aggregate as Definition, nothing as no_policy}
 use Rattle.policy_text.specs.Parsing.{policy_of}
 use Rattle.policy_judge.specs.declared.verdict.RecordAction.{RecordAction}
 use Rattle.policy_judge.specs.declared.verdict.RecordAction.TheVariants.{Pass, Withhold, Aggregate}
@@ -21,19 +21,20 @@ use Rattle.policy_judge.specs.declared.verdict.ElementVerdict.{ElementVerdict}
 use Rattle.policy_judge.specs.Verdicts.{record_verdict_of}
 use Rattle.policy_judge.specs.Laws.{concerning}
 use Rattle.disclosure_audit.specs.declared.entry.RemovedField.{RemovedField}
-use Rattle.flow_anonymize.specs.declared.disclosure.Reason.TheVariants as because
-use Rattle.flow_anonymize.specs.Outcome.{Outcome, Passes, Aggregates, Withholds, passed}
+use Rattle.disclosure_audit.specs.declared.reason.Reason.TheVariants as because
+use Rattle.flow_anonymize.specs.declared.disclosure.Disclosure.TheVariants.{Passed, Aggregated, Withheld}
+use Rattle.flow_anonymize.specs.Outcome.{Outcome, passed}
 use Rattle.flow_anonymize.specs.Remaining.{verdicts_of, removed_fields}
 use Rattle.flow_anonymize.specs.Disclosed.{remaining_template, remaining, first_lost, first_rule_of, unless_lost, transformed, by_action, disclosure_of}
 use Rattle.flow_anonymize.specs.OtherRules.{unnumbered}
 use Rattle.flow_anonymize.proofs.OtherLaws.{others_never_matter}
 use Rattle.flow_anonymize.proofs.SecrecyLaws.{denied_is_secret}
-use Rattle.flow_aggregate.specs.Groups.{Counted}
+use Rattle.flow_aggregate.specs.Groups.{Sample}
 use Rattle.flow_aggregate.specs.Closing.{closed_by}
 use Rattle.event_journal.specs.declared.entry.Entry.{Entry}
 use Rattle.event_journal.specs.declared.entry.Entry.TheVariants.{Open, Close, Message, Edit, Subscribe, Unsubscribe, Advance, Cut}
 use Rattle.mediator_history.specs.Sessions.{message_in, messages_of}
-use Rattle.mediator_history.specs.Subscriptions.{policy_or_none, edited, policy_in_force, named, name_of, switched, is_served}
+use Rattle.mediator_history.specs.Subscriptions.{policy_or_none, policy_from, policy_in_force, named, name_of, switched, is_served}
 use Rattle.mediator_history.specs.Accepted.{records_meant, records_at}
 use Rattle.mediator_history.specs.Counting.{clock_in, clock_of, counts, counted_at, counted, running}
 use Rattle.mediator_history.specs.Disclosed.{given_at}
@@ -47,7 +48,7 @@ use Rattle.mediator_core.specs.Secrecy.{EntryByEntry, LeavesOut, IsSameOrLess, I
 abbrev passing : List ℕ → ℕ → Policy → ℕ → DataRecord → List DataRecord
 passing name domain policy clock r = passed (disclosure_of name domain r policy.rules)
 
-abbrev counting : List ℕ → ℕ → Policy → ℕ → DataRecord → List Counted
+abbrev counting : List ℕ → ℕ → Policy → ℕ → DataRecord → List Sample
 counting name domain policy clock r = counts policy.aggregates clock r (disclosure_of name domain r policy.rules)
 
 -- what decides of a message's records is the same behind both
@@ -76,7 +77,7 @@ last_alike {B} g start b c e f before here =
 
 counted_alike : (sub : ℕ) (b c : List Entry) (e f : Entry) → counted sub b ≡ counted sub c → counted_at sub b e ≡ counted_at sub c f → counted sub (b ++ e ∷ []) ≡ counted sub (c ++ f ∷ [])
 counted_alike sub b c e f before here =
-    counted-push sub b e ∙ ap (λ (t : List Counted). t ++ counted_at sub b e) before ∙ ap (λ (t : List Counted). counted sub c ++ t) here ∙ sym (counted-push sub c f)
+    counted-push sub b e ∙ ap (λ (t : List Sample). t ++ counted_at sub b e) before ∙ ap (λ (t : List Sample). counted sub c ++ t) here ∙ sym (counted-push sub c f)
 
 flat_map_same : {A B : Type 0} (f g : A → List B) → ((x : A) → f x ≡ g x) → (xs : List A) → flat_map f xs ≡ flat_map g xs
 flat_map_same f g same [] = refl
@@ -115,7 +116,7 @@ unnamed : (sub : ℕ) (e : Entry) → concerns sub e ≡ false → named sub e �
 unnamed sub (Subscribe s name) other = rw other refl
 unnamed sub _ other = refl
 
-unedited : (sub : ℕ) (e : Entry) → concerns sub e ≡ false → edited e ≡ None
+unedited : (sub : ℕ) (e : Entry) → concerns sub e ≡ false → policy_from e ≡ None
 unedited sub (Edit text) other = absurd (false≢true (sym other))
 unedited sub _ other = refl
 
@@ -140,7 +141,7 @@ judged_kept : (sub : ℕ) (before : List Entry) → AreJudgedAlike sub (filter (
 judged_kept sub before = record {
   served = last_kept (switched sub) sub (unswitched sub) before false;
   names = last_kept (named sub) sub (unnamed sub) before [];
-  policies = last_kept edited sub (unedited sub) before no_policy;
+  policies = last_kept policy_from sub (unedited sub) before no_policy;
   clocks = last_kept clock_in sub (unclocked sub) before 0;
 }
 
@@ -200,13 +201,13 @@ record AreSeenAlike (sub : ℕ) (b c : List Entry) : Type 0 where
 running_alike : (sub : ℕ) (b c : List Entry) → AreSeenAlike sub b c → running sub b ≡ running sub c
 running_alike sub b c seen = running_by sub b c seen.judged.served seen.judged.clocks seen.counts
 
-seen_on : (sub : ℕ) (b c : List Entry) (e f : Entry) → AreSeenAlike sub b c → switched sub e ≡ switched sub f → named sub e ≡ named sub f → edited e ≡ edited f → clock_in e ≡ clock_in f
+seen_on : (sub : ℕ) (b c : List Entry) (e f : Entry) → AreSeenAlike sub b c → switched sub e ≡ switched sub f → named sub e ≡ named sub f → policy_from e ≡ policy_from f → clock_in e ≡ clock_in f
     → counted_at sub b e ≡ counted_at sub c f → AreSeenAlike sub (b ++ e ∷ []) (c ++ f ∷ [])
 seen_on sub b c e f seen switch name edit clock more = record {
   judged = record {
     served = last_alike (switched sub) false b c e f seen.judged.served switch;
     names = last_alike (named sub) [] b c e f seen.judged.names name;
-    policies = last_alike edited no_policy b c e f seen.judged.policies edit;
+    policies = last_alike policy_from no_policy b c e f seen.judged.policies edit;
     clocks = last_alike clock_in 0 b c e f seen.judged.clocks clock;
   };
   counts = counted_alike sub b c e f seen.counts more;
@@ -230,7 +231,7 @@ none_counts aggregates clock q r verdicts = by_lost (first_lost r.template.scope
   removed : List RemovedField
   removed = removed_fields verdicts
 
-  by_test : (b : Bool) → counts aggregates clock q (cond b (Withholds (first_rule_of removed) because.Empty) (Passes (remaining r verdicts) removed)) ≡ []
+  by_test : (b : Bool) → counts aggregates clock q (cond b (Withheld (first_rule_of removed) because.Empty) (Passed (remaining r verdicts) removed)) ≡ []
   by_test true = refl
   by_test false = refl
 
@@ -242,7 +243,7 @@ counts_by_action : (policy : Policy) (clock : ℕ) (r s : DataRecord) (action : 
     → ((place : ℕ) → action ≡ Aggregate place → r ≡ s) → counts policy.aggregates clock r (by_action action rule passing) ≡ counts policy.aggregates clock s (by_action action rule passing)
 counts_by_action policy clock r s Pass rule passing none same = none r ∙ sym (none s)
 counts_by_action policy clock r s Withhold rule passing none same = refl
-counts_by_action policy clock r s (Aggregate place) rule passing none same = ap (λ (q : DataRecord). counts policy.aggregates clock q (Aggregates rule place)) (same place refl)
+counts_by_action policy clock r s (Aggregate place) rule passing none same = ap (λ (q : DataRecord). counts policy.aggregates clock q (Aggregated rule place)) (same place refl)
 
 counts_alike : (name : List ℕ) (domain : ℕ) (policy : Policy) (clock : ℕ) (r s : DataRecord) → IsAlike name domain policy.rules r s → counting name domain policy clock r ≡ counting name domain policy clock s
 counts_alike name domain policy clock r s is =
@@ -280,7 +281,7 @@ message_alike sub b c session number s n octets others seen is = record {
 entry_same : (sub : ℕ) (b c : List Entry) (e f : Entry) → AreSeenAlike sub b c → e ≡ f → given_at sub b e ≡ given_at sub c e → counted_at sub b e ≡ counted_at sub c e → IsGivenAlike sub b c e f
 entry_same sub b c e f seen is given more = record {
   given = given ∙ ap (given_at sub c) is;
-  seen = seen_on sub b c e f seen (ap (switched sub) is) (ap (named sub) is) (ap edited is) (ap clock_in is) (more ∙ ap (counted_at sub c) is);
+  seen = seen_on sub b c e f seen (ap (switched sub) is) (ap (named sub) is) (ap policy_from is) (ap clock_in is) (more ∙ ap (counted_at sub c) is);
 }
 
 entry_alike : (sub : ℕ) (b c : List Entry) (e f : Entry) → AreSeenAlike sub b c → IsAlikeAt sub b c e f → IsGivenAlike sub b c e f
@@ -315,14 +316,14 @@ denied_values sub h g alike = alike_from sub h g [] [] (record { judged = record
 -- ---- rules that name others
 
 passed_unnumbered : (o : Outcome) → passed (unnumbered o) ≡ passed o
-passed_unnumbered (Passes kept removed) = refl
-passed_unnumbered (Aggregates rule definition) = refl
-passed_unnumbered (Withholds rule reason) = refl
+passed_unnumbered (Passed kept removed) = refl
+passed_unnumbered (Aggregated rule definition) = refl
+passed_unnumbered (Withheld rule reason) = refl
 
 counts_unnumbered : (aggregates : List Definition) (clock : ℕ) (r : DataRecord) (o : Outcome) → counts aggregates clock r (unnumbered o) ≡ counts aggregates clock r o
-counts_unnumbered aggregates clock r (Passes kept removed) = refl
-counts_unnumbered aggregates clock r (Aggregates rule place) = refl
-counts_unnumbered aggregates clock r (Withholds rule reason) = refl
+counts_unnumbered aggregates clock r (Passed kept removed) = refl
+counts_unnumbered aggregates clock r (Aggregated rule place) = refl
+counts_unnumbered aggregates clock r (Withheld rule reason) = refl
 
 -- both policies say the same of each record to the subscriber of this name, by other numbers of rules at most, and count it alike
 record JudgeAlike (name : List ℕ) (p q : Policy) : Type 0 where
@@ -376,7 +377,7 @@ policies_on name p q (Some policy) same = record { outcomes = λ domain r. refl;
 
 -- one entry more, which switches and names alike, sets the clock alike, brings the same message and counts the same of it
 same_on : (sub : ℕ) (name : List ℕ) (b c : List Entry) (e f : Entry) → AreSeenSame sub name b c → IsCalled sub name e → switched sub e ≡ switched sub f → named sub e ≡ named sub f → ((session : ℕ) → message_in session e ≡ message_in session f)
-    → JudgeAlike name (unwrap_or (edited e) (policy_in_force b)) (unwrap_or (edited f) (policy_in_force c)) → clock_in e ≡ clock_in f → counted_at sub b e ≡ counted_at sub c f → AreSeenSame sub name (b ++ e ∷ []) (c ++ f ∷ [])
+    → JudgeAlike name (unwrap_or (policy_from e) (policy_in_force b)) (unwrap_or (policy_from f) (policy_in_force c)) → clock_in e ≡ clock_in f → counted_at sub b e ≡ counted_at sub c f → AreSeenSame sub name (b ++ e ∷ []) (c ++ f ∷ [])
 same_on sub name b c e f seen is switch names sent policies clock more =
     let P : Policy → Policy → Type 0 = JudgeAlike name in
     record {
@@ -385,7 +386,7 @@ same_on sub name b c e f seen is switch names sent policies clock more =
       called = λ on. last_of-push (named sub) [] b e ∙ still_called sub name b e is seen.called (sym (last_of-push (switched sub) false b e) ∙ on);
       messages = λ session. flat_map-push (message_in session) b e ∙ ap (λ (ms : List (List ℕ)). flat_map (message_in session) b ++ ms) (sent session)
           ∙ ap (λ (ms : List (List ℕ)). ms ++ message_in session f) (seen.messages session) ∙ sym (flat_map-push (message_in session) c f);
-      policies = subst (λ (q : Policy). P (policy_in_force (b ++ e ∷ [])) q) (sym (last_of-push edited no_policy c f)) (subst (λ (p : Policy). P p (unwrap_or (edited f) (policy_in_force c))) (sym (last_of-push edited no_policy b e)) policies);
+      policies = subst (λ (q : Policy). P (policy_in_force (b ++ e ∷ [])) q) (sym (last_of-push policy_from no_policy c f)) (subst (λ (p : Policy). P p (unwrap_or (policy_from f) (policy_in_force c))) (sym (last_of-push policy_from no_policy b e)) policies);
       clocks = last_alike clock_in 0 b c e f seen.clocks clock;
       counts = counted_alike sub b c e f seen.counts more;
     }
@@ -428,7 +429,7 @@ record IsGivenSame (sub : ℕ) (name : List ℕ) (b c : List Entry) (e f : Entry
 given_same_entry : (sub : ℕ) (name : List ℕ) (b c : List Entry) (e f : Entry) → AreSeenSame sub name b c → IsCalled sub name e → e ≡ f → IsGivenSame sub name b c e f
 given_same_entry sub name b c e f seen is same = subst (λ (x : Entry). IsGivenSame sub name b c e x) same (record {
   given = given_alike sub name b c e seen;
-  seen = same_on sub name b c e e seen is refl refl (λ session. refl) (policies_on name (policy_in_force b) (policy_in_force c) (edited e) seen.policies) refl (more_alike sub name b c e seen);
+  seen = same_on sub name b c e e seen is refl refl (λ session. refl) (policies_on name (policy_in_force b) (policy_in_force c) (policy_from e) seen.policies) refl (more_alike sub name b c e seen);
 })
 
 given_less_edit : (sub : ℕ) (name : List ℕ) (b c : List Entry) (text less : List ℕ) → AreSeenSame sub name b c → LeavesOut name text less → IsGivenSame sub name b c (Edit text) (Edit less)

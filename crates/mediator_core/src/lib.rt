@@ -24,7 +24,6 @@ pub use laws::{
     rules_of_others_never_matter,
 };
 pub use mediator_calls::{
-    Call, Fault, Finished, Limits, Mediator, Receipt, Reply, RunFault, SessionId, Status, SubId,
-    UnknownSub,
+    Call, Fault, Finished, Limits, Mediator, Receipt, Reply, SessionId, Status, SubId,
 };
 pub use transcript::{Transcript, run};

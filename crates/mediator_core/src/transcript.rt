@@ -6,7 +6,7 @@ ghost use Rattle.mediator_core.specs.Runs.{Answers};
 ghost use Rattle.mediator_core.specs.Headline.{IsRunOf, HistoryIsTheCalls, HandedIsDisclosed, HandedIsFront, DrainedIsAudited, AnsweredIsFromDisclosed};
 
 use bytes::Bytes;
-use mediator_calls::{Call, Limits, Mediator, Reply, RunFault, SessionId, SubId};
+use mediator_calls::{Call, Limits, Mediator, Reply, SessionId, SubId};
 use mediator_state::Fault;
 use std::alloc::Global;
 
@@ -90,7 +90,8 @@ fn answer_pull(mediator: &mut Mediator, sub: SubId, now: u32, target: u16) -> Re
 /// before the first call.
 ///
 /// # Errors
-/// A limit is out of its range, or want of memory before the first call. No call was made then.
+/// [`Fault::BadLimits`] where a limit is out of its range; or [`Fault::OutOfMemory`], before the first call. No call was
+/// made then.
 ///
 /// # Examples
 ///
@@ -117,7 +118,7 @@ fn answer_pull(mediator: &mut Mediator, sub: SubId, now: u32, target: u16) -> Re
 /// assert!(rt; matches!(replies.first(), Some(Reply::Opened(SessionId(1)))));
 /// assert!(rt; matches!(replies.last(), Some(Reply::Refused(Fault::UnknownSession))));
 /// ```
-pub fn run(alloc: Global, limits: Limits, calls: Vec<Call>) -> Result<Transcript, RunFault>
+pub fn run(alloc: Global, limits: Limits, calls: Vec<Call>) -> Result<Transcript, Fault>
     // Each reply is that of its call, and the history has the entries of those that were accepted.
     ensures steps { IfOk result (IsRunOf limits calls.items) }
     ensures history { IfOk result (HistoryIsTheCalls calls.items) }
@@ -135,6 +136,6 @@ pub fn run(alloc: Global, limits: Limits, calls: Vec<Call>) -> Result<Transcript
         let reply = answer(&mut mediator, call);
         replies.push_reserved(reply);
     }
-    let _journal = mediator.journal();
+    let _for_proof = mediator.journal();
     Ok(Transcript { replies, mediator })
 }

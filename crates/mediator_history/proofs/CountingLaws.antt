@@ -9,13 +9,14 @@ use Rattle.std.proofs.lemmas.List.Elements.{filter-append}
 use Rattle.sequences.proofs.BeforeLaws.{each_with_before-push, last_of-push}
 use Rattle.ipfix_template.specs.DataRecord.{DataRecord}
 use Rattle.ipfix_session.specs.Meaning.{meaning_of, domain_of}
-use Rattle.policy_text.specs.Policies.{Meaning as Policy, Aggregate}
-use Rattle.flow_anonymize.specs.Outcome.{Outcome, Passes, Aggregates, Withholds}
+use Rattle.policy_text.specs.Policies.{PolicyMeaning as Policy, Aggregate}
+use Rattle.flow_anonymize.specs.declared.disclosure.Disclosure.TheVariants.{Passed, Aggregated, Withheld}
+use Rattle.flow_anonymize.specs.Outcome.{Outcome}
 use Rattle.flow_anonymize.specs.Disclosed.{disclosure_of}
 use Rattle.flow_aggregate.specs.declared.timing.Timing.{Timing}
 use Rattle.flow_aggregate.specs.declared.timing.Timing.TheVariants.{Placed, NoTime, NoKey, Late}
 use Rattle.flow_aggregate.specs.Placing.{start_of, interval_start, closes_at, has_key, timing_of, timing_at as placed_at}
-use Rattle.flow_aggregate.specs.Groups.{Counted, counted_as, group_of}
+use Rattle.flow_aggregate.specs.Groups.{Sample, counted_as, group_of}
 use Rattle.flow_aggregate.specs.Running.{is_due, staying}
 use Rattle.flow_aggregate.specs.Closing.{closed_by}
 use Rattle.event_journal.specs.declared.entry.Entry.{Entry}
@@ -48,7 +49,7 @@ counted-cuts sub h subs = each-cuts (counted_at sub) (λ before s. refl) h subs
 
 -- an entry that is no message brings nothing that counts, nor does one that comes while the subscription is not served
 pub counted_same : (sub : ℕ) (h : List Entry) (e : Entry) → counted_at sub h e ≡ [] → counted sub (h ++ e ∷ []) ≡ counted sub h
-counted_same sub h e none = counted-push sub h e ∙ ap (λ (t : List Counted). counted sub h ++ t) none ∙ append-nil (counted sub h)
+counted_same sub h e none = counted-push sub h e ∙ ap (λ (t : List Sample). counted sub h ++ t) none ∙ append-nil (counted sub h)
 
 pub counted_unserved : (sub : ℕ) (h : List Entry) (e : Entry) → is_served sub h ≡ false → counted_at sub h e ≡ []
 counted_unserved sub h (Message session number octets) off = rw off refl
@@ -81,23 +82,23 @@ one_stays clock (Some a) r NoKey is = refl
 one_stays clock (Some a) r Late is = refl
 
 counts_stay : (clock : ℕ) (aggregates : List Aggregate) (r : DataRecord) (outcome : Outcome) → staying clock (counts aggregates clock r outcome) ≡ counts aggregates clock r outcome
-counts_stay clock aggregates r (Passes kept removed) = refl
-counts_stay clock aggregates r (Aggregates rule place) = one_stays clock (slice_get aggregates place) r (timing_at aggregates place r clock) refl
-counts_stay clock aggregates r (Withholds rule reason) = refl
+counts_stay clock aggregates r (Passed kept removed) = refl
+counts_stay clock aggregates r (Aggregated rule place) = one_stays clock (slice_get aggregates place) r (timing_at aggregates place r clock) refl
+counts_stay clock aggregates r (Withheld rule reason) = refl
 
-staying-append : (t : ℕ) (cs ds : List Counted) → staying t (cs ++ ds) ≡ staying t cs ++ staying t ds
-staying-append t cs ds = filter-append (λ (c : Counted). not (is_due t (group_of c))) cs ds
+staying-append : (t : ℕ) (cs ds : List Sample) → staying t (cs ++ ds) ≡ staying t cs ++ staying t ds
+staying-append t cs ds = filter-append (λ (c : Sample). not (is_due t (group_of c))) cs ds
 
-all_stay : (clock : ℕ) (f : DataRecord → List Counted) → ((r : DataRecord) → staying clock (f r) ≡ f r) → (rs : List DataRecord) → staying clock (flat_map f rs) ≡ flat_map f rs
+all_stay : (clock : ℕ) (f : DataRecord → List Sample) → ((r : DataRecord) → staying clock (f r) ≡ f r) → (rs : List DataRecord) → staying clock (flat_map f rs) ≡ flat_map f rs
 all_stay clock f each [] = refl
 all_stay clock f each (r ∷ rs) =
     ap (staying clock) (flat_map-cons f r rs) ∙ staying-append clock (f r) (flat_map f rs)
-    ∙ ap (λ (t : List Counted). t ++ staying clock (flat_map f rs)) (each r) ∙ ap (λ (t : List Counted). f r ++ t) (all_stay clock f each rs)
+    ∙ ap (λ (t : List Sample). t ++ staying clock (flat_map f rs)) (each r) ∙ ap (λ (t : List Sample). f r ++ t) (all_stay clock f each rs)
     ∙ sym (flat_map-cons f r rs)
 
 -- ---- what stays at a time stayed at each time before
 
-stays_before : (clock t : ℕ) (cs : List Counted) → clock ≤ t → staying t (staying clock cs) ≡ staying t cs
+stays_before : (clock t : ℕ) (cs : List Sample) → clock ≤ t → staying t (staying clock cs) ≡ staying t cs
 stays_before clock t [] before = refl
 stays_before clock t (c ∷ cs) before = by (is_due clock (group_of c)) (is_due t (group_of c)) refl refl (stays_before clock t cs before) where
   by : (first second : Bool) → is_due clock (group_of c) ≡ first → is_due t (group_of c) ≡ second → staying t (staying clock cs) ≡ staying t cs
@@ -105,12 +106,12 @@ stays_before clock t (c ∷ cs) before = by (is_due clock (group_of c)) (is_due 
   by true true one two rest = rest
   by true false one two rest = absurd (omega (arith, before, leb-true _ _ one, leb-false _ _ two))
   by false true one two rest = rw two rest
-  by false false one two rest = rw two (ap (λ (ds : List Counted). c ∷ ds) rest)
+  by false false one two rest = rw two (ap (λ (ds : List Sample). c ∷ ds) rest)
 
 -- ---- the running groups' records
 
 -- by whether the subscription is served, the clock and all that counted
-runs : Bool → ℕ → List Counted → List Counted
+runs : Bool → ℕ → List Sample → List Sample
 runs on clock cs = cond on (staying clock cs) []
 
 pub running_by : (sub : ℕ) (h g : List Entry) → is_served sub h ≡ is_served sub g → clock_of h ≡ clock_of g → counted sub h ≡ counted sub g → running sub h ≡ running sub g
@@ -187,14 +188,14 @@ running-message sub h session number octets =
       e : Entry
       e = Message session number octets
 
-      new : List Counted
+      new : List Sample
       new = flat_map (counts_for sub h (domain_of octets)) (records_meant (meaning_of (messages_of session h) octets))
 
       new_stay : staying (clock_of h) new ≡ new
       new_stay = all_stay (clock_of h) (counts_for sub h (domain_of octets)) (λ r. counts_stay (clock_of h) (policy_in_force h).aggregates r _) (records_meant (meaning_of (messages_of session h) octets))
 
       by : (on : Bool) → runs on (clock_of h) (counted sub h ++ cond on new []) ≡ runs on (clock_of h) (counted sub h) ++ cond on new []
-      by true = staying-append (clock_of h) (counted sub h) new ∙ ap (λ (t : List Counted). staying (clock_of h) (counted sub h) ++ t) new_stay
+      by true = staying-append (clock_of h) (counted sub h) new ∙ ap (λ (t : List Sample). staying (clock_of h) (counted sub h) ++ t) new_stay
       by false = refl
 
 pub running-advance : (sub : ℕ) (h : List Entry) (t : ℕ) → clock_of h ≤ t → running sub (h ++ Advance t ∷ []) ≡ staying t (running sub h)
@@ -219,7 +220,7 @@ given_at-cuts sub h subs (Advance t) left = ap (closed_by t) (running-cuts sub h
 given_at-cuts sub h subs _ left = refl
 
 -- what a message counts by all that it depends on
-counts_by : Bool → List ℕ → Policy → ℕ → List (List ℕ) → List ℕ → List Counted
+counts_by : Bool → List ℕ → Policy → ℕ → List (List ℕ) → List ℕ → List Sample
 counts_by on name policy clock older octets =
     cond on (flat_map (λ r. counts policy.aggregates clock r (disclosure_of name (domain_of octets) r policy.rules)) (records_meant (meaning_of older octets))) []
 

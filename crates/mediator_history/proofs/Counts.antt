@@ -1,9 +1,9 @@
 -- A message brings at most as many records as it has octets.
 use Rattle.std.proofs.Common.{◌≡◌, ℕ, ◌≤◌, List, length, Result, Ok, Err, refl, arith}
-use Rattle.ipfix_message.specs.declared.decode_error.DecodeError.{DecodeError}
+use Rattle.ipfix_message.specs.declared.fault.Fault.{Fault as DecodeError}
 use Rattle.ipfix_message.specs.declared.item.Item.{Item}
 use Rattle.ipfix_message.specs.Reading.{header_of, items_of}
-use Rattle.ipfix_session.specs.declared.read_error.ReadError.{ReadError}
+use Rattle.ipfix_session.specs.declared.fault.Fault.{Fault as ReadError}
 use Rattle.ipfix_session.specs.Contents.{Contents, contents_after}
 use Rattle.ipfix_session.specs.Meaning.{read_items, contents_of, meaning_of, items_of_domain, domain_of, gap_of}
 use Rattle.ipfix_session.proofs.RecordCounts.{HoldAtMost, few_in}

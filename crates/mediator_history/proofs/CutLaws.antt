@@ -11,7 +11,7 @@ use Rattle.sequences.specs.Before.{each_after, each_with_before, last_of, HasNon
 use Rattle.sequences.proofs.BeforeLaws.{each_with_before-append, last_of-append, last_of-none}
 use Rattle.ipfix_template.specs.DataRecord.{DataRecord}
 use Rattle.ipfix_session.specs.Meaning.{meaning_of, domain_of}
-use Rattle.policy_text.specs.Policies.{Meaning as Policy, nothing as no_policy}
+use Rattle.policy_text.specs.Policies.{PolicyMeaning as Policy, nothing as no_policy}
 use Rattle.flow_anonymize.specs.Outcome.{passed}
 use Rattle.flow_anonymize.specs.Disclosed.{disclosure_of}
 use Rattle.event_journal.specs.declared.entry.Entry.{Entry}
@@ -19,7 +19,7 @@ use Rattle.event_journal.specs.declared.entry.Entry.TheVariants.{Message, Cut}
 use Rattle.disclosure_audit.specs.declared.entry.What.TheVariants.{Cut as CutOff}
 use Rattle.mediator_history.specs.Numbers.{is_in}
 use Rattle.mediator_history.specs.Sessions.{opens, is_open, message_in, messages_of}
-use Rattle.mediator_history.specs.Subscriptions.{edited, policy_in_force, named, name_of, switched, is_served, subscribed_in, served}
+use Rattle.mediator_history.specs.Subscriptions.{policy_from, policy_in_force, named, name_of, switched, is_served, subscribed_in, served}
 use Rattle.mediator_history.specs.Accepted.{records_meant}
 use Rattle.mediator_history.specs.Counting.{outcome_for}
 use Rattle.mediator_history.specs.Disclosed.{given_at, disclosed}
@@ -48,7 +48,7 @@ flat_map-cuts {A} f none h subs = flat_map-append f h (map Cut subs) ∙ ap (λ 
   all_none (sub ∷ subs) = flat_map-cons f (Cut sub) (map Cut subs) ∙ ap (λ (t : List A). t ++ flat_map f (map Cut subs)) (none sub) ∙ all_none subs
 
 pub policy-cuts : (h : List Entry) (subs : List ℕ) → policy_in_force (after_cuts h subs) ≡ policy_in_force h
-policy-cuts h subs = last_of-cuts edited no_policy (λ sub. refl) h subs
+policy-cuts h subs = last_of-cuts policy_from no_policy (λ sub. refl) h subs
 
 pub name-cuts : (sub : ℕ) (h : List Entry) (subs : List ℕ) → name_of sub (after_cuts h subs) ≡ name_of sub h
 name-cuts sub h subs = last_of-cuts (named sub) [] (λ s. refl) h subs

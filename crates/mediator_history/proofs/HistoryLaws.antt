@@ -9,7 +9,7 @@ use Rattle.policy_text.specs.Policies.{nothing as no_policy}
 use Rattle.event_journal.specs.declared.entry.Entry.{Entry}
 use Rattle.event_journal.specs.declared.entry.Entry.TheVariants.{Message}
 use Rattle.event_journal.specs.Sizes.{entry_octets, history_octets}
-use Rattle.mediator_history.specs.Subscriptions.{edited, policy_in_force, named, name_of, switched, is_served, subscribed_in}
+use Rattle.mediator_history.specs.Subscriptions.{policy_from, policy_in_force, named, name_of, switched, is_served, subscribed_in}
 use Rattle.mediator_history.specs.Accepted.{accepted_at, accepted}
 use Rattle.mediator_history.specs.Disclosed.{given_at, disclosed}
 use Rattle.mediator_history.specs.Auditing.{audit_at, audit_list}
@@ -21,7 +21,7 @@ flat_map-push f xs x = flat_map-append f xs (x ∷ []) ∙ ap (λ t. flat_map f 
 -- ---- a message changes neither the policy in force nor the names, nor who is served
 
 pub policy-message : (h : List Entry) (session number : ℕ) (octets : List ℕ) → policy_in_force (h ++ Message session number octets ∷ []) ≡ policy_in_force h
-policy-message h session number octets = last_of-push edited no_policy h (Message session number octets)
+policy-message h session number octets = last_of-push policy_from no_policy h (Message session number octets)
 
 pub name-message : (sub : ℕ) (h : List Entry) (session number : ℕ) (octets : List ℕ) → name_of sub (h ++ Message session number octets ∷ []) ≡ name_of sub h
 name-message sub h session number octets = last_of-push (named sub) [] h (Message session number octets)

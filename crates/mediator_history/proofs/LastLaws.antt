@@ -5,13 +5,13 @@ use Rattle.std.specs.List.{AllByRecursion}
 use Rattle.std.proofs.lemmas.Bool.{eqb-true, eq-eqb, ne_eqb}
 use Rattle.sequences.specs.Before.{last_of, IsLastOr}
 use Rattle.sequences.proofs.BeforeLaws.{last_of-append, last_of-found, last_of-only}
-use Rattle.policy_text.specs.Policies.{Meaning as Policy, nothing as no_policy}
+use Rattle.policy_text.specs.Policies.{PolicyMeaning as Policy, nothing as no_policy}
 use Rattle.policy_text.specs.Parsing.{policy_of}
-use Rattle.policy_text.specs.declared.fault.PolicyFault.{PolicyFault}
+use Rattle.policy_text.specs.declared.fault.Fault.{Fault as PolicyFault}
 use Rattle.event_journal.specs.declared.entry.Entry.{Entry}
 use Rattle.event_journal.specs.declared.entry.Entry.TheVariants.{Open, Close, Message, Edit, Subscribe, Unsubscribe, Advance, Cut}
-use Rattle.mediator_history.specs.Subscriptions.{policy_or_none, edited, policy_in_force, named, name_of, switched, is_served}
-use Rattle.mediator_history.specs.LastEntries.{EditsNone, IsInForce, NamesNone, IsNamed, Stays, IsSubscribed}
+use Rattle.mediator_history.specs.Subscriptions.{policy_or_none, policy_from, policy_in_force, named, name_of, switched, is_served}
+use Rattle.mediator_history.specs.LastEntries.{EditsNone, IsPolicyInForce, NamesNone, IsNamed, Stays, IsSubscribed}
 
 pub all_of : {A : Type 0} {P Q : A → Type 0} → ((x : A) → P x → Q x) → (xs : List A) → AllByRecursion P xs → AllByRecursion Q xs
 all_of f [] all = tt
@@ -23,7 +23,7 @@ policy_is : (p q : Policy) → (let s : Policy → Option Policy = λ x. Some x 
 policy_is p q e = cc
 
 -- what an entry that brings a policy is
-edit_is : (e : Entry) (policy : Policy) → edited e ≡ Some policy → (text : List ℕ) × (e ≡ Edit text) × (policy_of text ≡ Ok policy)
+edit_is : (e : Entry) (policy : Policy) → policy_from e ≡ Some policy → (text : List ℕ) × (e ≡ Edit text) × (policy_of text ≡ Ok policy)
 edit_is (Open session) policy is = absurd cc
 edit_is (Close session) policy is = absurd cc
 edit_is (Message session number octets) policy is = absurd cc
@@ -36,10 +36,10 @@ edit_is (Unsubscribe sub) policy is = absurd cc
 edit_is (Advance t) policy is = absurd cc
 edit_is (Cut sub) policy is = absurd cc
 
-edits_none : (e : Entry) → edited e ≡ None → EditsNone e
-edits_none e none text policy is spelled = let some : edited e ≡ Some policy = ap edited is ∙ ap policy_or_none spelled in absurd cc
+edits_none : (e : Entry) → policy_from e ≡ None → EditsNone e
+edits_none e none text policy is spelled = let some : policy_from e ≡ Some policy = ap policy_from is ∙ ap policy_or_none spelled in absurd cc
 
-none_edited : (e : Entry) → EditsNone e → edited e ≡ None
+none_edited : (e : Entry) → EditsNone e → policy_from e ≡ None
 none_edited (Open session) none = refl
 none_edited (Close session) none = refl
 none_edited (Message session number octets) none = refl
@@ -52,8 +52,8 @@ none_edited (Unsubscribe sub) none = refl
 none_edited (Advance t) none = refl
 none_edited (Cut sub) none = refl
 
-pub policy-found : (h : List Entry) (policy : Policy) → policy_in_force h ≡ policy → IsInForce h policy
-policy-found h policy is = elim (last_of-found edited no_policy h policy is) [
+pub policy-found : (h : List Entry) (policy : Policy) → policy_in_force h ≡ policy → IsPolicyInForce h policy
+policy-found h policy is = elim (last_of-found policy_from no_policy h policy is) [
   | inl last ↦
       let edit = edit_is last.entry policy last.has in
       inl record {
@@ -67,9 +67,9 @@ policy-found h policy is = elim (last_of-found edited no_policy h policy is) [
   | inr none ↦ inr (all_of edits_none h none.0, none.1)
 ]
 
-pub policy-only : (h : List Entry) (policy : Policy) → IsInForce h policy → policy_in_force h ≡ policy
-policy-only h policy is = last_of-only edited no_policy h policy (last_or is) where
-  last_or : IsInForce h policy → IsLastOr edited no_policy h policy
+pub policy-only : (h : List Entry) (policy : Policy) → IsPolicyInForce h policy → policy_in_force h ≡ policy
+policy-only h policy is = last_of-only policy_from no_policy h policy (last_or is) where
+  last_or : IsPolicyInForce h policy → IsLastOr policy_from no_policy h policy
   last_or (inl last) = inl record {
     front = last.before;
     entry = Edit last.text;

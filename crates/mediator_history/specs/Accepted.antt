@@ -4,7 +4,7 @@ use Rattle.std.specs.List.{enumerate_from}
 use Rattle.sequences.specs.Before.{each_with_before}
 use Rattle.ipfix_template.specs.DataRecord.{DataRecord}
 use Rattle.ipfix_session.specs.Meaning.{Meaning, meaning_of, domain_of}
-use Rattle.ipfix_session.specs.declared.read_error.ReadError.{ReadError}
+use Rattle.ipfix_session.specs.declared.fault.Fault.{Fault as ReadError}
 use Rattle.event_journal.specs.declared.entry.Entry.{Entry}
 use Rattle.event_journal.specs.declared.entry.Entry.TheVariants.{Message}
 use Rattle.mediator_history.specs.Sessions.{messages_of}
@@ -19,21 +19,21 @@ records_at before (Message session number octets) = records_meant (meaning_of (m
 records_at before _ = []
 
 -- a record with its message's position, its index in the message, its session and its Observation Domain
-pub record Accepted : Type 0 where
+pub record AcceptedRecord : Type 0 where
   pub position : ℕ
   pub index : ℕ
   pub session : ℕ
   pub domain : ℕ
   pub flow : DataRecord
 
-abbrev pub accepted_as : ℕ → ℕ → ℕ → (ℕ × DataRecord) → Accepted
+abbrev pub accepted_as : ℕ → ℕ → ℕ → (ℕ × DataRecord) → AcceptedRecord
 accepted_as position session domain r = record { position = position; index = r.0; session = session; domain = domain; flow = r.1 }
 
-abbrev pub accepted_at : List Entry → Entry → List Accepted
+abbrev pub accepted_at : List Entry → Entry → List AcceptedRecord
 accepted_at before (Message session number octets) =
     map (accepted_as (length before) session (domain_of octets)) (enumerate_from 0 (records_at before (Message session number octets)))
 accepted_at before _ = []
 
 -- all accepted records, in the order of position and index
-abbrev pub accepted : List Entry → List Accepted
+abbrev pub accepted : List Entry → List AcceptedRecord
 accepted h = each_with_before accepted_at h

@@ -2,7 +2,7 @@
 -- last entry that decides it.
 use Rattle.std.specs.Prelude.{◌≡◌, ◌≢◌, ◌⊎◌, ℕ, List, [], ◌∷◌, ◌++◌, Ok}
 use Rattle.std.specs.List.{AllByRecursion}
-use Rattle.policy_text.specs.Policies.{Meaning as Policy, nothing as no_policy}
+use Rattle.policy_text.specs.Policies.{PolicyMeaning as Policy, nothing as no_policy}
 use Rattle.policy_text.specs.Parsing.{policy_of}
 use Rattle.event_journal.specs.declared.entry.Entry.{Entry}
 use Rattle.event_journal.specs.declared.entry.Entry.TheVariants.{Open, Close, Edit, Subscribe, Unsubscribe, Cut}
@@ -23,8 +23,8 @@ pub record IsLastEdit (h : List Entry) (policy : Policy) : Type 0 where
   pub none_after : AllByRecursion EditsNone after
 
 -- the policy of that edit, or one without rules where there is none
-abbrev pub IsInForce : List Entry → Policy → Type 0
-IsInForce h policy = IsLastEdit h policy ⊎ (AllByRecursion EditsNone h × (policy ≡ no_policy))
+abbrev pub IsPolicyInForce : List Entry → Policy → Type 0
+IsPolicyInForce h policy = IsLastEdit h policy ⊎ (AllByRecursion EditsNone h × (policy ≡ no_policy))
 
 -- ---- the name of a subscription
 

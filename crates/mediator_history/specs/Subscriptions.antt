@@ -2,9 +2,9 @@
 use Rattle.std.specs.Prelude.{ℕ, Bool, true, false, List, [], ◌∷◌, length, filter, Option, Some, None, Result, Ok, Err, if◌then◌else◌, ◌==◌}
 use Rattle.std.specs.List.{flat_map}
 use Rattle.sequences.specs.Before.{last_of}
-use Rattle.policy_text.specs.Policies.{Meaning as Policy, nothing as no_policy}
+use Rattle.policy_text.specs.Policies.{PolicyMeaning as Policy, nothing as no_policy}
 use Rattle.policy_text.specs.Parsing.{policy_of}
-use Rattle.policy_text.specs.declared.fault.PolicyFault.{PolicyFault}
+use Rattle.policy_text.specs.declared.fault.Fault.{Fault as PolicyFault}
 use Rattle.event_journal.specs.declared.entry.Entry.{Entry}
 use Rattle.event_journal.specs.declared.entry.Entry.TheVariants.{Edit, Subscribe, Unsubscribe, Cut}
 
@@ -13,13 +13,13 @@ policy_or_none (Ok policy) = Some policy
 policy_or_none (Err fault) = None
 
 -- the policy that an entry brings into force
-abbrev pub edited : Entry → Option Policy
-edited (Edit text) = policy_or_none (policy_of text)
-edited _ = None
+abbrev pub policy_from : Entry → Option Policy
+policy_from (Edit text) = policy_or_none (policy_of text)
+policy_from _ = None
 
 -- the policy of the last edit whose text is a policy (no other edit is ever accepted); before the first one a policy without rules
 abbrev pub policy_in_force : List Entry → Policy
-policy_in_force h = last_of edited no_policy h
+policy_in_force h = last_of policy_from no_policy h
 
 abbrev pub texts_in : Entry → List (List ℕ)
 texts_in (Edit text) = text ∷ []

@@ -1,12 +1,12 @@
 //! Laws over the definitions of a history: what the last entry of its kind decides, what a cut ends, and what one entry
 //! more adds. Their functions do nothing; their clauses are what is proved.
 ghost use Rattle.std.specs.Prelude.{◌≡◌, ◌↔◌, ◌∷◌, ◌++◌, [], ℕ, false, List, IsTrue};
-ghost use Rattle.policy_text.specs.Policies.{Meaning as Policy};
+ghost use Rattle.policy_text.specs.Policies.{PolicyMeaning as Policy};
 ghost use Rattle.event_journal.specs.declared.entry.Entry.{Entry};
 ghost use Rattle.event_journal.specs.declared.entry.Entry.TheVariants.{Unsubscribe, Cut};
 ghost use Rattle.mediator_history.specs.Sessions.{is_open};
 ghost use Rattle.mediator_history.specs.Subscriptions.{policy_in_force, name_of, is_live, is_served};
-ghost use Rattle.mediator_history.specs.LastEntries.{IsInForce, IsNamed, IsSubscribed, IsBegun, IsOpened};
+ghost use Rattle.mediator_history.specs.LastEntries.{IsPolicyInForce, IsNamed, IsSubscribed, IsBegun, IsOpened};
 ghost use Rattle.mediator_history.specs.Accepted.{accepted_at, accepted};
 ghost use Rattle.mediator_history.specs.Disclosed.{given_at, disclosed};
 ghost use Rattle.mediator_history.specs.Auditing.{audit_at, audit_list};
@@ -15,7 +15,7 @@ ghost use Rattle.mediator_history.specs.Auditing.{audit_at, audit_list};
 /// it has no such edit; and no other is in force.
 pub fn last_edit_is_in_force()
     ensures { (h : List Entry) (policy : Policy) → (policy_in_force h ≡ policy)
-        ↔ IsInForce h policy }
+        ↔ IsPolicyInForce h policy }
 {}
 
 /// A subscription has the name under which it began last, or a name of no octets where it never began; and it has no

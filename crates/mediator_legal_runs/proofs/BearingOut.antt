@@ -5,7 +5,7 @@ use Rattle.std.specs.List.{flat_map, AllByRecursion}
 use Rattle.std.proofs.lemmas.Bool.{ne_eqb}
 use Rattle.sequences.proofs.BeforeLaws.{last_of-push}
 use Rattle.ipfix_template.specs.DataRecord.{DataRecord}
-use Rattle.subscriber_stream.specs.declared.limits.Limits.{Limits as Streamed}
+use Rattle.subscriber_stream.specs.declared.limits.StreamLimits.{StreamLimits}
 use Rattle.event_journal.specs.declared.entry.Entry.{Entry}
 use Rattle.event_journal.specs.declared.entry.Entry.TheVariants.{Cut}
 use Rattle.mediator_history.specs.Subscriptions.{switched, is_served, subscribed_in, served}
@@ -40,11 +40,11 @@ may_cut_all g (c ∷ cs) on up = (
 
 -- ---- what an entry cuts, it would give records to
 
-some_given : (limits : Streamed) (listed : List DataRecord) (waiting : ℕ) (more : List DataRecord) → overflows limits listed waiting more ≡ true → more ≢ []
+some_given : (limits : StreamLimits) (listed : List DataRecord) (waiting : ℕ) (more : List DataRecord) → overflows limits listed waiting more ≡ true → more ≢ []
 some_given limits listed waiting [] over none = absurd cc
 some_given limits listed waiting (r ∷ more) over none = absurd cc
 
-all_given : (limits : Streamed) (h : List Entry) (e : Entry) (waiting : ℕ → ℕ) (subs : List ℕ) → AllByRecursion (λ s. is_cut_by limits h e waiting s ≡ true) subs → AllByRecursion (λ s. given_at s h e ≢ []) subs
+all_given : (limits : StreamLimits) (h : List Entry) (e : Entry) (waiting : ℕ → ℕ) (subs : List ℕ) → AllByRecursion (λ s. is_cut_by limits h e waiting s ≡ true) subs → AllByRecursion (λ s. given_at s h e ≢ []) subs
 all_given limits h e waiting [] over = tt
 all_given limits h e waiting (s ∷ subs) over = (some_given limits _ (waiting s) (given_at s h e) over.0, all_given limits h e waiting subs over.1)
 
@@ -62,10 +62,10 @@ pub kept_more : (h : List Entry) (e : Entry) → IsKept h → IsAccepted h e →
 kept_more h e so is = record { settled = settled_more h e so.settled is; numbered = numbered_more h e is so.numbered }
 
 -- those that are cut, behind a history
-cut_by : Streamed → List Entry → Entry → (ℕ → ℕ) → List ℕ
+cut_by : StreamLimits → List Entry → Entry → (ℕ → ℕ) → List ℕ
 cut_by limits h e waiting = filter (is_cut_by limits h e waiting) (served h)
 
-kept_cuts : (limits : Streamed) (h : List Entry) (e : Entry) (waiting : ℕ → ℕ) → IsKept h → IsAccepted h e → IsKept (after_cuts h (cut_by limits h e waiting) ++ e ∷ [])
+kept_cuts : (limits : StreamLimits) (h : List Entry) (e : Entry) (waiting : ℕ → ℕ) → IsKept h → IsAccepted h e → IsKept (after_cuts h (cut_by limits h e waiting) ++ e ∷ [])
 unfolding cut_by
 kept_cuts limits h e waiting so is =
     let begun : List ℕ = flat_map subscribed_in h in
@@ -82,6 +82,6 @@ kept_cuts limits h e waiting so is =
       same_numbers h subs so = subst AreNumbers (sym (list-cuts subscribed_in (λ s. refl) h subs)) so
 
 -- with an entry that is accepted and the cuts that it makes
-pub kept_with_cuts : (limits : Streamed) (h : List Entry) (e : Entry) (waiting : ℕ → ℕ) → IsKept h → IsAccepted h e → IsKept (h ++ (cuts_before limits h e waiting ++ e ∷ []))
+pub kept_with_cuts : (limits : StreamLimits) (h : List Entry) (e : Entry) (waiting : ℕ → ℕ) → IsKept h → IsAccepted h e → IsKept (h ++ (cuts_before limits h e waiting ++ e ∷ []))
 unfolding cut_by
 kept_with_cuts limits h e waiting so is = subst IsKept (append_assoc h (cuts_before limits h e waiting) (e ∷ [])) (kept_cuts limits h e waiting so is)

@@ -11,8 +11,8 @@ use Rattle.mediator_state.specs.declared.receipt.Receipt.{Receipt}
 use Rattle.mediator_calls.specs.Mediation.{Mediation, started, waiting_at, stream_limits}
 use Rattle.mediator_calls.specs.Calls.{GoesOn, with_cuts, Receives}
 use Rattle.mediator_core.specs.Runs.{Answers, Runs}
-use Rattle.history_verify.specs.declared.fault.VerifyFault.{VerifyFault}
-use Rattle.history_verify.specs.declared.fault.VerifyFault.TheVariants.{BadHistory, OutOfMemory}
+use Rattle.history_verify.specs.declared.fault.Fault.{Fault as VerifyFault}
+use Rattle.history_verify.specs.declared.fault.Fault.TheVariants.{BadHistory, OutOfMemory}
 use Rattle.history_verify.specs.Legal.{IsAccepted, IsNextMessage, IsLegalAt, AreLegal, IsLegal, IsFirstBad}
 use Rattle.history_verify.specs.Answers.{NamesFirst}
 use Rattle.mediator_legal_runs.specs.Legality.{RunsAreLegal, JournalsAreLegal, LegalIsNeverBad, RunsAreNeverBad}

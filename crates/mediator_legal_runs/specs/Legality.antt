@@ -7,8 +7,8 @@ use Rattle.mediator_calls.specs.declared.call.Reply.{Reply}
 use Rattle.mediator_calls.specs.declared.finished.Finished.{Finished}
 use Rattle.mediator_calls.specs.Mediation.{Mediation, started}
 use Rattle.mediator_core.specs.Runs.{Runs}
-use Rattle.history_verify.specs.declared.fault.VerifyFault.{VerifyFault}
-use Rattle.history_verify.specs.declared.fault.VerifyFault.TheVariants.{OutOfMemory}
+use Rattle.history_verify.specs.declared.fault.Fault.{Fault as VerifyFault}
+use Rattle.history_verify.specs.declared.fault.Fault.TheVariants.{OutOfMemory}
 use Rattle.history_verify.specs.Legal.{IsLegal}
 use Rattle.history_verify.specs.Answers.{NamesFirst}
 

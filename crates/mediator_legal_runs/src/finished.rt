@@ -3,7 +3,7 @@ ghost use Rattle.std.specs.Prelude.{true, IfOk};
 ghost use Rattle.history_verify.specs.Legal.{IsLegal};
 ghost use Rattle.history_verify.specs.Answers.{IsVerified};
 
-use history_verify::{Verified, VerifyFault, verify};
+use history_verify::{Fault as VerifyFault, Verified, verify};
 use mediator_calls::Finished;
 use std::alloc::{AllocError, Global};
 

@@ -7,14 +7,14 @@ use Rattle.std.proofs.lemmas.List.{take-append-drop, length-take}
 use Rattle.ipfix_template.specs.DataRecord.{DataRecord}
 use Rattle.subscriber_stream.specs.Shapes.{shapes_of, is_among, id_of}
 use Rattle.subscriber_stream.specs.Parts.{Part, Announcement, Entry, parts, parts_at, records_in}
-use Rattle.subscriber_stream.specs.Message.{run_length, taken, next_message, built, place_after}
+use Rattle.subscriber_stream.specs.Message.{run_length, parts_taken, next_message, built, place_after}
 use Rattle.stream_meaning.specs.Served.{AreStreamable}
 use Rattle.stream_meaning.proofs.Tables.{empty, AreKnown, after_parts}
 use Rattle.stream_meaning.proofs.Sets.{known_split}
 use Rattle.stream_meaning.proofs.Steps.{run_fits}
 use Rattle.stream_meaning.proofs.Listed.{parts_known}
 use Rattle.octet_io.specs.Written.{WritesFront}
-use Rattle.subscriber_stream.specs.declared.limits.Limits.{Limits}
+use Rattle.subscriber_stream.specs.declared.limits.StreamLimits.{StreamLimits}
 use Rattle.mediator_history.specs.Subscriptions.{is_live}
 use Rattle.mediator_history.proofs.EntryLaws.{served_is_live}
 use Rattle.mediator_tables.specs.declared.subscription.Subscription.{Subscription}
@@ -22,7 +22,7 @@ use Rattle.mediator_tables.specs.SubscriptionTable as table
 use Rattle.mediator_state.specs.Standing.{IsLiveAs}
 use Rattle.mediator_state.specs.Seen.{place_in, place_of}
 use Rattle.mediator_state.specs.Calls as calls
-use Rattle.mediator_state.specs.Calls.{StandsFor}
+use Rattle.mediator_state.specs.Calls.{StateStandsFor}
 use Rattle.sequences.specs.Before.{each_after}
 use Rattle.event_journal.specs.declared.entry.Entry.{Entry as HistoryEntry}
 use Rattle.mediator_history.specs.Auditing.{audit_list}
@@ -31,15 +31,15 @@ use Rattle.subscriber_stream.proofs.CallLaws.{run_some}
 use Rattle.stream_meaning.proofs.Runs.{some_message}
 use Rattle.std.proofs.lemmas.Option.{same_Some}
 use Rattle.sequences.proofs.ListLaws.{take-add-append, concat_push}
-use Rattle.mediator_offline.specs.declared.run.Run.{Run}
-use Rattle.mediator_offline.specs.Runs.{tells, audit_drained, Stands, Small, IsServing, SameButState, KeepsAudit}
-use Rattle.mediator_offline.specs.HandsOut.{HandsOut}
+use Rattle.mediator_offline.specs.declared.run.OfflineRun.{OfflineRun}
+use Rattle.mediator_offline.specs.Runs.{tells, audit_drained, RunStands, Small, IsServing, SameButState, KeepsAudit}
+use Rattle.mediator_offline.specs.HandsOut.{HandsOutAll}
 use Rattle.mediator_offline.proofs.Receiving.{within_end}
 use Rattle.mediator_offline.specs.Offline.{end_of}
-use Rattle.mediator_offline.specs.declared.job.OfflineFault.{OfflineFault}
-use Rattle.mediator_offline.specs.declared.job.OfflineFault.TheVariants.{Write, Core}
+use Rattle.mediator_offline.specs.declared.job.Fault.{Fault}
+use Rattle.mediator_offline.specs.declared.job.Fault.TheVariants.{Write, Mediator}
 use Rattle.mediator_state.specs.declared.fault.Fault.TheVariants as fault
-use Rattle.mediator_offline.specs.Pulling.{IsDelivering, Pulls, Delivers, StopsDelivery, FailsDelivery}
+use Rattle.mediator_offline.specs.Pulling.{IsDeliveringRun, PullsMessage, Delivers, StopsDelivery, FailsDelivery}
 
 -- ---- a message is pulled
 
@@ -59,14 +59,14 @@ pulled records now target p m streamable below is = at (drop p (parts records)) 
       nothing is = let none : next_message now target (length (records_in (take p (parts records)))) [] ≡ Some m = ap (next_message now target (length (records_in (take p (parts records))))) (sym e) ∙ is in absurd cc
     at (part ∷ ps) e = record { goes_on = some; within = within; short = short }
       where
-        many : length (take (taken records p target) (drop p (parts records))) ≡ length (take (run_length target (part ∷ ps)) (part ∷ ps))
+        many : length (take (parts_taken records p target) (drop p (parts records))) ≡ length (take (run_length target (part ∷ ps)) (part ∷ ps))
         many = ap (λ qs. length (take (run_length target qs) qs)) e
 
         some : p < place_after records p target
         some = omega (arith, many, run_some target (part ∷ ps), length-take (run_length target (part ∷ ps)) (part ∷ ps))
 
         within : p ≤ length (parts records) → place_after records p target ≤ length (parts records)
-        within le = omega (arith, le, length-take (taken records p target) (drop p (parts records)), length-drop p (parts records))
+        within le = omega (arith, le, length-take (parts_taken records p target) (drop p (parts records)), length-drop p (parts records))
 
         known : AreKnown (after_parts empty (take p (parts records))) (part ∷ ps)
         known = subst (AreKnown (after_parts empty (take p (parts records)))) e
@@ -91,7 +91,7 @@ at_end records now target p is le = at (drop p (parts records)) refl
 pub stays : (records : List DataRecord) (now target p : ℕ) → built records p now target ≡ None → p ≤ length (parts records) → place_after records p target ≡ p
 stays records now target p is le =
     let end = at_end records now target p is le in
-    omega (arith, length-take (taken records p target) (drop p (parts records)), length-drop p (parts records), end)
+    omega (arith, length-take (parts_taken records p target) (drop p (parts records)), length-drop p (parts records), end)
 
 -- each record has two parts at most
 parts_after-few : (before records : List DataRecord) → length (each_after parts_at before records) ≤ 2 * length records
@@ -109,14 +109,14 @@ parts_few records = parts_after-few [] records
 
 -- ---- messages one after another
 
-pub hands-snoc : (records : List DataRecord) (now target p q : ℕ) (ms : List (List ℕ)) (m : List ℕ) → HandsOut records now target p ms q → built records q now target ≡ Some m
-    → HandsOut records now target p (ms ++ m ∷ []) (place_after records q target)
+pub hands-snoc : (records : List DataRecord) (now target p q : ℕ) (ms : List (List ℕ)) (m : List ℕ) → HandsOutAll records now target p ms q → built records q now target ≡ Some m
+    → HandsOutAll records now target p (ms ++ m ∷ []) (place_after records q target)
 hands-snoc records now target p q [] m hands is = (subst (λ x. built records x now target ≡ Some m) (sym hands) is, ap (λ x. place_after records x target) hands)
 hands-snoc records now target p q (n ∷ ms) m hands is = (hands.0, hands-snoc records now target (place_after records p target) q ms m hands.1 is)
 
 -- ---- a run that pulls
 
-pub stands_on : (d e : Run) (h : List HistoryEntry) (p q : ℕ) → Stands d h p → SameButState d e → StandsFor tells e.state h → place_of e.state.engine 1 ≡ q → Stands e h q
+pub stands_on : (d e : OfflineRun) (h : List HistoryEntry) (p q : ℕ) → RunStands d h p → SameButState d e → StateStandsFor tells e.state h → place_of e.state.engine 1 ≡ q → RunStands e h q
 stands_on d e h p q so same state here = record {
   state = state;
   place = here;
@@ -134,23 +134,23 @@ abbrev pub parts_in : Option Subscription → List Part
 parts_in None = []
 parts_in (Some s) = s.stream.standing.waiting
 
-abbrev pub parts_waiting : Run → List Part
+abbrev pub parts_waiting : OfflineRun → List Part
 parts_waiting d = parts_in (table.at d.state.engine.subscriptions 1)
 
-parts_behind : (h : List HistoryEntry) (limits : Limits) (o : Option Subscription) → IsLiveAs h limits 1 o → is_live 1 h ≡ true → parts_in o ≡ drop (place_in o) (parts (disclosed 1 h))
+parts_behind : (h : List HistoryEntry) (limits : StreamLimits) (o : Option Subscription) → IsLiveAs h limits 1 o → is_live 1 h ≡ true → parts_in o ≡ drop (place_in o) (parts (disclosed 1 h))
 parts_behind h limits None is live = absurd (no (sym is ∙ live))
   where
     no : false ≡ true → ⊥
     no e = absurd cc
 parts_behind h limits (Some s) is live = is.stream.waiting
 
-waits_behind : (d : Run) (h : List HistoryEntry) (p : ℕ) → Stands d h p → parts_waiting d ≡ drop p (parts (disclosed 1 h))
+waits_behind : (d : OfflineRun) (h : List HistoryEntry) (p : ℕ) → RunStands d h p → parts_waiting d ≡ drop p (parts (disclosed 1 h))
 waits_behind d h p so =
     parts_behind h d.state.engine.limits (table.at d.state.engine.subscriptions 1) (so.state.stands.subscriptions 1) (served_is_live 1 h so.serving)
     ∙ ap (λ n. drop n (parts (disclosed 1 h))) so.place
 
 -- what the state answers to a pull is what the run does
-pub pulls_of : (d e : Run) (m : Option (List ℕ)) → SameButState d e → calls.KeepsHistories tells d.state e.state → calls.ForEachHistory tells d.state (calls.Pulls d.state.engine e.state.engine 1 d.job.now d.job.target m) → Pulls d m e
+pub pulls_of : (d e : OfflineRun) (m : Option (List ℕ)) → SameButState d e → calls.KeepsHistories tells d.state e.state → calls.ForEachHistory tells d.state (calls.PullsAfter d.state.engine e.state.engine 1 d.job.now d.job.target m) → PullsMessage d m e
 pulls_of d e m same keeps got = record {
   message = λ h p so. (got h so.state).message ∙ ap (λ q. built (disclosed 1 h) q d.job.now d.job.target) so.place;
   stands = λ h p so.
@@ -158,26 +158,26 @@ pulls_of d e m same keeps got = record {
 }
 
 -- the same history and the same entries drained: the same entries wait
-pub audit_kept : (d e : Run) (h : List HistoryEntry) → StandsFor tells d.state h → StandsFor tells e.state h → audit_drained e ≡ audit_drained d → KeepsAudit d e
+pub audit_kept : (d e : OfflineRun) (h : List HistoryEntry) → StateStandsFor tells d.state h → StateStandsFor tells e.state h → audit_drained e ≡ audit_drained d → KeepsAudit d e
 audit_kept d e h so then same = record { drained = same; waiting = then.stands.audit.waiting ∙ ap (λ n. drop n (audit_list h)) same ∙ sym so.stands.audit.waiting }
 
 -- where a run has come to, from place p on
-pub record IsAt (old d : Run) (h : List HistoryEntry) (p : ℕ) (messages : List (List ℕ)) : Type 0 where
+pub record IsAt (old d : OfflineRun) (h : List HistoryEntry) (p : ℕ) (messages : List (List ℕ)) : Type 0 where
   pub place : ℕ
-  pub hands : HandsOut (disclosed 1 h) old.job.now old.job.target p messages place
-  pub stands : Stands d h place
+  pub hands : HandsOutAll (disclosed 1 h) old.job.now old.job.target p messages place
+  pub stands : RunStands d h place
   pub few : old.sent ≤ 65535 * p → d.sent ≤ 65535 * place
 
 -- these messages were pulled and written
-pub record IsPulling (old d : Run) (held holds : Option (List ℕ)) : Type 0 where
+pub record IsPulling (old d : OfflineRun) (held holds : Option (List ℕ)) : Type 0 where
   pub messages : List (List ℕ)
   pub job : d.job ≡ old.job
   pub audit : KeepsAudit old d
   pub sent : d.sent ≡ old.sent + length (concat messages)
   pub written : Appends held holds (concat messages)
-  pub handed : (h : List HistoryEntry) (p : ℕ) → Stands old h p → Small h → IsAt old d h p messages
+  pub handed : (h : List HistoryEntry) (p : ℕ) → RunStands old h p → Small h → IsAt old d h p messages
 
-pub pulling_starts : (d : Run) (held : Option (List ℕ)) → IsPulling d d held held
+pub pulling_starts : (d : OfflineRun) (held : Option (List ℕ)) → IsPulling d d held held
 pulling_starts d held = record {
   messages = [];
   job = refl;
@@ -191,22 +191,22 @@ pub streamable_of : (h : List HistoryEntry) → Small h → AreStreamable (discl
 streamable_of h small = small.streamable
 
 -- what a pull answers, and what it leaves
-pub record Pulled (d e : Run) (answer : Option (List ℕ)) : Type 0 where
+pub record Pulled (d e : OfflineRun) (answer : Option (List ℕ)) : Type 0 where
   pub same : SameButState d e
   pub sent : e.sent ≡ d.sent
   pub audit : KeepsAudit d e
-  pub pulls : Pulls d answer e
+  pub pulls : PullsMessage d answer e
   pub below : d.job.target < 2 ^ 16
 
-audit_on : (d e f : Run) → KeepsAudit d e → KeepsAudit e f → KeepsAudit d f
+audit_on : (d e f : OfflineRun) → KeepsAudit d e → KeepsAudit e f → KeepsAudit d f
 audit_on d e f a b = record { drained = b.drained ∙ a.drained; waiting = b.waiting ∙ a.waiting }
 
 -- a message is written: the state stays
-written_on : (e f : Run) (h : List HistoryEntry) (p : ℕ) → SameButState e f → f.state ≡ e.state → Stands e h p → Stands f h p
-written_on e f h p same state so = stands_on e f h p p so same (subst (λ s. StandsFor tells s h) (sym state) so.state) (ap (λ s. place_of s.engine 1) state ∙ so.place)
+written_on : (e f : OfflineRun) (h : List HistoryEntry) (p : ℕ) → SameButState e f → f.state ≡ e.state → RunStands e h p → RunStands f h p
+written_on e f h p same state so = stands_on e f h p p so same (subst (λ s. StateStandsFor tells s h) (sym state) so.state) (ap (λ s. place_of s.engine 1) state ∙ so.place)
 
 -- one message more was pulled and written
-pub turn : (old d e f : Run) (held holds writes : Option (List ℕ)) (m : List ℕ) → IsPulling old d held holds → Pulled d e (Some m) → SameButState e f → f.state ≡ e.state
+pub turn : (old d e f : OfflineRun) (held holds writes : Option (List ℕ)) (m : List ℕ) → IsPulling old d held holds → Pulled d e (Some m) → SameButState e f → f.state ≡ e.state
     → Appends holds writes m → f.sent ≡ e.sent + length m → IsPulling old f held writes
 turn old d e f held holds writes m so p same state writing counting = record {
   messages = so.messages ++ m ∷ [];
@@ -217,10 +217,10 @@ turn old d e f held holds writes m so p same state writing counting = record {
   handed = λ h q start small. next h q start small (so.handed h q start small);
 }
   where
-    next : (h : List HistoryEntry) (q : ℕ) → Stands old h q → Small h → IsAt old d h q so.messages → IsAt old f h q (so.messages ++ m ∷ [])
+    next : (h : List HistoryEntry) (q : ℕ) → RunStands old h q → Small h → IsAt old d h q so.messages → IsAt old f h q (so.messages ++ m ∷ [])
     next h q start small at = record {
       place = place_after (disclosed 1 h) at.place d.job.target;
-      hands = subst (λ target. HandsOut (disclosed 1 h) old.job.now old.job.target q (so.messages ++ m ∷ []) (place_after (disclosed 1 h) at.place target)) (sym (ap (λ j. j.target) so.job))
+      hands = subst (λ target. HandsOutAll (disclosed 1 h) old.job.now old.job.target q (so.messages ++ m ∷ []) (place_after (disclosed 1 h) at.place target)) (sym (ap (λ j. j.target) so.job))
           (hands-snoc (disclosed 1 h) old.job.now old.job.target q at.place so.messages m at.hands is);
       stands = written_on e f h (place_after (disclosed 1 h) at.place d.job.target) same state (p.pulls.stands h at.place at.stands);
       few = λ le. omega (arith, at.few le, p.sent, counting, found.short, found.goes_on);
@@ -236,7 +236,7 @@ turn old d e f held holds writes m so p same state writing counting = record {
         found = pulled (disclosed 1 h) d.job.now d.job.target at.place m small.streamable p.below here
 
 -- nothing waits: all was written
-pub turn_ends : (old d e : Run) (held holds : Option (List ℕ)) → IsPulling old d held holds → Pulled d e None → Delivers old e held holds
+pub turn_ends : (old d e : OfflineRun) (held holds : Option (List ℕ)) → IsPulling old d held holds → Pulled d e None → Delivers old e held holds
 turn_ends old d e held holds so p = record {
   job = p.same.job ∙ so.job;
   audit = audit_on old d e so.audit p.audit;
@@ -250,43 +250,43 @@ turn_ends old d e held holds so p = record {
     end : (h : List HistoryEntry) (q : ℕ) (at : IsAt old d h q so.messages) → at.place ≡ end_of h
     end h q at = at_end (disclosed 1 h) d.job.now d.job.target at.place (sym (p.pulls.message h at.place at.stands)) (within_end d h at.place at.stands)
 
-    next : (h : List HistoryEntry) (q : ℕ) → Stands old h q → Small h → IsAt old d h q so.messages → HandsOut (disclosed 1 h) old.job.now old.job.target q so.messages (end_of h) × Stands e h (end_of h)
+    next : (h : List HistoryEntry) (q : ℕ) → RunStands old h q → Small h → IsAt old d h q so.messages → HandsOutAll (disclosed 1 h) old.job.now old.job.target q so.messages (end_of h) × RunStands e h (end_of h)
     next h q start small at = (
-      subst (HandsOut (disclosed 1 h) old.job.now old.job.target q so.messages) (end h q at) at.hands,
-      subst (Stands e h) (after ∙ end h q at) (p.pulls.stands h at.place at.stands),
+      subst (HandsOutAll (disclosed 1 h) old.job.now old.job.target q so.messages) (end h q at) at.hands,
+      subst (RunStands e h) (after ∙ end h q at) (p.pulls.stands h at.place at.stands),
     )
       where
         after : place_after (disclosed 1 h) at.place d.job.target ≡ at.place
         after = stays (disclosed 1 h) d.job.now d.job.target at.place (sym (p.pulls.message h at.place at.stands)) (within_end d h at.place at.stands)
 
-    few : (q : ℕ) → old.sent ≤ 65535 * q → (h : List HistoryEntry) → Stands old h q → Small h → IsAt old d h q so.messages → e.sent ≤ 65535 * end_of h
+    few : (q : ℕ) → old.sent ≤ 65535 * q → (h : List HistoryEntry) → RunStands old h q → Small h → IsAt old d h q so.messages → e.sent ≤ 65535 * end_of h
     few q le h start small at = omega (arith, p.sent, at.few le, end h q at)
 
 -- where the run of a turn stands, and the message of that place
-record IsTurn (old d : Run) (start : IsDelivering old) (messages : List (List ℕ)) (m : List ℕ) : Type 0 where
+record IsTurn (old d : OfflineRun) (start : IsDeliveringRun old) (messages : List (List ℕ)) (m : List ℕ) : Type 0 where
   at : IsAt old d start.history start.place messages
   here : built (disclosed 1 start.history) at.place d.job.now d.job.target ≡ Some m
   found : IsPulled (disclosed 1 start.history) d.job.now d.job.target at.place m
 
-turn_at : (old d e : Run) (held holds : Option (List ℕ)) (m : List ℕ) (start : IsDelivering old) (so : IsPulling old d held holds) → Pulled d e (Some m) → IsTurn old d start so.messages m
+turn_at : (old d e : OfflineRun) (held holds : Option (List ℕ)) (m : List ℕ) (start : IsDeliveringRun old) (so : IsPulling old d held holds) → Pulled d e (Some m) → IsTurn old d start so.messages m
 turn_at old d e held holds m start so p =
     let at = so.handed start.history start.place start.stands start.small in
     let here = sym (p.pulls.message start.history at.place at.stands) in
     record { at = at; here = here; found = pulled (disclosed 1 start.history) d.job.now d.job.target at.place m start.small.streamable p.below here }
 
 -- a message is short, and what was sent before it is little
-pub turn_fits : (old d e : Run) (held holds : Option (List ℕ)) (m : List ℕ) → IsDelivering old → IsPulling old d held holds → Pulled d e (Some m) → e.sent + length m < 2 ^ 64
+pub turn_fits : (old d e : OfflineRun) (held holds : Option (List ℕ)) (m : List ℕ) → IsDeliveringRun old → IsPulling old d held holds → Pulled d e (Some m) → e.sent + length m < 2 ^ 64
 turn_fits old d e held holds m start so p =
     let t = turn_at old d e held holds m start so p in
     omega (arith, p.sent, t.at.few start.sent, within_end d start.history t.at.place t.at.stands, t.found.short, parts_few (disclosed 1 start.history), start.small.listed, start.small.entries)
 
-pub turn_serves : (old d : Run) (held holds : Option (List ℕ)) → IsDelivering old → IsPulling old d held holds → IsServing d
+pub turn_serves : (old d : OfflineRun) (held holds : Option (List ℕ)) → IsDeliveringRun old → IsPulling old d held holds → IsServing d
 turn_serves old d held holds start so =
     let at = so.handed start.history start.place start.stands start.small in
     record { history = start.history; place = at.place; stands = at.stands }
 
 -- each turn leaves fewer parts
-pub turn_smaller : (old d e f : Run) (held holds : Option (List ℕ)) (m : List ℕ) → IsDelivering old → IsPulling old d held holds → Pulled d e (Some m) → f.state ≡ e.state
+pub turn_smaller : (old d e f : OfflineRun) (held holds : Option (List ℕ)) (m : List ℕ) → IsDeliveringRun old → IsPulling old d held holds → Pulled d e (Some m) → f.state ≡ e.state
     → length (parts_waiting f) < length (parts_waiting d)
 turn_smaller old d e f held holds m start so p state =
     let t = turn_at old d e held holds m start so p in
@@ -305,7 +305,7 @@ turn_smaller old d e f held holds m start so p state =
 
 -- ---- what was gathered is written
 
-pub all_delivered : (old new : Run) (held holds : Option (List ℕ)) (text : List ℕ) → Delivers old new (Some []) (Some text) → Appends held holds text → Delivers old new held holds
+pub all_delivered : (old new : OfflineRun) (held holds : Option (List ℕ)) (text : List ℕ) → Delivers old new (Some []) (Some text) → Appends held holds text → Delivers old new held holds
 all_delivered old new held holds text d writing = record {
   job = d.job;
   audit = d.audit;
@@ -316,11 +316,11 @@ all_delivered old new held holds text d writing = record {
   few = d.few;
 }
 
-pub all_fits : (old new : Run) (text : List ℕ) → IsDelivering old → Delivers old new (Some []) (Some text) → old.sent + length text < 2 ^ 64
+pub all_fits : (old new : OfflineRun) (text : List ℕ) → IsDeliveringRun old → Delivers old new (Some []) (Some text) → old.sent + length text < 2 ^ 64
 all_fits old new text start d = omega (arith, d.sent, ap length d.written, d.few start.place start.sent start.history start.stands start.small, parts_few (disclosed 1 start.history), start.small.listed, start.small.entries)
 
 -- the writer failed after n octets
-pub write_fails : (old new : Run) (held holds : Option (List ℕ)) (text : List ℕ) (n : ℕ) (e : OfflineFault) (failed : Bool) → Delivers old new (Some []) (Some text) → e ≡ Write (old.sent + n) → WritesFront held holds text n failed
+pub write_fails : (old new : OfflineRun) (held holds : Option (List ℕ)) (text : List ℕ) (n : ℕ) (e : Fault) (failed : Bool) → Delivers old new (Some []) (Some text) → e ≡ Write (old.sent + n) → WritesFront held holds text n failed
     → FailsDelivery e old held holds failed
 write_fails old new held holds text n e failed d is front = rw is (record {
   messages = d.messages;
@@ -329,7 +329,7 @@ write_fails old new held holds text n e failed d is front = rw is (record {
 })
 
 -- memory ran out, and nothing was written
-pub memory_fails : (old : Run) (held : Option (List ℕ)) (e : OfflineFault) (failed : Bool) → e ≡ Core fault.OutOfMemory → FailsDelivery e old held held failed
+pub memory_fails : (old : OfflineRun) (held : Option (List ℕ)) (e : Fault) (failed : Bool) → e ≡ Mediator fault.OutOfMemory → FailsDelivery e old held held failed
 memory_fails old held e failed is = rw is (record {
   messages = [];
   handed = λ h p so small. (p, refl);

@@ -5,13 +5,13 @@ use Rattle.sequences.specs.Before.{each_after}
 use Rattle.sequences.proofs.BeforeLaws.{each_with_before-append}
 use Rattle.ipfix_template.specs.DataRecord.{DataRecord}
 use Rattle.subscriber_stream.specs.Parts.{Part, parts, records_in}
-use Rattle.subscriber_stream.specs.Message.{run_length, taken, next_message, built, place_after}
+use Rattle.subscriber_stream.specs.Message.{run_length, parts_taken, next_message, built, place_after}
 use Rattle.subscriber_stream.proofs.CallLaws.{parts_more, run_some}
 use Rattle.event_journal.specs.declared.entry.Entry.{Entry}
 use Rattle.mediator_history.specs.Disclosed.{given_at, disclosed}
 use Rattle.mediator_offline.specs.declared.job.OfflineJob.{OfflineJob}
-use Rattle.mediator_offline.specs.Offline.{cuts_by, next_message as next_entry, history_of, disclosed_by, and_then, pulled, due_by, due}
-use Rattle.mediator_offline.specs.HandsOut.{HandsOut}
+use Rattle.mediator_offline.specs.Offline.{cuts_by, next_message as next_entry, history_of, disclosed_by, and_then, messages_pulled, due_by, due}
+use Rattle.mediator_offline.specs.HandsOut.{HandsOutAll}
 use Rattle.mediator_offline.specs.Due.{end_by, AreDue}
 use Rattle.mediator_offline.proofs.Delivering.{at_end}
 use Rattle.mediator_offline.proofs.OneMore.{history_more, parts_none, handed_all}
@@ -19,7 +19,7 @@ use Rattle.mediator_offline.proofs.OneMore.{history_more, parts_none, handed_all
 -- ---- one pull
 
 within : (records : List DataRecord) (target p : ℕ) → p ≤ length (parts records) → place_after records p target ≤ length (parts records)
-within records target p le = omega (arith, le, length-take (taken records p target) (drop p (parts records)), length-drop p (parts records))
+within records target p le = omega (arith, le, length-take (parts_taken records p target) (drop p (parts records)), length-drop p (parts records))
 
 -- a message takes a part or more
 goes_on : (records : List DataRecord) (now target p : ℕ) (m : List ℕ) → built records p now target ≡ Some m → p < place_after records p target
@@ -32,24 +32,24 @@ goes_on records now target p m is = at (drop p (parts records)) refl
       nothing x = absurd cc
     at (part ∷ ps) e = omega (arith, many, run_some target (part ∷ ps), length-take (run_length target (part ∷ ps)) (part ∷ ps))
       where
-        many : length (take (taken records p target) (drop p (parts records))) ≡ length (take (run_length target (part ∷ ps)) (part ∷ ps))
+        many : length (take (parts_taken records p target) (drop p (parts records))) ≡ length (take (run_length target (part ∷ ps)) (part ∷ ps))
         many = ap (λ qs. length (take (run_length target qs) qs)) e
 
 -- ---- pulls to the end
 
 turn_built : (records : List DataRecord) (now target p : ℕ) (answer : Option (List ℕ)) (rest : List (List ℕ)) → built records p now target ≡ answer → p ≤ length (parts records)
-    → (p < place_after records p target → HandsOut records now target (place_after records p target) rest (length (parts records))) → HandsOut records now target p (and_then answer rest) (length (parts records))
+    → (p < place_after records p target → HandsOutAll records now target (place_after records p target) rest (length (parts records))) → HandsOutAll records now target p (and_then answer rest) (length (parts records))
 turn_built records now target p None rest is le more = at_end records now target p is le
 turn_built records now target p (Some m) rest is le more = (is, more (goes_on records now target p m is))
 
-built_to_end : (n : ℕ) (records : List DataRecord) (now target p : ℕ) → p ≤ length (parts records) → length (parts records) ≤ p + n → HandsOut records now target p (pulled n records p now target) (length (parts records))
+built_to_end : (n : ℕ) (records : List DataRecord) (now target p : ℕ) → p ≤ length (parts records) → length (parts records) ≤ p + n → HandsOutAll records now target p (messages_pulled n records p now target) (length (parts records))
 built_to_end zero records now target p le few = omega (arith, le, few)
 built_to_end (suc n) records now target p le few =
-    turn_built records now target p (built records p now target) (pulled n records (place_after records p target) now target) refl le
+    turn_built records now target p (built records p now target) (messages_pulled n records (place_after records p target) now target) refl le
     (λ on. built_to_end n records now target (place_after records p target) (within records target p le) (omega (arith, on, few)))
 
 -- no more messages than parts
-handed_within : (records : List DataRecord) (now target p q : ℕ) (messages : List (List ℕ)) → p ≤ length (parts records) → HandsOut records now target p messages q → p + length messages ≤ length (parts records)
+handed_within : (records : List DataRecord) (now target p q : ℕ) (messages : List (List ℕ)) → p ≤ length (parts records) → HandsOutAll records now target p messages q → p + length messages ≤ length (parts records)
 handed_within records now target p q [] le hands = omega (arith, le)
 handed_within records now target p q (m ∷ messages) le hands =
     omega (arith, goes_on records now target p m hands.0, handed_within records now target (place_after records p target) q messages (within records target p le) hands.1)

@@ -4,12 +4,12 @@ use Rattle.std.proofs.lemmas.List.{take_all}
 use Rattle.std.specs.Io.KnownBytes.{Appends, Consumes}
 use Rattle.std.proofs.KnownBytes.{Appends-nil, Consumes-nil, Consumes-trans}
 use Rattle.ipfix_message.specs.Framing.{IsFramed}
-use Rattle.ipfix_message.specs.declared.frame_error.FrameError.{FrameError}
-use Rattle.ipfix_message.specs.declared.frame_error.FrameError.TheVariants as frame
-use Rattle.ipfix_reader.specs.declared.fault.IntakeFault.{IntakeFault}
-use Rattle.ipfix_reader.specs.declared.fault.IntakeFault.TheVariants as intake
+use Rattle.ipfix_message.specs.declared.fault.Fault.{Fault as DecodeError}
+use Rattle.ipfix_message.specs.declared.fault.Fault.TheVariants as frame
+use Rattle.ipfix_reader.specs.declared.fault.Fault.{Fault as IntakeFault}
+use Rattle.ipfix_reader.specs.declared.fault.Fault.TheVariants as intake
 use Rattle.ipfix_reader.specs.declared.fault.FramingFault.TheVariants as framing
-use Rattle.ipfix_reader.specs.Intake.{IntakeState, nothing_read, Takes, Ends, Stops, HasFault, reader_after as intake_reader}
+use Rattle.ipfix_reader.specs.Intake.{IntakeState, nothing_read, Yields, Ends, StopsIntake, StreamHasFault, reader_after as intake_reader}
 use Rattle.event_journal.specs.declared.entry.Entry.{Entry}
 use Rattle.mediator_history.specs.Disclosed.{disclosed}
 use Rattle.subscriber_stream.specs.Parts.{parts, records_in}
@@ -18,17 +18,17 @@ use Rattle.stream_meaning.specs.HandedOut.{AreHandedOut}
 use Rattle.stream_meaning.proofs.Handing.{none_handed_out}
 use Rattle.mediator_offline.specs.declared.job.OfflineJob.{OfflineJob}
 use Rattle.mediator_offline.specs.declared.job.OfflineReport.{OfflineReport}
-use Rattle.mediator_offline.specs.declared.job.OfflineFault.{OfflineFault}
-use Rattle.mediator_offline.specs.declared.job.OfflineFault.TheVariants.{Write, Core, Cut, AuditWrite}
-use Rattle.mediator_offline.specs.declared.run.Run.{Run}
-use Rattle.mediator_offline.specs.Ports.{Outputs, Ports, holding, with_left, unfailed}
+use Rattle.mediator_offline.specs.declared.job.Fault.{Fault}
+use Rattle.mediator_offline.specs.declared.job.Fault.TheVariants.{Write, Mediator, Cut, AuditWrite}
+use Rattle.mediator_offline.specs.declared.run.OfflineRun.{OfflineRun}
+use Rattle.mediator_offline.specs.Ports.{Outputs, Ports, holding, with_left, sound_ports}
 use Rattle.mediator_offline.specs.Faults.{intake_refusal}
 use Rattle.mediator_offline.specs.Failing.{FailsOnly}
-use Rattle.mediator_offline.specs.Offline.{started, history_of, disclosed_by, due, after_message, next_message as next_entry, end_of}
+use Rattle.mediator_offline.specs.Offline.{first_entries, history_of, disclosed_by, due, after_message, next_message as next_entry, end_of}
 use Rattle.mediator_offline.specs.Accepting.{AreAccepted}
 use Rattle.mediator_offline.specs.Filtering.{AreRead, Filters, IsFiltered, FiltersAll, StopsAtMessage, StopsAtOne, StopsHere, StopsSomewhere}
-use Rattle.mediator_offline.specs.Runs.{IsServing, Stands}
-use Rattle.mediator_offline.specs.Running.{IsOpened, IsRunning, Runs}
+use Rattle.mediator_offline.specs.Runs.{IsServing, RunStands}
+use Rattle.mediator_offline.specs.Running.{IsRunOpened, IsRunning, RunsSomewhere}
 use Rattle.mediator_offline.specs.Reaching.{HandlesAll, StopsAmong, IsAfter, ReachesEnd}
 use Rattle.mediator_offline.proofs.Lines.{lines_for-none}
 use Rattle.mediator_offline.proofs.OneMore.{fold-snoc, parts_none}
@@ -43,11 +43,11 @@ nothing_framed = record {
 }
 
 -- a run that was opened runs over no message yet
-pub running_starts : (d : Run) (job : OfflineJob) (before : Outputs) → IsOpened d job → IsRunning d job [] before before
+pub running_starts : (d : OfflineRun) (job : OfflineJob) (before : Outputs) → IsRunOpened d job → IsRunning d job [] before before
 running_starts d job before o = record {
   job_is = o.job_is;
   job_accepted = o.job_accepted;
-  stands = subst (Stands d (started job)) (sym parts_none) o.stands;
+  stands = subst (RunStands d (first_entries job)) (sym parts_none) o.stands;
   small = o.small;
   quiet = o.quiet;
   sent = o.sent;
@@ -60,7 +60,7 @@ running_starts d job before o = record {
   handed = subst (AreHandedOut [] []) (sym parts_none) none_handed_out;
 }
 
-pub reading_starts : (d : Run) (i : IntakeState) (job : OfflineJob) (before : Ports) → IsOpened d job → i ≡ nothing_read job.turns → IsAfter d i job before before
+pub reading_starts : (d : OfflineRun) (i : IntakeState) (job : OfflineJob) (before : Ports) → IsRunOpened d job → i ≡ nothing_read job.turns → IsAfter d i job before before
 reading_starts d i job before o new = record {
   octets = [];
   messages = [];
@@ -72,8 +72,8 @@ reading_starts d i job before o new = record {
 }
 
 -- a piece was read, and the messages that it made whole were handled
-pub reads_on : (d e : Run) (i k : IntakeState) (job : OfflineJob) (before mid after : Ports) (out : List (List ℕ)) → IsAfter d i job before mid
-    → Takes i mid.left after.left out k → HandlesAll d e out mid.outputs after.outputs → IsAfter e k job before after
+pub reads_on : (d e : OfflineRun) (i k : IntakeState) (job : OfflineJob) (before mid after : Ports) (out : List (List ℕ)) → IsAfter d i job before mid
+    → Yields i mid.left after.left out k → HandlesAll d e out mid.outputs after.outputs → IsAfter e k job before after
 reads_on d e i k job before mid after out so takes handles = record {
   octets = so.octets ++ takes.piece;
   messages = so.messages ++ out;
@@ -84,12 +84,12 @@ reads_on d e i k job before mid after out so takes handles = record {
   few = omega (arith, so.few, takes.is_piece.few, takes.turn, length-append so.octets takes.piece);
 }
 
-pub runs_after : (d : Run) (i : IntakeState) (job : OfflineJob) (before after : Ports) → IsAfter d i job before after → Runs d after.outputs
+pub runs_after : (d : OfflineRun) (i : IntakeState) (job : OfflineJob) (before after : Ports) → IsAfter d i job before after → RunsSomewhere d after.outputs
 runs_after d i job before after so = record { job = job; messages = so.messages; before = before.outputs; running = so.running }
 
 -- one of these messages stops the run
-pub message_stops : (e : OfflineFault) (d : Run) (i k : IntakeState) (job : OfflineJob) (before mid after : Ports) (out : List (List ℕ)) → IsAfter d i job before mid
-    → Takes i mid.left after.left out k → StopsAmong e d out mid.outputs after.outputs → StopsSomewhere e job before after
+pub message_stops : (e : Fault) (d : OfflineRun) (i k : IntakeState) (job : OfflineJob) (before mid after : Ports) (out : List (List ℕ)) → IsAfter d i job before mid
+    → Yields i mid.left after.left out k → StopsAmong e d out mid.outputs after.outputs → StopsSomewhere e job before after
 message_stops e d i k job before mid after out so takes stop = record { octets = octets; taken = taken; stops = by e here }
   where
     octets : List ℕ
@@ -119,8 +119,8 @@ message_stops e d i k job before mid after out so takes stop = record { octets =
       stops = there.1;
     }
 
-    by : (x : OfflineFault) → StopsAtOne x job octets before.outputs after.outputs → StopsHere x job octets before after
-    by (Core f) s = (inl s, few)
+    by : (x : Fault) → StopsAtOne x job octets before.outputs after.outputs → StopsHere x job octets before after
+    by (Mediator f) s = (inl s, few)
     by (Write sent) s = (s, few)
     by Cut s = (s, few)
     by AuditWrite s = (s, few)
@@ -132,20 +132,20 @@ message_stops e d i k job before mid after out so takes stop = record { octets =
 same_read : (given mid left : Option (List ℕ)) (octets : List ℕ) → Consumes given mid octets → Consumes mid left [] → Consumes given left octets
 same_read given mid left octets taken none = subst (Consumes given left) (append-nil octets) (Consumes-trans given mid left octets [] taken none)
 
-done_after : (d : Run) (i : IntakeState) (job : OfflineJob) (before after : Ports) → (so : IsAfter d i job before after) → i.framing.fault ≡ None
+done_after : (d : OfflineRun) (i : IntakeState) (job : OfflineJob) (before after : Ports) → (so : IsAfter d i job before after) → i.framing.fault ≡ None
     → IsFiltered job so.octets so.messages None i.framing.pending before.outputs after.outputs
 done_after d i job before after so sound =
     filtered_of d job so.octets so.messages None i.framing.pending before.outputs after.outputs so.running (subst (λ x. IsFramed so.octets so.messages x i.framing.pending) sound so.framed)
 
 -- these octets were read, of which a message is faulty, and those before it were filtered
-record ReadsFault (w : FrameError) (job : OfflineJob) (before : Ports) (left : Option (List ℕ)) (after : Outputs) : Type 0 where
+record ReadsFault (w : DecodeError) (job : OfflineJob) (before : Ports) (left : Option (List ℕ)) (after : Outputs) : Type 0 where
   octets : List ℕ
   messages : List (List ℕ)
   taken : Consumes before.left left octets
   few : AreRead job.turns octets
   done : IsFiltered job octets messages (Some w) [] before.outputs after
 
-faulty : (w : FrameError) (d : Run) (i k : IntakeState) (job : OfflineJob) (before mid : Ports) (left : Option (List ℕ)) → IsAfter d i job before mid → HasFault w i mid.left left k
+faulty : (w : DecodeError) (d : OfflineRun) (i k : IntakeState) (job : OfflineJob) (before mid : Ports) (left : Option (List ℕ)) → IsAfter d i job before mid → StreamHasFault w i mid.left left k
     → ReadsFault w job before left mid.outputs
 faulty w d i k job before mid left so (inl was) = record {
   octets = so.octets;
@@ -166,8 +166,8 @@ faulty w d i k job before mid left so (inr now) = record {
 }
 
 -- the reader has this left then, and has failed or not; the outputs are as they were
-pub intake_stops : (w : IntakeFault) (d : Run) (i k : IntakeState) (job : OfflineJob) (before mid : Ports) (left : Option (List ℕ)) (failed : Bool) → IsAfter d i job before mid
-    → Stops w i mid.left left k → failed ≡ intake_reader w false → StopsSomewhere (intake_refusal w) job before (with_left left failed mid.outputs)
+pub intake_stops : (w : IntakeFault) (d : OfflineRun) (i k : IntakeState) (job : OfflineJob) (before mid : Ports) (left : Option (List ℕ)) (failed : Bool) → IsAfter d i job before mid
+    → StopsIntake w i mid.left left k → failed ≡ intake_reader w false → StopsSomewhere (intake_refusal w) job before (with_left left failed mid.outputs)
 intake_stops intake.Read d i k job before mid left failed so stops fails = record {
   octets = so.octets;
   taken = same_read before.left mid.left left so.octets so.taken stops.read;
@@ -206,13 +206,13 @@ intake_stops intake.OutOfMemory d i k job before mid left failed so stops fails 
 }
 
 -- only a failed read leaves a failed device
-pub intake_only : (w : IntakeFault) (e : OfflineFault) (had failed audit_had afailed rfailed : Bool) → e ≡ intake_refusal w → rfailed ≡ intake_reader w false → failed ≡ had → afailed ≡ audit_had → FailsOnly e had audit_had rfailed failed afailed
+pub intake_only : (w : IntakeFault) (e : Fault) (had failed audit_had afailed rfailed : Bool) → e ≡ intake_refusal w → rfailed ≡ intake_reader w false → failed ≡ had → afailed ≡ audit_had → FailsOnly e had audit_had rfailed failed afailed
 intake_only intake.Read e had failed audit_had afailed rfailed is fails same audit_same = rw is (record { reader = fails; writer = same; audit = audit_same })
 intake_only (intake.Framing why) e had failed audit_had afailed rfailed is fails same audit_same = rw is (record { reader = fails; writer = same; audit = audit_same })
 intake_only intake.Turns e had failed audit_had afailed rfailed is fails same audit_same = rw is (record { reader = fails; writer = same; audit = audit_same })
 intake_only intake.OutOfMemory e had failed audit_had afailed rfailed is fails same audit_same = rw is (record { reader = fails; writer = same; audit = audit_same })
 
-pub stream_ends : (d : Run) (i k : IntakeState) (job : OfflineJob) (before mid : Ports) (left : Option (List ℕ)) (failed : Bool) → IsAfter d i job before mid → Ends i mid.left left k
+pub stream_ends : (d : OfflineRun) (i k : IntakeState) (job : OfflineJob) (before mid : Ports) (left : Option (List ℕ)) (failed : Bool) → IsAfter d i job before mid → Ends i mid.left left k
     → ReachesEnd d job before (with_left left failed mid.outputs)
 stream_ends d i k job before mid left failed so ends = record {
   octets = so.octets;
@@ -236,11 +236,11 @@ history_length job before (m ∷ messages) so =
     ∙ omega (arith, history_length job (before ++ m ∷ []) messages so.1, one)
   where
     one : length (history_of job (before ++ m ∷ [])) ≡ length (history_of job before) + 1
-    one = ap length (fold-snoc after_message (started job) before m ∙ ap (λ cuts. history_of job before ++ (cuts ++ next_entry (history_of job before) m ∷ [])) so.0.1)
+    one = ap length (fold-snoc after_message (first_entries job) before m ∙ ap (λ cuts. history_of job before ++ (cuts ++ next_entry (history_of job before) m ∷ [])) so.0.1)
         ∙ length-append (history_of job before) (next_entry (history_of job before) m ∷ [])
 
-pub finishes : (d : Run) (job : OfflineJob) (report : OfflineReport) (before after : Ports) → ReachesEnd d job before after
-    → report.messages ≡ d.messages → report.records ≡ d.records → ((h : List Entry) (p : ℕ) → Stands d h p → report.disclosed ≡ length (records_in (take p (parts (disclosed 1 h))))) → FiltersAll job report before after
+pub finishes : (d : OfflineRun) (job : OfflineJob) (report : OfflineReport) (before after : Ports) → ReachesEnd d job before after
+    → report.messages ≡ d.messages → report.records ≡ d.records → ((h : List Entry) (p : ℕ) → RunStands d h p → report.disclosed ≡ length (records_in (take p (parts (disclosed 1 h))))) → FiltersAll job report before after
 finishes d job report before after r entries records handed = record {
   octets = r.octets;
   messages = r.messages;
@@ -254,14 +254,14 @@ finishes d job report before after r entries records handed = record {
       ∙ ap (λ ps. length (records_in ps)) (take_all (end_of (history_of job r.messages)) (parts (disclosed_by job r.messages)) (omega arith)) ∙ ap length (parts_bring (disclosed_by job r.messages));
 }
 
-pub end_serves : (d : Run) (job : OfflineJob) (before after : Ports) → ReachesEnd d job before after → IsServing d
+pub end_serves : (d : OfflineRun) (job : OfflineJob) (before after : Ports) → ReachesEnd d job before after → IsServing d
 end_serves d job before after r = record { history = history_of job r.messages; place = end_of (history_of job r.messages); stands = r.running.stands }
 
 -- ---- ports of which none had failed
 
 -- what holds of ports that have failed or not holds of those that haven't, where they haven't
 pub where_unfailed : (P : Ports → Type 0) (left written audited : Option (List ℕ)) (reader writer audit : Bool) → reader ≡ false → writer ≡ false → audit ≡ false
-    → P (with_left left reader (holding written audited writer audit)) → P (unfailed left written audited)
+    → P (with_left left reader (holding written audited writer audit)) → P (sound_ports left written audited)
 where_unfailed P left written audited reader writer audit r w a so =
     subst (λ x. P (with_left left x (holding written audited false false))) r
     (subst (λ x. P (with_left left reader (holding written audited x false))) w

@@ -5,14 +5,14 @@ use Rattle.std.proofs.lemmas.List.Elements.{All-nil, All-cons}
 use Rattle.sequences.specs.Octets.{number_at}
 use Rattle.sequences.specs.Results.{◌>>=◌}
 use Rattle.ipfix_template.specs.DataRecord.{DataRecord}
-use Rattle.ipfix_message.specs.declared.frame_error.FrameError.{FrameError}
-use Rattle.ipfix_message.specs.declared.decode_error.DecodeError.TheVariants.{ShortHeader, BadVersion, BadLength}
+use Rattle.ipfix_message.specs.declared.fault.Fault.{Fault as DecodeError}
+use Rattle.ipfix_message.specs.declared.fault.Fault.TheVariants.{ShortHeader, BadVersion, BadLength}
 use Rattle.ipfix_message.specs.Reading.{header_of, read_header, items_of, after_header}
 use Rattle.ipfix_message.specs.Framing.{IsWhole, IsFramed}
 use Rattle.ipfix_message.proofs.FramingLaws.{framed_once}
 use Rattle.ipfix_message.proofs.FramerLaws.{all_framed}
 use Rattle.ipfix_session.specs.Meaning.{domain_of, items_of_domain, read_items, contents_of, Meaning, gap_of, meaning_of}
-use Rattle.stream_meaning.specs.Means.{plain_meaning, AreRead, Means}
+use Rattle.stream_meaning.specs.Means.{plain_meaning, AreReadAs, Means}
 
 -- a message that is read is whole
 read_is_whole : (older : List (List ℕ)) (octets : List ℕ) (m : Meaning) → meaning_of older octets ≡ Ok m → IsWhole octets
@@ -30,13 +30,13 @@ read_is_whole older octets m means = by_tests (ltb (length octets) 16) (eqb (num
       whole = eqb-true (number_at 2 2 octets) (length octets) f;
     }
 
-all_whole : (messages : List (List ℕ)) (handed : ℕ) (older : List (List ℕ)) (records : List DataRecord) → AreRead handed older messages records → All IsWhole messages
+all_whole : (messages : List (List ℕ)) (handed : ℕ) (older : List (List ℕ)) (records : List DataRecord) → AreReadAs handed older messages records → All IsWhole messages
 all_whole [] handed older records read = All-nil IsWhole
 all_whole (message ∷ messages) handed older records read =
     All-cons IsWhole message messages (read_is_whole older message (plain_meaning read.0 handed read.1) read.4)
     (all_whole messages (handed + length read.1) (message ∷ older) read.2 read.5)
 
 -- messages that mean a list are those that their octets are cut into
-pub meant_are_cut : (messages others : List (List ℕ)) (records : List DataRecord) (fault : Option FrameError) (pending : List ℕ) → Means messages records → IsFramed (concat messages) others fault pending → others ≡ messages
+pub meant_are_cut : (messages others : List (List ℕ)) (records : List DataRecord) (fault : Option DecodeError) (pending : List ℕ) → Means messages records → IsFramed (concat messages) others fault pending → others ≡ messages
 meant_are_cut messages others records fault pending means framed =
     (framed_once (concat messages) others messages fault None pending [] framed (all_framed (concat messages) messages (all_whole messages 0 [] records means.each) refl)).0

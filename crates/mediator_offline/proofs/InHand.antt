@@ -19,26 +19,26 @@ use Rattle.mediator_history.specs.Disclosed.{given_at, disclosed}
 use Rattle.mediator_history.proofs.HistoryLaws.{disclosed-push}
 use Rattle.mediator_history.proofs.SinceLaws.{cut_is_served_no_more, unserved_get_nothing}
 use Rattle.mediator_history.specs.Auditing.{audit_list}
-use Rattle.mediator_state.specs.Calls.{StandsFor}
-use Rattle.mediator_state.specs.declared.fault.Fault.{Fault}
+use Rattle.mediator_state.specs.Calls.{StateStandsFor}
+use Rattle.mediator_state.specs.declared.fault.Fault.{Fault as MediatorFault}
 use Rattle.mediator_state.specs.declared.fault.Fault.TheVariants as fault
 use Rattle.sequences.proofs.ListLaws.{take-add-append}
-use Rattle.mediator_offline.specs.declared.run.Run.{Run}
+use Rattle.mediator_offline.specs.declared.run.OfflineRun.{OfflineRun}
 use Rattle.mediator_offline.specs.declared.job.OfflineJob.{OfflineJob}
-use Rattle.mediator_offline.specs.declared.job.OfflineFault.{OfflineFault}
-use Rattle.mediator_offline.specs.declared.job.OfflineFault.TheVariants.{Write, Core, Cut, AuditWrite}
+use Rattle.mediator_offline.specs.declared.job.Fault.{Fault}
+use Rattle.mediator_offline.specs.declared.job.Fault.TheVariants.{Write, Mediator, Cut, AuditWrite}
 use Rattle.mediator_offline.specs.Ports.{Outputs, holding}
-use Rattle.mediator_offline.specs.Lines.{lines_for, WritesSome, WritesOn}
+use Rattle.mediator_offline.specs.Lines.{lines_for, WritesBeginning, WritesOn}
 use Rattle.mediator_offline.specs.Recording.{Records, StopsLines}
 use Rattle.mediator_offline.specs.Offline.{after_message, history_of, disclosed_by, pulled_to_end, due_by, due, audit_due, cuts_by, next_message as next_entry, end_of}
 use Rattle.mediator_offline.specs.Due.{AreDue}
-use Rattle.mediator_offline.specs.Runs.{tells, audit_waiting, HasHistory, Stands, Small}
-use Rattle.mediator_offline.specs.Steps.{Receives}
-use Rattle.mediator_offline.specs.Accepting.{Accepts, RefusesMessage, AreAccepted}
-use Rattle.mediator_offline.specs.HandsOut.{HandsOut}
+use Rattle.mediator_offline.specs.Runs.{tells, audit_waiting, RunHasHistory, RunStands, Small}
+use Rattle.mediator_offline.specs.Steps.{TakesMessage}
+use Rattle.mediator_offline.specs.Accepting.{AcceptsMessage, RefusesOctets, AreAccepted}
+use Rattle.mediator_offline.specs.HandsOut.{HandsOutAll}
 use Rattle.mediator_offline.specs.Pulling.{Delivers, StopsDelivery, FailsDelivery}
 use Rattle.mediator_offline.specs.Filtering.{WritesPart, StopsAtMessage}
-use Rattle.mediator_offline.specs.Running.{IsRunning, Runs}
+use Rattle.mediator_offline.specs.Running.{IsRunning, RunsSomewhere}
 use Rattle.mediator_offline.proofs.Delivering.{streamable_of, stands_on}
 use Rattle.mediator_offline.proofs.Receiving.{waits_added, within_end}
 use Rattle.mediator_offline.proofs.OneMore.{history_more, due_more, audit_more, lines_more, ended, pulled-ended, handed_front, handed_all, handed_few}
@@ -53,7 +53,7 @@ lines_added : (job : OfflineJob) (messages : List (List ℕ)) (octets : List ℕ
 lines_added job messages octets added waiting a b c adds waits so lines = subst (Appends a c) (sym (lines_more job messages octets added adds))
     (Appends-trans a b c (audit_due job messages) (lines_for job.audit added) so (subst (λ l. Appends b c (lines_for job.audit l)) waits lines))
 
-some_after : (a b c : Option (List ℕ)) (xs ys : List ℕ) → Appends a b xs → WritesSome b c ys → WritesOn a c xs (xs ++ ys)
+some_after : (a b c : Option (List ℕ)) (xs ys : List ℕ) → Appends a b xs → WritesBeginning b c ys → WritesOn a c xs (xs ++ ys)
 some_after a b c xs ys so some = record {
   count = length xs + some.count;
   least = omega arith;
@@ -64,9 +64,9 @@ some_after a b c xs ys so some = record {
 -- a front of them
 lines_begun : (job : OfflineJob) (messages : List (List ℕ)) (octets : List ℕ) (added waiting : List AuditEntry) (a b c : Option (List ℕ))
     → audit_list (history_of job (messages ++ octets ∷ [])) ≡ audit_list (history_of job messages) ++ added → waiting ≡ added
-    → Appends a b (audit_due job messages) → WritesSome b c (lines_for job.audit waiting) → WritesOn a c (audit_due job messages) (audit_due job (messages ++ octets ∷ []))
+    → Appends a b (audit_due job messages) → WritesBeginning b c (lines_for job.audit waiting) → WritesOn a c (audit_due job messages) (audit_due job (messages ++ octets ∷ []))
 lines_begun job messages octets added waiting a b c adds waits so some = subst (WritesOn a c (audit_due job messages)) (sym (lines_more job messages octets added adds))
-    (some_after a b c (audit_due job messages) (lines_for job.audit added) so (subst (λ l. WritesSome b c (lines_for job.audit l)) waits some))
+    (some_after a b c (audit_due job messages) (lines_for job.audit added) so (subst (λ l. WritesBeginning b c (lines_for job.audit l)) waits some))
 
 -- whole messages of what it adds are due behind the others
 due_in_hand : (job : OfflineJob) (messages : List (List ℕ)) (octets : List ℕ) (handed others : List (List ℕ)) → due_by job messages octets ≡ handed ++ others
@@ -76,7 +76,7 @@ due_in_hand job messages octets handed others front =
 
 -- the holder of the stream keeps what they mean
 handed_run : (so_far : List (List ℕ)) (records : List DataRecord) (now target p q : ℕ) (messages : List (List ℕ)) → now < 2 ^ 32 → target < 2 ^ 16
-    → AreHandedOut so_far records p → HandsOut records now target p messages q → AreHandedOut (so_far ++ messages) records q
+    → AreHandedOut so_far records p → HandsOutAll records now target p messages q → AreHandedOut (so_far ++ messages) records q
 handed_run so_far records now target p q [] n t so hands = subst (λ x. AreHandedOut (so_far ++ []) records x) hands (subst (λ ms. AreHandedOut ms records p) (sym (append-nil so_far)) so)
 handed_run so_far records now target p q (m ∷ messages) n t so hands =
     subst (λ ms. AreHandedOut ms records q) (append_assoc so_far (m ∷ []) messages)
@@ -84,44 +84,44 @@ handed_run so_far records now target p q (m ∷ messages) n t so hands =
 
 -- ---- the audit of a run
 
-pub recorded_on : (d e : Run) (h : List Entry) (p : ℕ) → Stands d h p → Records d e → Stands e h p
+pub recorded_on : (d e : OfflineRun) (h : List Entry) (p : ℕ) → RunStands d h p → Records d e → RunStands e h p
 recorded_on d e h p so r = stands_on d e h p p so r.same (r.stands h so.state) (r.place ∙ so.place)
 
 -- ---- messages that are accepted
 
 pub accepted_more : (job : OfflineJob) (before messages : List (List ℕ)) (octets : List ℕ) → AreAccepted job before messages
-    → Accepts (history_of job (before ++ messages)) octets × (cuts_by (history_of job (before ++ messages)) octets ≡ []) → AreAccepted job before (messages ++ octets ∷ [])
-accepted_more job before [] octets so here = (subst (λ ms. Accepts (history_of job ms) octets × (cuts_by (history_of job ms) octets ≡ [])) (append-nil before) here, tt)
+    → AcceptsMessage (history_of job (before ++ messages)) octets × (cuts_by (history_of job (before ++ messages)) octets ≡ []) → AreAccepted job before (messages ++ octets ∷ [])
+accepted_more job before [] octets so here = (subst (λ ms. AcceptsMessage (history_of job ms) octets × (cuts_by (history_of job ms) octets ≡ [])) (append-nil before) here, tt)
 accepted_more job before (m ∷ messages) octets so here =
-    (so.0, accepted_more job (before ++ m ∷ []) messages octets so.1 (subst (λ ms. Accepts (history_of job ms) octets × (cuts_by (history_of job ms) octets ≡ [])) (sym (append_assoc before (m ∷ []) messages)) here))
+    (so.0, accepted_more job (before ++ m ∷ []) messages octets so.1 (subst (λ ms. AcceptsMessage (history_of job ms) octets × (cuts_by (history_of job ms) octets ≡ [])) (sym (append_assoc before (m ∷ []) messages)) here))
 
 -- what is known of a run that received a message, which cut nobody
-pub record Received (d : Run) (job : OfflineJob) (messages : List (List ℕ)) (octets : List ℕ) : Type 0 where
+pub record Received (d : OfflineRun) (job : OfflineJob) (messages : List (List ℕ)) (octets : List ℕ) : Type 0 where
   pub uncut : cuts_by (history_of job messages) octets ≡ []
-  pub stands : Stands d (history_of job (messages ++ octets ∷ [])) (end_of (history_of job messages))
+  pub stands : RunStands d (history_of job (messages ++ octets ∷ [])) (end_of (history_of job messages))
   pub small : Small (history_of job (messages ++ octets ∷ []))
 
-received : (d1 d2 : Run) (job : OfflineJob) (messages : List (List ℕ)) (octets : List ℕ) {before after : Outputs} → IsRunning d1 job messages before after
-    → Receives d1 octets false d2 → Received d2 job messages octets
+received : (d1 d2 : OfflineRun) (job : OfflineJob) (messages : List (List ℕ)) (octets : List ℕ) {before after : Outputs} → IsRunning d1 job messages before after
+    → TakesMessage d1 octets false d2 → Received d2 job messages octets
 received d1 d2 job messages octets r receives =
     let on = receives.goes_on (history_of job messages) r.stands r.small refl in
     record {
       uncut = on.0;
-      stands = subst (λ x. Stands d2 x (end_of (history_of job messages))) (sym (history_more job messages octets)) on.1;
+      stands = subst (λ x. RunStands d2 x (end_of (history_of job messages))) (sym (history_more job messages octets)) on.1;
       small = subst Small (sym (history_more job messages octets)) on.2;
     }
 
 -- no more messages are handed out for it than there are parts
-few_in_hand : (d : Run) (job : OfflineJob) (messages : List (List ℕ)) (octets : List ℕ) (q : ℕ) (handed : List (List ℕ)) → Received d job messages octets → job.target < 2 ^ 16
-    → HandsOut (disclosed_by job (messages ++ octets ∷ [])) job.now job.target (end_of (history_of job messages)) handed q → length handed ≤ length (parts (disclosed_by job (messages ++ octets ∷ [])))
+few_in_hand : (d : OfflineRun) (job : OfflineJob) (messages : List (List ℕ)) (octets : List ℕ) (q : ℕ) (handed : List (List ℕ)) → Received d job messages octets → job.target < 2 ^ 16
+    → HandsOutAll (disclosed_by job (messages ++ octets ∷ [])) job.now job.target (end_of (history_of job messages)) handed q → length handed ≤ length (parts (disclosed_by job (messages ++ octets ∷ [])))
 few_in_hand d job messages octets q handed on low hands =
     omega (arith, handed_few (disclosed_by job (messages ++ octets ∷ [])) job.now job.target (end_of (history_of job messages)) q handed (streamable_of (history_of job (messages ++ octets ∷ [])) on.small) low (within_end d (history_of job (messages ++ octets ∷ [])) (end_of (history_of job messages)) on.stands) hands)
 
 -- ---- a message that was accepted, and was delivered
 
 -- what is known after receive and deliver
-pub record IsDelivered (d1 d2 d3 : Run) (octets : List ℕ) (holds writes : Option (List ℕ)) : Type 0 where
-  pub receives : Receives d1 octets false d2
+pub record IsDelivered (d1 d2 d3 : OfflineRun) (octets : List ℕ) (holds writes : Option (List ℕ)) : Type 0 where
+  pub receives : TakesMessage d1 octets false d2
   pub job : d2.job ≡ d1.job
   pub sent : d2.sent ≡ d1.sent
   pub below : d2.job.target < 2 ^ 16
@@ -129,10 +129,10 @@ pub record IsDelivered (d1 d2 d3 : Run) (octets : List ℕ) (holds writes : Opti
   pub delivers : Delivers d2 d3 holds writes
 
 -- what that makes of a run
-pub record Delivered (d1 d3 : Run) (job : OfflineJob) (messages : List (List ℕ)) (octets : List ℕ) (held writes : Option (List ℕ)) : Type 0 where
-  pub accepts : Accepts (history_of job messages) octets
+pub record Delivered (d1 d3 : OfflineRun) (job : OfflineJob) (messages : List (List ℕ)) (octets : List ℕ) (held writes : Option (List ℕ)) : Type 0 where
+  pub accepts : AcceptsMessage (history_of job messages) octets
   pub uncut : cuts_by (history_of job messages) octets ≡ []
-  pub stands : Stands d3 (history_of job (messages ++ octets ∷ [])) (end_of (history_of job (messages ++ octets ∷ [])))
+  pub stands : RunStands d3 (history_of job (messages ++ octets ∷ [])) (end_of (history_of job (messages ++ octets ∷ [])))
   pub small : Small (history_of job (messages ++ octets ∷ []))
   pub job_is : d3.job ≡ job
   pub sent : d3.sent ≡ length (concat (due job (messages ++ octets ∷ [])))
@@ -143,7 +143,7 @@ pub record Delivered (d1 d3 : Run) (job : OfflineJob) (messages : List (List ℕ
   pub waits : (audit_waiting d3) ≡ added
   pub handed : AreHandedOut (due job (messages ++ octets ∷ [])) (disclosed_by job (messages ++ octets ∷ [])) (end_of (history_of job (messages ++ octets ∷ [])))
 
-pub delivered : (d1 d2 d3 : Run) (job : OfflineJob) (messages : List (List ℕ)) (octets : List ℕ) (writes : Option (List ℕ)) {before after : Outputs} → IsRunning d1 job messages before after
+pub delivered : (d1 d2 d3 : OfflineRun) (job : OfflineJob) (messages : List (List ℕ)) (octets : List ℕ) (writes : Option (List ℕ)) {before after : Outputs} → IsRunning d1 job messages before after
     → IsDelivered d1 d2 d3 octets after.written writes → Delivered d1 d3 job messages octets before.written writes
 delivered d1 d2 d3 job messages octets writes {before} {after} r k = record {
   accepts = k.receives.accepts h r.stands r.small;
@@ -181,7 +181,7 @@ delivered d1 d2 d3 job messages octets writes {before} {after} r k = record {
     more : (added : List AuditEntry) × (audit_list (history_of job (messages ++ octets ∷ [])) ≡ audit_list h ++ added)
     more = audit_more job messages octets
 
-    del : HandsOut shown d2.job.now d2.job.target (end_of h) k.delivers.messages last × Stands d3 (history_of job (messages ++ octets ∷ [])) last
+    del : HandsOutAll shown d2.job.now d2.job.target (end_of h) k.delivers.messages last × RunStands d3 (history_of job (messages ++ octets ∷ [])) last
     del = k.delivers.handed (history_of job (messages ++ octets ∷ [])) (end_of h) on.stands on.small
 
     same_job : d2.job ≡ job
@@ -190,8 +190,8 @@ delivered d1 d2 d3 job messages octets writes {before} {after} r k = record {
     now_below : job.now < 2 ^ 32
     now_below = subst (λ j. j.now < 2 ^ 32) same_job k.now_below
 
-    hands : HandsOut shown job.now job.target (end_of h) k.delivers.messages last
-    hands = subst (λ j. HandsOut shown j.now j.target (end_of h) k.delivers.messages last) same_job del.0
+    hands : HandsOutAll shown job.now job.target (end_of h) k.delivers.messages last
+    hands = subst (λ j. HandsOutAll shown j.now j.target (end_of h) k.delivers.messages last) same_job del.0
 
     below : job.target < 2 ^ 16
     below = subst (λ j. j.target < 2 ^ 16) same_job k.below
@@ -203,7 +203,7 @@ delivered d1 d2 d3 job messages octets writes {before} {after} r k = record {
     whole = ap concat (due_more job messages octets ∙ ap (λ ms. due job messages ++ ms) by) ∙ concat-append (due job messages) k.delivers.messages
 
 -- then recorded: the run goes on
-pub handled : (d1 d3 d4 : Run) (job : OfflineJob) (messages : List (List ℕ)) (octets : List ℕ) {before mid after : Outputs} → IsRunning d1 job messages before mid
+pub handled : (d1 d3 d4 : OfflineRun) (job : OfflineJob) (messages : List (List ℕ)) (octets : List ℕ) {before mid after : Outputs} → IsRunning d1 job messages before mid
     → Delivered d1 d3 job messages octets before.written after.written → Records d3 d4 → Appends mid.audited after.audited (lines_for d3.job.audit (audit_waiting d3))
     → IsRunning d4 job (messages ++ octets ∷ []) before after
 handled d1 d3 d4 job messages octets {before} {mid} {after} r k records lines = record {
@@ -229,7 +229,7 @@ none_more : (messages : List (List ℕ)) → concat (messages ++ []) ≡ concat 
 none_more messages = ap concat (append-nil messages)
 
 -- nothing of the message in hand was written
-pub nothing_in_hand : (d : Run) (job : OfflineJob) (messages : List (List ℕ)) (octets : List ℕ) {before after : Outputs} → IsRunning d job messages before after
+pub nothing_in_hand : (d : OfflineRun) (job : OfflineJob) (messages : List (List ℕ)) (octets : List ℕ) {before after : Outputs} → IsRunning d job messages before after
     → WritesPart job messages (due job messages) octets before after
 nothing_in_hand d job messages octets {before} {after} r =
     let more = audit_more job messages octets in
@@ -242,8 +242,8 @@ nothing_in_hand d job messages octets {before} {after} r =
           (some_after before.audited after.audited after.audited (audit_due job messages) (lines_for job.audit more.0) r.writes.audit (record { count = 0; within = omega arith; written = Appends-nil after.audited }));
     }
 
-pub stops_refused : (f : Fault) (d : Run) (job : OfflineJob) (messages : List (List ℕ)) (octets : List ℕ) (before after : Outputs) → IsRunning d job messages before after
-    → RefusesMessage f (history_of job messages) octets → StopsAtMessage (Core f) job messages (due job messages) octets before after
+pub stops_refused : (f : MediatorFault) (d : OfflineRun) (job : OfflineJob) (messages : List (List ℕ)) (octets : List ℕ) (before after : Outputs) → IsRunning d job messages before after
+    → RefusesOctets f (history_of job messages) octets → StopsAtMessage (Mediator f) job messages (due job messages) octets before after
 stops_refused fault.OutOfMemory d job messages octets before after r refuses = nothing_in_hand d job messages octets r
 stops_refused (fault.Malformed why) d job messages octets before after r refuses = (refuses, r.writes)
 stops_refused fault.JournalFull d job messages octets before after r refuses = (refuses, r.writes)
@@ -251,14 +251,14 @@ stops_refused (fault.AuditFull need room) d job messages octets before after r r
 stops_refused _ d job messages octets before after r refuses = absurd refuses
 
 -- lines stop where the audit fails, or for want of memory
-by_lines : (P : OfflineFault → Type 0) (failed : Bool) → (failed ≡ true → P AuditWrite) → P (Core fault.OutOfMemory) → (e : OfflineFault) → StopsLines e failed → P e
+by_lines : (P : Fault → Type 0) (failed : Bool) → (failed ≡ true → P AuditWrite) → P (Mediator fault.OutOfMemory) → (e : Fault) → StopsLines e failed → P e
 by_lines P failed audit memory AuditWrite cause = audit cause
-by_lines P failed audit memory (Core fault.OutOfMemory) cause = memory
+by_lines P failed audit memory (Mediator fault.OutOfMemory) cause = memory
 by_lines P failed audit memory _ cause = absurd cause
 
 -- the message was delivered, and its lines stop
-pub stops_recording : (f : OfflineFault) (d1 d3 : Run) (job : OfflineJob) (messages : List (List ℕ)) (octets : List ℕ) (before mid after : Outputs) → IsRunning d1 job messages before mid
-    → Delivered d1 d3 job messages octets before.written after.written → StopsLines f after.audit_failed → WritesSome mid.audited after.audited (lines_for d3.job.audit (audit_waiting d3))
+pub stops_recording : (f : Fault) (d1 d3 : OfflineRun) (job : OfflineJob) (messages : List (List ℕ)) (octets : List ℕ) (before mid after : Outputs) → IsRunning d1 job messages before mid
+    → Delivered d1 d3 job messages octets before.written after.written → StopsLines f after.audit_failed → WritesBeginning mid.audited after.audited (lines_for d3.job.audit (audit_waiting d3))
     → StopsAtMessage f job messages (due job messages) octets before after
 stops_recording f d1 d3 job messages octets before mid after r k cause some =
     by_lines (λ e. StopsAtMessage e job messages (due job messages) octets before after) after.audit_failed
@@ -266,7 +266,7 @@ stops_recording f d1 d3 job messages octets before mid after r k cause some =
   where
     lines : WritesOn before.audited after.audited (audit_due job messages) (audit_due job (messages ++ octets ∷ []))
     lines = lines_begun job messages octets k.added (audit_waiting d3) before.audited mid.audited after.audited k.adds k.waits r.writes.audit
-        (subst (λ j. WritesSome mid.audited after.audited (lines_for j.audit (audit_waiting d3))) k.job_is some)
+        (subst (λ j. WritesBeginning mid.audited after.audited (lines_for j.audit (audit_waiting d3))) k.job_is some)
 
     memory : WritesPart job messages (due job messages) octets before after
     memory = record {
@@ -278,8 +278,8 @@ stops_recording f d1 d3 job messages octets before mid after r k cause some =
     }
 
 -- the message was accepted, and its delivery stops; the audit is as it was
-pub stops_delivering : (f : OfflineFault) (d1 d2 : Run) (job : OfflineJob) (messages : List (List ℕ)) (octets : List ℕ) (before mid : Outputs) (writes : Option (List ℕ)) (failed afailed : Bool)
-    → IsRunning d1 job messages before mid → Receives d1 octets false d2 → d2.job ≡ d1.job → d2.sent ≡ d1.sent → d2.job.target < 2 ^ 16 → FailsDelivery f d2 mid.written writes failed
+pub stops_delivering : (f : Fault) (d1 d2 : OfflineRun) (job : OfflineJob) (messages : List (List ℕ)) (octets : List ℕ) (before mid : Outputs) (writes : Option (List ℕ)) (failed afailed : Bool)
+    → IsRunning d1 job messages before mid → TakesMessage d1 octets false d2 → d2.job ≡ d1.job → d2.sent ≡ d1.sent → d2.job.target < 2 ^ 16 → FailsDelivery f d2 mid.written writes failed
     → StopsAtMessage f job messages (due job messages) octets before (holding writes mid.audited failed afailed)
 stops_delivering f d1 d2 job messages octets before mid writes failed afailed r receives same sent_same low fails = by f fails.stops
   where
@@ -289,11 +289,11 @@ stops_delivering f d1 d2 job messages octets before mid writes failed afailed r 
     on : Received d2 job messages octets
     on = received d1 d2 job messages octets r receives
 
-    del : (q : ℕ) × HandsOut (disclosed_by job (messages ++ octets ∷ [])) d2.job.now d2.job.target begin fails.messages q
+    del : (q : ℕ) × HandsOutAll (disclosed_by job (messages ++ octets ∷ [])) d2.job.now d2.job.target begin fails.messages q
     del = fails.handed (history_of job (messages ++ octets ∷ [])) begin on.stands on.small
 
-    hands : HandsOut (disclosed_by job (messages ++ octets ∷ [])) job.now job.target begin fails.messages del.0
-    hands = subst (λ j. HandsOut (disclosed_by job (messages ++ octets ∷ [])) j.now j.target begin fails.messages del.0) (same ∙ r.job_is) del.1
+    hands : HandsOutAll (disclosed_by job (messages ++ octets ∷ [])) job.now job.target begin fails.messages del.0
+    hands = subst (λ j. HandsOutAll (disclosed_by job (messages ++ octets ∷ [])) j.now j.target begin fails.messages del.0) (same ∙ r.job_is) del.1
 
     front : (others : List (List ℕ)) × (due_by job messages octets ≡ fails.messages ++ others)
     front = handed_front (length (parts (disclosed_by job (messages ++ octets ∷ [])))) (disclosed_by job (messages ++ octets ∷ [])) job.now job.target begin del.0 fails.messages hands
@@ -327,13 +327,13 @@ stops_delivering f d1 d2 job messages octets before mid writes failed afailed r 
           audit = none.audit;
         }
 
-    by : (g : OfflineFault) → StopsDelivery g d2 mid.written writes failed fails.messages → StopsAtMessage g job messages (due job messages) octets before (holding writes mid.audited failed afailed)
+    by : (g : Fault) → StopsDelivery g d2 mid.written writes failed fails.messages → StopsAtMessage g job messages (due job messages) octets before (holding writes mid.audited failed afailed)
     by (Write sent) s = (
       receives.accepts (history_of job messages) r.stands r.small,
       (due job (messages ++ octets ∷ []), due_found job (messages ++ octets ∷ []), writes_front s.0 sent s.1 s.2),
       r.writes.audit,
     )
-    by (Core fault.OutOfMemory) s = memory s
+    by (Mediator fault.OutOfMemory) s = memory s
     by _ s = absurd s
 
 -- ---- a message that cuts the subscription
@@ -350,8 +350,8 @@ disclosed_cut h octets cut =
     ∙ append-nil (disclosed 1 h)
 
 -- what is known after a cut
-pub record WasCut (d1 d2 : Run) (job : OfflineJob) (messages : List (List ℕ)) (octets : List ℕ) : Type 0 where
-  pub accepts : Accepts (history_of job messages) octets
+pub record WasCut (d1 d2 : OfflineRun) (job : OfflineJob) (messages : List (List ℕ)) (octets : List ℕ) : Type 0 where
+  pub accepts : AcceptsMessage (history_of job messages) octets
   pub cut : cuts_by (history_of job messages) octets ≡ CutEntry 1 ∷ []
   pub no_more : due job (messages ++ octets ∷ []) ≡ due job messages
   pub added : List AuditEntry
@@ -359,8 +359,8 @@ pub record WasCut (d1 d2 : Run) (job : OfflineJob) (messages : List (List ℕ)) 
   pub waits : (audit_waiting d2) ≡ added
   pub job_is : d2.job ≡ job
 
-pub was_cut_at : (d1 d2 : Run) (job : OfflineJob) (messages : List (List ℕ)) (octets : List ℕ) {before after : Outputs} → IsRunning d1 job messages before after
-    → Receives d1 octets true d2 → d2.job ≡ d1.job → WasCut d1 d2 job messages octets
+pub was_cut_at : (d1 d2 : OfflineRun) (job : OfflineJob) (messages : List (List ℕ)) (octets : List ℕ) {before after : Outputs} → IsRunning d1 job messages before after
+    → TakesMessage d1 octets true d2 → d2.job ≡ d1.job → WasCut d1 d2 job messages octets
 was_cut_at d1 d2 job messages octets r receives same = record {
   accepts = receives.accepts h r.stands r.small;
   cut = on.0;
@@ -377,7 +377,7 @@ was_cut_at d1 d2 job messages octets r receives same = record {
     e : history_of job (messages ++ octets ∷ []) ≡ after_message h octets
     e = history_more job messages octets
 
-    on : (cuts_by h octets ≡ CutEntry 1 ∷ []) × StandsFor tells d2.state (after_message h octets)
+    on : (cuts_by h octets ≡ CutEntry 1 ∷ []) × StateStandsFor tells d2.state (after_message h octets)
     on = receives.cuts h r.stands r.small refl
 
     more : (added : List AuditEntry) × (audit_list (history_of job (messages ++ octets ∷ [])) ≡ audit_list (history_of job messages) ++ added)
@@ -387,7 +387,7 @@ was_cut_at d1 d2 job messages octets r receives same = record {
     by = ap (λ l. pulled_to_end l (end_of h) job.now job.target) (ap (disclosed 1) e ∙ disclosed_cut h octets on.0)
         ∙ pulled-ended (length (parts (disclosed 1 h))) (disclosed 1 h) (end_of h) job.now job.target (ended (disclosed 1 h) job.now job.target)
 
-pub stops_cut : (d1 d2 : Run) (job : OfflineJob) (messages : List (List ℕ)) (octets : List ℕ) (before mid : Outputs) (awrites : Option (List ℕ)) (failed afailed : Bool) → IsRunning d1 job messages before mid
+pub stops_cut : (d1 d2 : OfflineRun) (job : OfflineJob) (messages : List (List ℕ)) (octets : List ℕ) (before mid : Outputs) (awrites : Option (List ℕ)) (failed afailed : Bool) → IsRunning d1 job messages before mid
     → WasCut d1 d2 job messages octets → Appends mid.audited awrites (lines_for d2.job.audit (audit_waiting d2))
     → StopsAtMessage Cut job messages (due job messages) octets before (holding mid.written awrites failed afailed)
 stops_cut d1 d2 job messages octets before mid awrites failed afailed r k lines = (
@@ -400,8 +400,8 @@ stops_cut d1 d2 job messages octets before mid awrites failed afailed r k lines 
   },
 )
 
-pub stops_cut_recording : (f : OfflineFault) (d1 d2 : Run) (job : OfflineJob) (messages : List (List ℕ)) (octets : List ℕ) (before mid : Outputs) (awrites : Option (List ℕ)) (failed afailed : Bool)
-    → IsRunning d1 job messages before mid → WasCut d1 d2 job messages octets → StopsLines f afailed → WritesSome mid.audited awrites (lines_for d2.job.audit (audit_waiting d2))
+pub stops_cut_recording : (f : Fault) (d1 d2 : OfflineRun) (job : OfflineJob) (messages : List (List ℕ)) (octets : List ℕ) (before mid : Outputs) (awrites : Option (List ℕ)) (failed afailed : Bool)
+    → IsRunning d1 job messages before mid → WasCut d1 d2 job messages octets → StopsLines f afailed → WritesBeginning mid.audited awrites (lines_for d2.job.audit (audit_waiting d2))
     → StopsAtMessage f job messages (due job messages) octets before (holding mid.written awrites failed afailed)
 stops_cut_recording f d1 d2 job messages octets before mid awrites failed afailed r k cause some =
     by_lines (λ e. StopsAtMessage e job messages (due job messages) octets before (holding mid.written awrites failed afailed)) afailed
@@ -415,7 +415,7 @@ stops_cut_recording f d1 d2 job messages octets before mid awrites failed afaile
   where
     lines : WritesOn before.audited awrites (audit_due job messages) (audit_due job (messages ++ octets ∷ []))
     lines = lines_begun job messages octets k.added (audit_waiting d2) before.audited mid.audited awrites k.adds k.waits r.writes.audit
-        (subst (λ j. WritesSome mid.audited awrites (lines_for j.audit (audit_waiting d2))) k.job_is some)
+        (subst (λ j. WritesBeginning mid.audited awrites (lines_for j.audit (audit_waiting d2))) k.job_is some)
 
     memory : WritesPart job messages (due job messages) octets before (holding mid.written awrites failed afailed)
     memory = record {
@@ -428,7 +428,7 @@ stops_cut_recording f d1 d2 job messages octets before mid awrites failed afaile
 
 -- ---- where the steps of a message stand
 
-pub delivered_history : (d1 d2 d3 : Run) (octets : List ℕ) (holds writes : Option (List ℕ)) {after : Outputs} → Runs d1 after → Receives d1 octets false d2 → Delivers d2 d3 holds writes → HasHistory d3
+pub delivered_history : (d1 d2 d3 : OfflineRun) (octets : List ℕ) (holds writes : Option (List ℕ)) {after : Outputs} → RunsSomewhere d1 after → TakesMessage d1 octets false d2 → Delivers d2 d3 holds writes → RunHasHistory d3
 delivered_history d1 d2 d3 octets holds writes r receives delivers =
     let on = receives.goes_on (history_of r.job r.messages) r.running.stands r.running.small refl in
     record {

@@ -12,8 +12,8 @@ use Rattle.disclosure_audit.specs.declared.entry.AuditEntry.{AuditEntry}
 use Rattle.mediator_history.specs.Auditing.{audit_at, audit_list}
 use Rattle.mediator_offline.specs.declared.job.OfflineJob.{OfflineJob}
 use Rattle.mediator_offline.specs.Lines.{lines_for}
-use Rattle.mediator_offline.specs.Offline.{started, after_message, history_of, and_then, pulled as pulled_list, due_by, due, audit_due, cuts_by, next_message as next_entry}
-use Rattle.mediator_offline.specs.HandsOut.{HandsOut}
+use Rattle.mediator_offline.specs.Offline.{first_entries, after_message, history_of, and_then, messages_pulled as pulled_list, due_by, due, audit_due, cuts_by, next_message as next_entry}
+use Rattle.mediator_offline.specs.HandsOut.{HandsOutAll}
 use Rattle.mediator_offline.proofs.Lines.{lines_for-append}
 use Rattle.mediator_offline.proofs.Delivering.{pulled}
 
@@ -24,7 +24,7 @@ fold-snoc f s [] x = refl
 fold-snoc f s (y ∷ xs) x = fold-snoc f (f s y) xs x
 
 pub history_more : (job : OfflineJob) (messages : List (List ℕ)) (octets : List ℕ) → history_of job (messages ++ octets ∷ []) ≡ after_message (history_of job messages) octets
-history_more job messages octets = fold-snoc after_message (started job) messages octets
+history_more job messages octets = fold-snoc after_message (first_entries job) messages octets
 
 pub due_more : (job : OfflineJob) (messages : List (List ℕ)) (octets : List ℕ) → due job (messages ++ octets ∷ []) ≡ due job messages ++ due_by job messages octets
 due_more job messages octets = each_with_before-push (due_by job) messages octets
@@ -55,7 +55,7 @@ pulled-ended zero records p now target is = refl
 pulled-ended (suc n) records p now target is = ap (λ m. and_then m (pulled_list n records (place_after records p target) now target)) is
 
 -- a front of them
-pub handed_front : (n : ℕ) (records : List DataRecord) (now target p q : ℕ) (messages : List (List ℕ)) → HandsOut records now target p messages q → length messages ≤ n
+pub handed_front : (n : ℕ) (records : List DataRecord) (now target p q : ℕ) (messages : List (List ℕ)) → HandsOutAll records now target p messages q → length messages ≤ n
     → (others : List (List ℕ)) × (pulled_list n records p now target ≡ messages ++ others)
 handed_front n records now target p q [] hands few = (pulled_list n records p now target, refl)
 handed_front zero records now target p q (m ∷ messages) hands few = absurd (omega arith)
@@ -64,7 +64,7 @@ handed_front (suc n) records now target p q (m ∷ messages) hands few =
     (rest.0, ap (λ x. and_then x (pulled_list n records (place_after records p target) now target)) hands.0 ∙ ap (λ t. m ∷ t) rest.1)
 
 -- all of them
-pub handed_all : (n : ℕ) (records : List DataRecord) (now target p : ℕ) (messages : List (List ℕ)) → HandsOut records now target p messages (length (parts records)) → length messages ≤ n
+pub handed_all : (n : ℕ) (records : List DataRecord) (now target p : ℕ) (messages : List (List ℕ)) → HandsOutAll records now target p messages (length (parts records)) → length messages ≤ n
     → pulled_list n records p now target ≡ messages
 handed_all n records now target p [] hands few = pulled-ended n records p now target (subst (λ x. built records x now target ≡ None) (sym hands) (ended records now target))
 handed_all zero records now target p (m ∷ messages) hands few = absurd (omega arith)
@@ -73,7 +73,7 @@ handed_all (suc n) records now target p (m ∷ messages) hands few =
     ∙ ap (λ t. m ∷ t) (handed_all n records now target (place_after records p target) messages hands.1 (omega arith))
 
 -- no more messages than parts
-pub handed_few : (records : List DataRecord) (now target p q : ℕ) (messages : List (List ℕ)) → AreStreamable records → target < 2 ^ 16 → p ≤ length (parts records) → HandsOut records now target p messages q
+pub handed_few : (records : List DataRecord) (now target p q : ℕ) (messages : List (List ℕ)) → AreStreamable records → target < 2 ^ 16 → p ≤ length (parts records) → HandsOutAll records now target p messages q
     → p + length messages ≤ length (parts records)
 handed_few records now target p q [] streamable below within hands = omega arith
 handed_few records now target p q (m ∷ messages) streamable below within hands =

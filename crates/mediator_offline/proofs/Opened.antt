@@ -3,37 +3,37 @@ use Rattle.std.proofs.Common.{◌≡◌, ℕ, inl, inr, true, false, List, [], �
 use Rattle.std.specs.List.{All}
 use Rattle.std.proofs.lemmas.List.{drop_all}
 use Rattle.std.proofs.lemmas.List.Elements.{All-nil, All-cons}
-use Rattle.subscriber_stream.specs.declared.limits.Limits.{Limits}
+use Rattle.subscriber_stream.specs.declared.limits.StreamLimits.{StreamLimits}
 use Rattle.event_journal.specs.declared.entry.Entry.{Entry}
 use Rattle.event_journal.specs.declared.entry.Entry.TheVariants.{Open, Edit, Subscribe}
-use Rattle.event_journal.specs.Counted.{Counted}
+use Rattle.event_journal.specs.Counted.{CountedEntries}
 use Rattle.event_journal.specs.Room.{HasRoomAfter}
 use Rattle.event_journal.specs.Spelled.{IsSpelled}
 use Rattle.mediator_history.proofs.HistoryLaws.{octets-push}
 use Rattle.mediator_tables.specs.declared.subscription.Subscription.{Subscription}
 use Rattle.mediator_tables.specs.SubscriptionTable.{at}
 use Rattle.mediator_state.specs.declared.state.State.{State}
-use Rattle.mediator_state.specs.declared.fault.Fault.{Fault}
+use Rattle.mediator_state.specs.declared.fault.Fault.{Fault as MediatorFault}
 use Rattle.mediator_state.specs.declared.fault.Fault.TheVariants as fault
 use Rattle.mediator_state.specs.Standing.{IsLiveAs}
 use Rattle.mediator_state.specs.Seen.{place_in, IsUntouched}
-use Rattle.mediator_state.specs.Calls.{StandsFor, Accepts, GoesOnBy, Edits, RefusesEdit, Subscribes, RefusesSubscribe, Opens, LacksRoomAfter, HasPolicy}
-use Rattle.mediator_offline.specs.declared.run.Run.{Run}
+use Rattle.mediator_state.specs.Calls.{StateStandsFor, Accepts, GoesOnBy, EditsAfter, RefusesEdit, SubscribesAfter, RefusesSubscribe, OpensAfter, LacksRoomAfter, HasPolicy}
+use Rattle.mediator_offline.specs.declared.run.OfflineRun.{OfflineRun}
 use Rattle.mediator_offline.specs.declared.job.OfflineJob.{OfflineJob}
-use Rattle.mediator_offline.specs.Offline.{edited, started, stream_limits, audit_limit, journal_limits}
+use Rattle.mediator_offline.specs.Offline.{first_edit, first_entries, stream_limits, audit_limit, journal_limits}
 use Rattle.mediator_offline.specs.Opening.{RefusesJob}
-use Rattle.mediator_offline.specs.Runs.{tells, Stands}
-use Rattle.mediator_offline.specs.Running.{IsOpened}
+use Rattle.mediator_offline.specs.Runs.{tells, RunStands}
+use Rattle.mediator_offline.specs.Running.{IsRunOpened}
 use Rattle.mediator_offline.proofs.Receiving.{small_of}
 
 -- a state that was made stands for no entry, within these limits
-pub record IsMade (s : State Counted) : Type 0 where
-  pub stands : StandsFor tells s []
+pub record IsMade (s : State CountedEntries) : Type 0 where
+  pub stands : StateStandsFor tells s []
   pub limits : s.engine.limits ≡ stream_limits
   pub audit : s.engine.audit.limit ≡ audit_limit
   pub journal : s.chronicle.limits ≡ journal_limits
 
-pub made : (s : State Counted) (c : Counted) → c ≡ record { count = 0; octets = 0; limits = journal_limits; spare = 0 } → (tells c [] → StandsFor tells s []) → s.chronicle ≡ c → s.engine.limits ≡ stream_limits
+pub made : (s : State CountedEntries) (c : CountedEntries) → c ≡ record { count = 0; octets = 0; limits = journal_limits; spare = 0 } → (tells c [] → StateStandsFor tells s []) → s.chronicle ≡ c → s.engine.limits ≡ stream_limits
     → s.engine.audit.limit ≡ audit_limit → IsMade s
 made s c is stands kept limits audit = record {
   stands = stands (record { entries = ap (λ t. t.count) is; sizes = ap (λ t. t.octets) is });
@@ -43,73 +43,73 @@ made s c is stands kept limits audit = record {
 }
 
 -- a call leaves the limits
-pub record Keeps (a b : State Counted) : Type 0 where
+pub record Keeps (a b : State CountedEntries) : Type 0 where
   pub untouched : IsUntouched a.engine b.engine
   pub journaled : b.chronicle.limits ≡ a.chronicle.limits
 
-abbrev pub EditsAll : State Counted → List ℕ → ℕ → State Counted → Type 0
-EditsAll a text n b = GoesOnBy tells (λ t. t.limits) a b (Edits text n)
+abbrev pub EditsAll : State CountedEntries → List ℕ → ℕ → State CountedEntries → Type 0
+EditsAll a text n b = GoesOnBy tells (λ t. t.limits) a b (EditsAfter text n)
 
-abbrev pub SubscribesAll : State Counted → List ℕ → ℕ → State Counted → Type 0
-SubscribesAll a name n b = GoesOnBy tells (λ t. t.limits) a b (Subscribes name n)
+abbrev pub SubscribesAll : State CountedEntries → List ℕ → ℕ → State CountedEntries → Type 0
+SubscribesAll a name n b = GoesOnBy tells (λ t. t.limits) a b (SubscribesAfter name n)
 
-abbrev pub OpensAll : State Counted → ℕ → State Counted → Type 0
-OpensAll a n b = GoesOnBy tells (λ t. t.limits) a b (Opens n)
+abbrev pub OpensAll : State CountedEntries → ℕ → State CountedEntries → Type 0
+OpensAll a n b = GoesOnBy tells (λ t. t.limits) a b (OpensAfter n)
 
-pub edited_stands : (a b : State Counted) (job : OfflineJob) (n : ℕ) → IsMade a → EditsAll a job.policy.now n b → StandsFor tells b (edited job)
+pub edited_stands : (a b : State CountedEntries) (job : OfflineJob) (n : ℕ) → IsMade a → EditsAll a job.policy.now n b → StateStandsFor tells b (first_edit job)
 edited_stands a b job n m e = (e [] m.stands).accepts.stands
 
-pub subscribed_stands : (a b c : State Counted) (job : OfflineJob) (n k : ℕ) → IsMade a → EditsAll a job.policy.now n b → SubscribesAll b job.name.now k c → StandsFor tells c (Edit job.policy.now ∷ Subscribe 1 job.name.now ∷ [])
+pub subscribed_stands : (a b c : State CountedEntries) (job : OfflineJob) (n k : ℕ) → IsMade a → EditsAll a job.policy.now n b → SubscribesAll b job.name.now k c → StateStandsFor tells c (Edit job.policy.now ∷ Subscribe 1 job.name.now ∷ [])
 subscribed_stands a b c job n k m e s =
-    let got = s (edited job) (edited_stands a b job n m e) in
-    subst (λ i. StandsFor tells c (Edit job.policy.now ∷ Subscribe i job.name.now ∷ [])) got.number got.accepts.stands
+    let got = s (first_edit job) (edited_stands a b job n m e) in
+    subst (λ i. StateStandsFor tells c (Edit job.policy.now ∷ Subscribe i job.name.now ∷ [])) got.number got.accepts.stands
 
-opened_stands : (a b c d : State Counted) (job : OfflineJob) (n k i : ℕ) → IsMade a → EditsAll a job.policy.now n b → SubscribesAll b job.name.now k c → OpensAll c i d → StandsFor tells d (started job)
+opened_stands : (a b c d : State CountedEntries) (job : OfflineJob) (n k i : ℕ) → IsMade a → EditsAll a job.policy.now n b → SubscribesAll b job.name.now k c → OpensAll c i d → StateStandsFor tells d (first_entries job)
 opened_stands a b c d job n k i m e s o =
     let got = o (Edit job.policy.now ∷ Subscribe 1 job.name.now ∷ []) (subscribed_stands a b c job n k m e s) in
-    subst (λ x. StandsFor tells d (Edit job.policy.now ∷ Subscribe 1 job.name.now ∷ Open x ∷ [])) got.number got.accepts.stands
+    subst (λ x. StateStandsFor tells d (Edit job.policy.now ∷ Subscribe 1 job.name.now ∷ Open x ∷ [])) got.number got.accepts.stands
 
-at_start : (limits : Limits) (o : Option Subscription) → IsLiveAs [] limits 1 o → place_in o ≡ 0
+at_start : (limits : StreamLimits) (o : Option Subscription) → IsLiveAs [] limits 1 o → place_in o ≡ 0
 at_start limits None is = refl
 at_start limits (Some s) is = absurd (no is.live)
   where
     no : false ≡ true → ⊥
     no e = absurd cc
 
-all_spelled : (job : OfflineJob) → All IsSpelled (started job)
+all_spelled : (job : OfflineJob) → All IsSpelled (first_entries job)
 all_spelled job =
     All-cons IsSpelled (Edit job.policy.now) (Subscribe 1 job.name.now ∷ Open 1 ∷ []) tt
     (All-cons IsSpelled (Subscribe 1 job.name.now) (Open 1 ∷ []) tt (All-cons IsSpelled (Open 1) [] tt (All-nil IsSpelled)))
 
-room_started : (job : OfflineJob) → HasRoomAfter journal_limits (Edit job.policy.now ∷ Subscribe 1 job.name.now ∷ []) (Open 1 ∷ []) → HasRoomAfter journal_limits [] (started job)
+room_started : (job : OfflineJob) → HasRoomAfter journal_limits (Edit job.policy.now ∷ Subscribe 1 job.name.now ∷ []) (Open 1 ∷ []) → HasRoomAfter journal_limits [] (first_entries job)
 room_started job room = record {
   entries_fit = omega arith;
   octets_fit = omega (arith, room.octets_fit, octets-push (Edit job.policy.now ∷ Subscribe 1 job.name.now ∷ []) (Open 1), octets-push [] (Open 1));
   spelled = all_spelled job;
 }
 
-room_open : (job : OfflineJob) → HasRoomAfter journal_limits [] (started job) → HasRoomAfter journal_limits (Edit job.policy.now ∷ Subscribe 1 job.name.now ∷ []) (Open 1 ∷ [])
+room_open : (job : OfflineJob) → HasRoomAfter journal_limits [] (first_entries job) → HasRoomAfter journal_limits (Edit job.policy.now ∷ Subscribe 1 job.name.now ∷ []) (Open 1 ∷ [])
 room_open job room = record {
   entries_fit = omega arith;
   octets_fit = omega (arith, room.octets_fit, octets-push (Edit job.policy.now ∷ Subscribe 1 job.name.now ∷ []) (Open 1), octets-push [] (Open 1));
   spelled = All-cons IsSpelled (Open 1) [] tt (All-nil IsSpelled);
 }
 
-room_named : (job : OfflineJob) → HasRoomAfter journal_limits [] (started job) → HasRoomAfter journal_limits (edited job) (Subscribe 1 job.name.now ∷ [])
+room_named : (job : OfflineJob) → HasRoomAfter journal_limits [] (first_entries job) → HasRoomAfter journal_limits (first_edit job) (Subscribe 1 job.name.now ∷ [])
 room_named job room = record {
   entries_fit = omega arith;
   octets_fit = omega (
     arith,
     room.octets_fit,
     octets-push (Edit job.policy.now ∷ Subscribe 1 job.name.now ∷ []) (Open 1),
-    octets-push (edited job) (Subscribe 1 job.name.now),
+    octets-push (first_edit job) (Subscribe 1 job.name.now),
     octets-push [] (Subscribe 1 job.name.now),
   );
   spelled = All-cons IsSpelled (Subscribe 1 job.name.now) [] tt (All-nil IsSpelled);
 }
 
-pub opened : (d : Run) (a b c : State Counted) (job : OfflineJob) (n k i : ℕ) → d.job ≡ job → d.messages ≡ 0 → d.records ≡ 0 → d.sent ≡ 0 → IsMade a
-    → Keeps a b → EditsAll a job.policy.now n b → Keeps b c → SubscribesAll b job.name.now k c → Keeps c d.state → OpensAll c i d.state → IsOpened d job
+pub opened : (d : OfflineRun) (a b c : State CountedEntries) (job : OfflineJob) (n k i : ℕ) → d.job ≡ job → d.messages ≡ 0 → d.records ≡ 0 → d.sent ≡ 0 → IsMade a
+    → Keeps a b → EditsAll a job.policy.now n b → Keeps b c → SubscribesAll b job.name.now k c → Keeps c d.state → OpensAll c i d.state → IsRunOpened d job
 opened d a b c job n k i same messages records sent m ab e bc s cd o = record {
   job_is = same;
   job_accepted = record {
@@ -118,7 +118,7 @@ opened d a b c job n k i same messages records sent m ab e bc s cd o = record {
     room = room;
   };
   stands = stands;
-  small = small_of d (started job) 0 stands (omega arith) (omega (arith, room.octets_fit)) (omega arith);
+  small = small_of d (first_entries job) 0 stands (omega arith) (omega (arith, room.octets_fit)) (omega arith);
   quiet = stands.state.stands.audit.waiting ∙ drop_all d.state.engine.audit.standing.drained [] (omega arith);
   sent = sent;
 }
@@ -126,19 +126,19 @@ opened d a b c job n k i same messages records sent m ab e bc s cd o = record {
     h2 : List Entry
     h2 = Edit job.policy.now ∷ Subscribe 1 job.name.now ∷ []
 
-    named : Subscribes job.name.now k (edited job) (Accepts tells (λ t. t.limits) b c (edited job))
-    named = s (edited job) (edited_stands a b job n m e)
+    named : SubscribesAfter job.name.now k (first_edit job) (Accepts tells (λ t. t.limits) b c (first_edit job))
+    named = s (first_edit job) (edited_stands a b job n m e)
 
-    last : Opens i h2 (Accepts tells (λ t. t.limits) c d.state h2)
+    last : OpensAfter i h2 (Accepts tells (λ t. t.limits) c d.state h2)
     last = o h2 (subscribed_stands a b c job n k m e s)
 
     journal : c.chronicle.limits ≡ journal_limits
     journal = bc.journaled ∙ ab.journaled ∙ m.journal
 
-    room : HasRoomAfter journal_limits [] (started job)
+    room : HasRoomAfter journal_limits [] (first_entries job)
     room = room_started job (subst (λ x. HasRoomAfter journal_limits h2 (Open x ∷ [])) last.number (subst (λ l. HasRoomAfter l h2 (Open i ∷ [])) journal last.accepts.room))
 
-    stands : Stands d (started job) 0
+    stands : RunStands d (first_entries job) 0
     stands = record {
       state = opened_stands a b c d.state job n k i m e s o;
       place = cd.untouched.places 1 ∙ bc.untouched.places 1 ∙ ab.untouched.places 1 ∙ at_start a.engine.limits (at a.engine.subscriptions 1) (m.stands.stands.subscriptions 1);
@@ -157,40 +157,40 @@ opened d a b c job n k i same messages records sent m ab e bc s cd o = record {
 
 -- ---- refusals
 
-pub edit_refused : (f : Fault) (a : State Counted) (job : OfflineJob) → IsMade a → RefusesEdit f a.chronicle.limits [] job.policy.now → RefusesJob f job
-edit_refused fault.JournalFull a job m x = (x.0, inl (λ room. x.1 (subst (λ l. HasRoomAfter l [] (edited job)) (sym m.journal) room)))
+pub edit_refused : (f : MediatorFault) (a : State CountedEntries) (job : OfflineJob) → IsMade a → RefusesEdit f a.chronicle.limits [] job.policy.now → RefusesJob f job
+edit_refused fault.JournalFull a job m x = (x.0, inl (λ room. x.1 (subst (λ l. HasRoomAfter l [] (first_edit job)) (sym m.journal) room)))
 edit_refused (fault.Policy why) a job m x = x
 edit_refused fault.OutOfMemory a job m x = tt
 edit_refused _ a job m x = absurd x
 
-pub subscribe_refused : (f : Fault) (a b : State Counted) (job : OfflineJob) (n : ℕ) → IsMade a → Keeps a b → EditsAll a job.policy.now n b → RefusesSubscribe f b.chronicle.limits (edited job) job.name.now → RefusesJob f job
+pub subscribe_refused : (f : MediatorFault) (a b : State CountedEntries) (job : OfflineJob) (n : ℕ) → IsMade a → Keeps a b → EditsAll a job.policy.now n b → RefusesSubscribe f b.chronicle.limits (first_edit job) job.name.now → RefusesJob f job
 subscribe_refused f a b job n m ab e = by f
   where
     policy : HasPolicy job.policy.now
     policy = record { policy = (e [] m.stands).policy; spelled = (e [] m.stands).spelled }
 
-    room : HasRoomAfter journal_limits [] (edited job)
-    room = subst (λ l. HasRoomAfter l [] (edited job)) m.journal (e [] m.stands).accepts.room
+    room : HasRoomAfter journal_limits [] (first_edit job)
+    room = subst (λ l. HasRoomAfter l [] (first_edit job)) m.journal (e [] m.stands).accepts.room
 
     no : false ≡ true → ⊥
     no e = absurd cc
 
-    by : (g : Fault) → RefusesSubscribe g b.chronicle.limits (edited job) job.name.now → RefusesJob g job
+    by : (g : MediatorFault) → RefusesSubscribe g b.chronicle.limits (first_edit job) job.name.now → RefusesJob g job
     by fault.BadName x = (policy, room, x)
     by (fault.AlreadySubscribed sub) x = absurd (no x.1)
-    by fault.JournalFull x = (policy, inr (x.0, λ all. x.2 (subst (λ l. HasRoomAfter l (edited job) (Subscribe 1 job.name.now ∷ [])) (sym (ab.journaled ∙ m.journal)) (room_named job all))))
+    by fault.JournalFull x = (policy, inr (x.0, λ all. x.2 (subst (λ l. HasRoomAfter l (first_edit job) (Subscribe 1 job.name.now ∷ [])) (sym (ab.journaled ∙ m.journal)) (room_named job all))))
     by fault.OutOfMemory x = tt
     by _ x = absurd x.2
 
-pub open_refused : (f : Fault) (a b c : State Counted) (job : OfflineJob) (n k : ℕ) → IsMade a → Keeps a b → EditsAll a job.policy.now n b → Keeps b c → SubscribesAll b job.name.now k c
+pub open_refused : (f : MediatorFault) (a b c : State CountedEntries) (job : OfflineJob) (n k : ℕ) → IsMade a → Keeps a b → EditsAll a job.policy.now n b → Keeps b c → SubscribesAll b job.name.now k c
     → LacksRoomAfter f c.chronicle.limits (Edit job.policy.now ∷ Subscribe 1 job.name.now ∷ []) (Open 1 ∷ []) → RefusesJob f job
 open_refused f a b c job n k m ab e bc s = by f
   where
-    by : (g : Fault) → LacksRoomAfter g c.chronicle.limits (Edit job.policy.now ∷ Subscribe 1 job.name.now ∷ []) (Open 1 ∷ []) → RefusesJob g job
+    by : (g : MediatorFault) → LacksRoomAfter g c.chronicle.limits (Edit job.policy.now ∷ Subscribe 1 job.name.now ∷ []) (Open 1 ∷ []) → RefusesJob g job
     by fault.JournalFull x = (
       record { policy = (e [] m.stands).policy; spelled = (e [] m.stands).spelled },
       inr (
-        (s (edited job) (edited_stands a b job n m e)).named,
+        (s (first_edit job) (edited_stands a b job n m e)).named,
         λ all. x (subst (λ l. HasRoomAfter l (Edit job.policy.now ∷ Subscribe 1 job.name.now ∷ []) (Open 1 ∷ [])) (sym (bc.journaled ∙ ab.journaled ∙ m.journal)) (room_open job all)),
       ),
     )

@@ -6,7 +6,7 @@ use Rattle.event_journal.specs.declared.entry.Entry.{Entry}
 use Rattle.event_journal.specs.declared.entry.Entry.TheVariants.{Message}
 use Rattle.mediator_history.specs.Sessions.{message_in, messages_of}
 use Rattle.mediator_offline.specs.declared.job.OfflineJob.{OfflineJob}
-use Rattle.mediator_offline.specs.Offline.{started, next_message, history_of}
+use Rattle.mediator_offline.specs.Offline.{first_entries, next_message, history_of}
 use Rattle.mediator_offline.specs.Accepting.{AreAccepted}
 use Rattle.mediator_offline.specs.PlainHistory.{entries_from, plain_history}
 use Rattle.mediator_offline.proofs.OneMore.{history_more}
@@ -30,8 +30,8 @@ one_more : (job : OfflineJob) (messages : List (List ℕ)) (m : List ℕ) → pl
 one_more job messages m =
     let number : length (messages_of 1 (plain_history job messages)) ≡ 0 + length messages = omega (arith, counted job messages) in
     ap (λ (k : ℕ). plain_history job messages ++ Message 1 k m ∷ []) number
-    ∙ append_assoc (started job) (entries_from 0 messages) (Message 1 (0 + length messages) m ∷ [])
-    ∙ ap (λ (es : List Entry). started job ++ es) (sym (entries_from-push 0 messages m))
+    ∙ append_assoc (first_entries job) (entries_from 0 messages) (Message 1 (0 + length messages) m ∷ [])
+    ∙ ap (λ (es : List Entry). first_entries job ++ es) (sym (entries_from-push 0 messages m))
 
 history_on : (job : OfflineJob) (before messages : List (List ℕ)) → history_of job before ≡ plain_history job before → AreAccepted job before messages → history_of job (before ++ messages) ≡ plain_history job (before ++ messages)
 history_on job before [] plain so = ap (history_of job) (append-nil before) ∙ plain ∙ ap (plain_history job) (sym (append-nil before))
@@ -45,4 +45,4 @@ history_on job before (m ∷ messages) plain so =
     ∙ ap (plain_history job) (append_assoc before (m ∷ []) messages)
 
 pub history_is_plain : (job : OfflineJob) (messages : List (List ℕ)) → AreAccepted job [] messages → history_of job messages ≡ plain_history job messages
-history_is_plain job messages so = history_on job [] messages (sym (append-nil (started job))) so
+history_is_plain job messages so = history_on job [] messages (sym (append-nil (first_entries job))) so

@@ -10,10 +10,11 @@ use Rattle.std.proofs.lemmas.List.Concat.{flat_map-cons}
 use Rattle.std.proofs.lemmas.List.FromFn.{length-enumerate_from}
 use Rattle.sequences.proofs.BeforeLaws.{last_of-push}
 use Rattle.ipfix_session.specs.Meaning.{meaning_of, domain_of}
-use Rattle.subscriber_stream.specs.declared.limits.Limits.{Limits}
+use Rattle.subscriber_stream.specs.declared.limits.StreamLimits.{StreamLimits}
 use Rattle.subscriber_stream.specs.Parts.{parts, records_in}
 use Rattle.policy_text.specs.Policies.{Aggregate}
-use Rattle.flow_anonymize.specs.Outcome.{Outcome, Passes, Aggregates, Withholds}
+use Rattle.flow_anonymize.specs.declared.disclosure.Disclosure.TheVariants.{Passed, Aggregated, Withheld}
+use Rattle.flow_anonymize.specs.Outcome.{Outcome}
 use Rattle.disclosure_audit.specs.declared.entry.AuditEntry.{AuditEntry}
 use Rattle.disclosure_audit.specs.declared.entry.What.TheVariants.{Cut as CutOff}
 use Rattle.disclosure_audit.specs.Queue.{StandsIn}
@@ -23,7 +24,7 @@ use Rattle.event_journal.specs.Room.{HasRoomAfter}
 use Rattle.event_journal.specs.Sizes.{history_octets}
 use Rattle.mediator_history.specs.Sessions.{messages_of, opens}
 use Rattle.mediator_history.specs.Subscriptions.{policy_in_force, is_live, is_served, subscribed_in, served}
-use Rattle.mediator_history.specs.Accepted.{Accepted, records_meant, records_at, accepted_as, accepted_at, accepted}
+use Rattle.mediator_history.specs.Accepted.{AcceptedRecord, records_meant, records_at, accepted_as, accepted_at, accepted}
 use Rattle.mediator_history.specs.Counting.{outcome_for, clock_of}
 use Rattle.mediator_history.specs.Disclosed.{given_at, disclosed}
 use Rattle.mediator_history.specs.Auditing.{audit_of, audit_at, audit_list, audit_entry, kept_back}
@@ -34,20 +35,20 @@ use Rattle.mediator_history.proofs.Counts.{few_records}
 use Rattle.mediator_history.proofs.EntryLaws.{served_is_live, messages-any}
 use Rattle.mediator_tables.specs.declared.subscription.Subscription.{Subscription}
 use Rattle.mediator_tables.specs.SubscriptionTable.{at}
-use Rattle.mediator_state.specs.declared.fault.Fault.{Fault}
+use Rattle.mediator_state.specs.declared.fault.Fault.{Fault as MediatorFault}
 use Rattle.mediator_state.specs.declared.fault.Fault.TheVariants as fault
 use Rattle.mediator_state.specs.declared.receipt.Receipt.{Receipt}
 use Rattle.mediator_state.specs.Standing.{IsLiveAs}
 use Rattle.mediator_state.specs.Seen.{place_in, waiting_in, waiting_of, place_of, IsUntouched}
 use Rattle.mediator_state.specs.Calls as calls
-use Rattle.mediator_state.specs.Calls.{StandsFor, with_cuts, RefusesReceive}
-use Rattle.mediator_offline.specs.declared.run.Run.{Run}
+use Rattle.mediator_state.specs.Calls.{StateStandsFor, with_cuts_after, RefusesReceiveAfter}
+use Rattle.mediator_offline.specs.declared.run.OfflineRun.{OfflineRun}
 use Rattle.mediator_offline.specs.Offline.{stream_limits, journal_limits, next_message, cuts_by, after_message}
-use Rattle.mediator_offline.specs.Runs.{tells, audit_waiting, audit_drained, HasHistory, SameButState, Stands, Small}
+use Rattle.mediator_offline.specs.Runs.{tells, audit_waiting, audit_drained, RunHasHistory, SameButState, RunStands, Small}
 use Rattle.mediator_offline.specs.Recording.{Records}
 use Rattle.mediator_offline.specs.Offline.{end_of}
-use Rattle.mediator_offline.specs.Steps.{HasDelivered, Receives, Refuses}
-use Rattle.mediator_offline.specs.Accepting.{Accepts, RefusesMessage}
+use Rattle.mediator_offline.specs.Steps.{HasDelivered, TakesMessage, RunRefuses}
+use Rattle.mediator_offline.specs.Accepting.{AcceptsMessage, RefusesOctets}
 use Rattle.mediator_offline.proofs.Messages.{served_alone, filter-none, cuts_none, cuts_one}
 use Rattle.event_journal.specs.declared.limits.TheConstants.{MOST_ENTRIES, MOST_OCTETS}
 
@@ -60,7 +61,7 @@ err_gives (Err e) known f = f e known.1
 
 -- ---- where the subscription stands
 
-place_within : (h : List Entry) (limits : Limits) (o : Option Subscription) → IsLiveAs h limits 1 o → is_live 1 h ≡ true → place_in o ≤ end_of h
+place_within : (h : List Entry) (limits : StreamLimits) (o : Option Subscription) → IsLiveAs h limits 1 o → is_live 1 h ≡ true → place_in o ≤ end_of h
 place_within h limits None is live = absurd (no is live)
   where
     no : is_live 1 h ≡ false → is_live 1 h ≡ true → ⊥
@@ -69,35 +70,35 @@ place_within h limits None is live = absurd (no is live)
       off e = absurd cc
 place_within h limits (Some s) is live = is.stream.within
 
-pub within_end : (d : Run) (h : List Entry) (p : ℕ) → Stands d h p → p ≤ end_of h
+pub within_end : (d : OfflineRun) (h : List Entry) (p : ℕ) → RunStands d h p → p ≤ end_of h
 within_end d h p so = subst (λ q. q ≤ end_of h) so.place
     (place_within h d.state.engine.limits (at d.state.engine.subscriptions 1) (so.state.stands.subscriptions 1) (served_is_live 1 h so.serving))
 
-none_waits : (h : List Entry) (limits : Limits) (o : Option Subscription) → IsLiveAs h limits 1 o → place_in o ≡ end_of h → waiting_in o ≡ 0
+none_waits : (h : List Entry) (limits : StreamLimits) (o : Option Subscription) → IsLiveAs h limits 1 o → place_in o ≡ end_of h → waiting_in o ≡ 0
 none_waits h limits None is here = refl
 none_waits h limits (Some s) is here =
     ap (λ ps. length (records_in ps)) (is.stream.waiting ∙ ap (λ n. drop n (parts (disclosed 1 h))) here ∙ drop_all (end_of h) (parts (disclosed 1 h)) (omega arith))
 
-pub small_of : (d : Run) (h : List Entry) (p : ℕ) → Stands d h p → length h ≤ MOST_ENTRIES → history_octets h ≤ MOST_OCTETS → length (accepted h) ≤ history_octets h → Small h
+pub small_of : (d : OfflineRun) (h : List Entry) (p : ℕ) → RunStands d h p → length h ≤ MOST_ENTRIES → history_octets h ≤ MOST_OCTETS → length (accepted h) ≤ history_octets h → Small h
 small_of d h p so entries octets records = record { entries = entries; octets = octets; records = records; listed = so.state.stands.small.listed 1; streamable = so.state.stands.small.streamable 1 }
 
 -- ---- whom a message cuts
 
-cuts_alone : (limits : Limits) (h : List Entry) (entry : Entry) (w v : ℕ → ℕ) → served h ≡ 1 ∷ [] → w 1 ≡ v 1 → cuts_before limits h entry w ≡ cuts_before limits h entry v
+cuts_alone : (limits : StreamLimits) (h : List Entry) (entry : Entry) (w v : ℕ → ℕ) → served h ≡ 1 ∷ [] → w 1 ≡ v 1 → cuts_before limits h entry w ≡ cuts_before limits h entry v
 cuts_alone limits h entry w v alone same =
     ap (λ subs. map Cut (filter (is_cut_by limits h entry w) subs)) alone
     ∙ ap (λ n. map Cut (filter (λ (sub : ℕ). overflows limits (disclosed sub h) n (given_at sub h entry)) (1 ∷ []))) same
     ∙ sym (ap (λ subs. map Cut (filter (is_cut_by limits h entry v) subs)) alone)
 
 -- where all was handed out, a message makes the cuts that it makes where nothing waits
-pub same_cuts : (d : Run) (h : List Entry) (octets : List ℕ) → Stands d h (end_of h) → cuts_before d.state.engine.limits h (Message 1 d.messages octets) (waiting_of d.state.engine) ≡ cuts_by h octets
+pub same_cuts : (d : OfflineRun) (h : List Entry) (octets : List ℕ) → RunStands d h (end_of h) → cuts_before d.state.engine.limits h (Message 1 d.messages octets) (waiting_of d.state.engine) ≡ cuts_by h octets
 same_cuts d h octets so =
     ap (λ n. cuts_before d.state.engine.limits h (Message 1 n octets) (waiting_of d.state.engine)) so.messages
     ∙ ap (λ limits. cuts_before limits h (next_message h octets) (waiting_of d.state.engine)) so.limited.limits
     ∙ cuts_alone stream_limits h (next_message h octets) (waiting_of d.state.engine) (λ sub. 0) (served_alone h so.alone so.serving)
     (none_waits h d.state.engine.limits (at d.state.engine.subscriptions 1) (so.state.stands.subscriptions 1) so.place)
 
-pub same_entries : (d : Run) (h : List Entry) (octets : List ℕ) → Stands d h (end_of h) → with_cuts d.state.engine h (Message 1 d.messages octets) ≡ cuts_by h octets ++ next_message h octets ∷ []
+pub same_entries : (d : OfflineRun) (h : List Entry) (octets : List ℕ) → RunStands d h (end_of h) → with_cuts_after d.state.engine h (Message 1 d.messages octets) ≡ cuts_by h octets ++ next_message h octets ∷ []
 same_entries d h octets so =
     ap (λ (cuts : List Entry). cuts ++ Message 1 d.messages octets ∷ []) (same_cuts d h octets so)
     ∙ ap (λ n. cuts_by h octets ++ Message 1 n octets ∷ []) so.messages
@@ -114,11 +115,11 @@ few_each : {X A : Type 0} (f : X → List A) → ((x : X) → length (f x) ≤ 1
 few_each f few [] = omega arith
 few_each f few (x ∷ xs) = rw (flat_map-cons f x xs) (omega (arith, length-append (f x) (flat_map f xs), few x, few_each f few xs))
 
-noted-few : (aggregates : List Aggregate) (clock : ℕ) (a : Accepted) (o : Outcome) → length (map (audit_entry a.position a.index 1) (kept_back aggregates clock a.flow o)) ≤ 1
-noted-few aggregates clock a (Passes kept []) = omega arith
-noted-few aggregates clock a (Passes kept (field ∷ fields)) = omega arith
-noted-few aggregates clock a (Aggregates rule place) = omega arith
-noted-few aggregates clock a (Withholds rule reason) = omega arith
+noted-few : (aggregates : List Aggregate) (clock : ℕ) (a : AcceptedRecord) (o : Outcome) → length (map (audit_entry a.position a.index 1) (kept_back aggregates clock a.flow o)) ≤ 1
+noted-few aggregates clock a (Passed kept []) = omega arith
+noted-few aggregates clock a (Passed kept (field ∷ fields)) = omega arith
+noted-few aggregates clock a (Aggregated rule place) = omega arith
+noted-few aggregates clock a (Withheld rule reason) = omega arith
 
 accepted-many : (h : List Entry) (octets : List ℕ) → length (accepted_at h (next_message h octets)) ≡ length (records_meant (meaning_of (messages_of 1 h) octets))
 accepted-many h octets =
@@ -129,7 +130,7 @@ pub noted_few : (h : List Entry) (octets : List ℕ) → served h ≡ 1 ∷ [] �
 noted_few h octets alone =
     omega (arith, few_each (λ a. flat_map (audit_of h a) (served h)) each (accepted_at h (next_message h octets)), accepted-many h octets, few_records (messages_of 1 h) octets)
   where
-    each : (a : Accepted) → length (flat_map (audit_of h a) (served h)) ≤ 1
+    each : (a : AcceptedRecord) → length (flat_map (audit_of h a) (served h)) ≤ 1
     each a = rw alone (omega (arith, noted-few (policy_in_force h).aggregates (clock_of h) a (outcome_for 1 h a.domain a.flow), length-append (audit_of h a 1) [], ap length (flat_map-cons (audit_of h a) 1 [])))
 
 -- after a cut of the only subscription that is served, a message adds nothing to the audit
@@ -142,7 +143,7 @@ audit_after_cut h octets number alone =
     none = ap (filter (λ sub. is_served sub (h ++ Cut 1 ∷ []))) (flat_map-push subscribed_in h (Cut 1) ∙ append-nil (flat_map subscribed_in h) ∙ alone)
         ∙ filter-none (λ sub. is_served sub (h ++ Cut 1 ∷ [])) 1 (cut_is_served_no_more 1 h)
 
-    nothing : (others : List Accepted) → flat_map (λ a. flat_map (audit_of (h ++ Cut 1 ∷ []) a) []) others ≡ []
+    nothing : (others : List AcceptedRecord) → flat_map (λ a. flat_map (audit_of (h ++ Cut 1 ∷ []) a) []) others ≡ []
     nothing [] = refl
     nothing (a ∷ others) = flat_map-cons (λ x. flat_map (audit_of (h ++ Cut 1 ∷ []) x) []) a others ∙ nothing others
 
@@ -161,15 +162,15 @@ messages_more : (h : List Entry) (number : ℕ) (octets : List ℕ) → messages
 messages_more h number octets = messages-any 1 1 number octets h
 
 -- what a call of the state gives to a run
-pub record Taken (old new : Run) (octets : List ℕ) (r : Receipt) : Type 0 where
+pub record Taken (old new : OfflineRun) (octets : List ℕ) (r : Receipt) : Type 0 where
   pub job : new.job ≡ old.job
   pub messages : new.messages ≡ old.messages + 1
   pub records : new.records ≡ old.records + r.records
   pub untouched : IsUntouched old.state.engine new.state.engine
   pub journaled : new.state.chronicle.limits ≡ old.state.chronicle.limits
-  pub receives : calls.GoesOnBy tells (λ t. t.limits) old.state new.state (calls.Receives old.state.engine 1 old.messages octets r)
+  pub receives : calls.GoesOnBy tells (λ t. t.limits) old.state new.state (calls.ReceivesAfter old.state.engine 1 old.messages octets r)
 
-accepts_it : (old new : Run) (octets : List ℕ) (r : Receipt) (h : List Entry) → Taken old new octets r → Stands old h (end_of h) → Accepts h octets
+accepts_it : (old new : OfflineRun) (octets : List ℕ) (r : Receipt) (h : List Entry) → Taken old new octets r → RunStands old h (end_of h) → AcceptsMessage h octets
 accepts_it old new octets r h t so =
     let got = t.receives h so.state in
     record {
@@ -178,14 +179,14 @@ accepts_it old new octets r h t so =
       room = subst (λ l. HasRoomAfter l h (cuts_by h octets ++ next_message h octets ∷ [])) so.limited.journal (subst (HasRoomAfter old.state.chronicle.limits h) (same_entries old h octets so) got.accepts.room);
     }
 
-stands_after : (old new : Run) (octets : List ℕ) (r : Receipt) (h : List Entry) → Taken old new octets r → Stands old h (end_of h) → StandsFor tells new.state (after_message h octets)
-stands_after old new octets r h t so = subst (λ more. StandsFor tells new.state (h ++ more)) (same_entries old h octets so) (t.receives h so.state).accepts.stands
+stands_after : (old new : OfflineRun) (octets : List ℕ) (r : Receipt) (h : List Entry) → Taken old new octets r → RunStands old h (end_of h) → StateStandsFor tells new.state (after_message h octets)
+stands_after old new octets r h t so = subst (λ more. StateStandsFor tells new.state (h ++ more)) (same_entries old h octets so) (t.receives h so.state).accepts.stands
 
-cut_count : (old new : Run) (octets : List ℕ) (r : Receipt) (h : List Entry) → Taken old new octets r → Stands old h (end_of h) → r.cut ≡ length (cuts_by h octets)
+cut_count : (old new : OfflineRun) (octets : List ℕ) (r : Receipt) (h : List Entry) → Taken old new octets r → RunStands old h (end_of h) → r.cut ≡ length (cuts_by h octets)
 cut_count old new octets r h t so = ap (λ x. x.cut) (t.receives h so.state).receipt ∙ ap length (same_cuts old h octets so)
 
-goes_on : (old new : Run) (octets : List ℕ) (r : Receipt) (h : List Entry) → Taken old new octets r → Stands old h (end_of h) → Small h → cuts_by h octets ≡ [] → Stands new (after_message h octets) (end_of h) × Small (after_message h octets)
-goes_on old new octets r h t so small none = (subst (λ x. Stands new x (end_of h)) (sym whole) stands, subst Small (sym whole) stays)
+goes_on : (old new : OfflineRun) (octets : List ℕ) (r : Receipt) (h : List Entry) → Taken old new octets r → RunStands old h (end_of h) → Small h → cuts_by h octets ≡ [] → RunStands new (after_message h octets) (end_of h) × Small (after_message h octets)
+goes_on old new octets r h t so small none = (subst (λ x. RunStands new x (end_of h)) (sym whole) stands, subst Small (sym whole) stays)
   where
     next : Entry
     next = next_message h octets
@@ -196,7 +197,7 @@ goes_on old new octets r h t so small none = (subst (λ x. Stands new x (end_of 
     whole : after_message h octets ≡ h ++ next ∷ []
     whole = ap (λ cuts. h ++ (cuts ++ next ∷ [])) none
 
-    got : calls.Receives old.state.engine 1 old.messages octets r h (calls.Accepts tells (λ t. t.limits) old.state new.state h)
+    got : calls.ReceivesAfter old.state.engine 1 old.messages octets r h (calls.Accepts tells (λ t. t.limits) old.state new.state h)
     got = t.receives h so.state
 
     room : HasRoomAfter journal_limits h (next ∷ [])
@@ -208,9 +209,9 @@ goes_on old new octets r h t so small none = (subst (λ x. Stands new x (end_of 
     accepts : length (accepted (h ++ next ∷ [])) ≡ length (accepted h) + length (accepted_at h next)
     accepts = ap length (accepted-push h next) ∙ length-append (accepted h) (accepted_at h next)
 
-    stands : Stands new (h ++ next ∷ []) (end_of h)
+    stands : RunStands new (h ++ next ∷ []) (end_of h)
     stands = record {
-      state = subst (StandsFor tells new.state) whole (stands_after old new octets r h t so);
+      state = subst (StateStandsFor tells new.state) whole (stands_after old new octets r h t so);
       place = t.untouched.places 1 ∙ so.place;
       serving = is_served-message 1 h 1 number octets ∙ so.serving;
       alone = subscribed-message h 1 number octets ∙ so.alone;
@@ -230,7 +231,7 @@ goes_on old new octets r h t so small none = (subst (λ x. Stands new x (end_of 
         octets_one : history_octets (next ∷ []) ≡ 21 + length octets
         octets_one = omega (arith, octets-push [] next)
 
-pub received : (old new : Run) (octets : List ℕ) (r : Receipt) → Taken old new octets r → Receives old octets (nat_lt 0 r.cut) new
+pub received : (old new : OfflineRun) (octets : List ℕ) (r : Receipt) → Taken old new octets r → TakesMessage old octets (nat_lt 0 r.cut) new
 received old new octets r t = record {
   accepts = λ h so small. accepts_it old new octets r h t so;
   cuts = λ h so small is. (one h so is (one_or_none h octets (served_alone h so.alone so.serving)), stands_after old new octets r h t so);
@@ -241,11 +242,11 @@ received old new octets r t = record {
       (none, next.0, next.1);
 }
   where
-    one : (h : List Entry) → Stands old h (end_of h) → nat_lt 0 r.cut ≡ true → (cuts_by h octets ≡ []) ⊎ (cuts_by h octets ≡ Cut 1 ∷ []) → cuts_by h octets ≡ Cut 1 ∷ []
+    one : (h : List Entry) → RunStands old h (end_of h) → nat_lt 0 r.cut ≡ true → (cuts_by h octets ≡ []) ⊎ (cuts_by h octets ≡ Cut 1 ∷ []) → cuts_by h octets ≡ Cut 1 ∷ []
     one h so is (inl none) = absurd (omega (arith, ltb-true 0 r.cut is, cut_count old new octets r h t so, ap length none))
     one h so is (inr cut) = cut
 
-    nothing : (h : List Entry) → Stands old h (end_of h) → nat_lt 0 r.cut ≡ false → (cuts_by h octets ≡ []) ⊎ (cuts_by h octets ≡ Cut 1 ∷ []) → cuts_by h octets ≡ []
+    nothing : (h : List Entry) → RunStands old h (end_of h) → nat_lt 0 r.cut ≡ false → (cuts_by h octets ≡ []) ⊎ (cuts_by h octets ≡ Cut 1 ∷ []) → cuts_by h octets ≡ []
     nothing h so is (inl none) = none
     nothing h so is (inr cut) = absurd (omega (arith, ltb-false 0 r.cut is, cut_count old new octets r h t so, ap length cut))
 
@@ -253,15 +254,15 @@ received old new octets r t = record {
 octets_few : (h : List Entry) (octets : List ℕ) → HasRoomAfter journal_limits h (next_message h octets ∷ []) → length octets < 2 ^ 32
 octets_few h octets room = room.spelled 0 (next_message h octets) (omega arith)
 
-pub records_fit : (old new : Run) (octets : List ℕ) (r : Receipt) → HasDelivered old → calls.GoesOnBy tells (λ t. t.limits) old.state new.state (calls.Receives old.state.engine 1 old.messages octets r) → old.records + r.records < 2 ^ 64
+pub records_fit : (old new : OfflineRun) (octets : List ℕ) (r : Receipt) → HasDelivered old → calls.GoesOnBy tells (λ t. t.limits) old.state new.state (calls.ReceivesAfter old.state.engine 1 old.messages octets r) → old.records + r.records < 2 ^ 64
 records_fit old new octets r had receives =
     omega (arith, had.stands.records, had.small.records, had.small.octets, ap (λ x. x.records) got.receipt, ap (λ x. length (records_meant x)) (sym got.means), few_records (messages_of 1 had.history) octets, long)
   where
-    got : calls.Receives old.state.engine 1 old.messages octets r had.history (calls.Accepts tells (λ t. t.limits) old.state new.state had.history)
+    got : calls.ReceivesAfter old.state.engine 1 old.messages octets r had.history (calls.Accepts tells (λ t. t.limits) old.state new.state had.history)
     got = receives had.history had.stands.state
 
-    room : HasRoomAfter journal_limits had.history (with_cuts old.state.engine had.history (Message 1 old.messages octets))
-    room = subst (λ l. HasRoomAfter l had.history (with_cuts old.state.engine had.history (Message 1 old.messages octets))) had.stands.limited.journal got.accepts.room
+    room : HasRoomAfter journal_limits had.history (with_cuts_after old.state.engine had.history (Message 1 old.messages octets))
+    room = subst (λ l. HasRoomAfter l had.history (with_cuts_after old.state.engine had.history (Message 1 old.messages octets))) had.stands.limited.journal got.accepts.room
 
     long : length octets ≤ MOST_OCTETS
     long = omega (arith, room.octets_fit, ap history_octets (same_entries old had.history octets had.stands), octets-push (cuts_by had.history octets) (next_message had.history octets))
@@ -269,15 +270,15 @@ records_fit old new octets r had receives =
 -- ---- the audit of a run
 
 -- all entries were drained
-drained_all : (d : Run) (all : List AuditEntry) → StandsIn d.state.engine.audit.standing all → audit_waiting d ≡ [] → audit_drained d ≡ length all
+drained_all : (d : OfflineRun) (all : List AuditEntry) → StandsIn d.state.engine.audit.standing all → audit_waiting d ≡ [] → audit_drained d ≡ length all
 drained_all d all so quiet = omega (arith, so.within, ap length so.waiting, ap length quiet, length-drop (audit_drained d) all)
 
 -- what waits after a message is what it adds
-pub waits_added : (d e : Run) (all more : List AuditEntry) → StandsIn d.state.engine.audit.standing all → audit_waiting d ≡ [] → audit_drained e ≡ audit_drained d
+pub waits_added : (d e : OfflineRun) (all more : List AuditEntry) → StandsIn d.state.engine.audit.standing all → audit_waiting d ≡ [] → audit_drained e ≡ audit_drained d
     → StandsIn e.state.engine.audit.standing (all ++ more) → audit_waiting e ≡ more
 waits_added d e all more so quiet same then = then.waiting ∙ ap (λ n. drop n (all ++ more)) (same ∙ drained_all d all so quiet) ∙ drop-append_seam all more
 
-pub few_noted : (old new : Run) (octets : List ℕ) (r : Receipt) → HasDelivered old → Taken old new octets r → length (audit_waiting new) < 2 ^ 32
+pub few_noted : (old new : OfflineRun) (octets : List ℕ) (r : Receipt) → HasDelivered old → Taken old new octets r → length (audit_waiting new) < 2 ^ 32
 few_noted old new octets r had t = by (one_or_none had.history octets (served_alone had.history had.stands.alone had.stands.serving))
   where
     h : List Entry
@@ -298,16 +299,16 @@ few_noted old new octets r had t = by (one_or_none had.history octets (served_al
 
 -- ---- refusals
 
-pub refused : (e : Fault) (old : Run) (octets : List ℕ) → HasDelivered old → ((h : List Entry) → StandsFor tells old.state h → RefusesReceive e old.state.chronicle.limits old.state.engine h 1 old.messages octets) → Refuses e old octets
+pub refused : (e : MediatorFault) (old : OfflineRun) (octets : List ℕ) → HasDelivered old → ((h : List Entry) → StateStandsFor tells old.state h → RefusesReceiveAfter e old.state.chronicle.limits old.state.engine h 1 old.messages octets) → RunRefuses e old octets
 refused e old octets had refuses = record { after = λ h so small. by e h so (refuses h so.state) }
   where
-    judged : (h : List Entry) → Stands old h (end_of h) → HasRoomAfter old.state.chronicle.limits h (with_cuts old.state.engine h (Message 1 old.messages octets)) → HasRoomAfter journal_limits h (cuts_by h octets ++ next_message h octets ∷ [])
+    judged : (h : List Entry) → RunStands old h (end_of h) → HasRoomAfter old.state.chronicle.limits h (with_cuts_after old.state.engine h (Message 1 old.messages octets)) → HasRoomAfter journal_limits h (cuts_by h octets ++ next_message h octets ∷ [])
     judged h so room = subst (λ l. HasRoomAfter l h (cuts_by h octets ++ next_message h octets ∷ [])) so.limited.journal (subst (HasRoomAfter old.state.chronicle.limits h) (same_entries old h octets so) room)
 
-    back : (h : List Entry) → Stands old h (end_of h) → HasRoomAfter journal_limits h (cuts_by h octets ++ next_message h octets ∷ []) → HasRoomAfter old.state.chronicle.limits h (with_cuts old.state.engine h (Message 1 old.messages octets))
+    back : (h : List Entry) → RunStands old h (end_of h) → HasRoomAfter journal_limits h (cuts_by h octets ++ next_message h octets ∷ []) → HasRoomAfter old.state.chronicle.limits h (with_cuts_after old.state.engine h (Message 1 old.messages octets))
     back h so room = subst (HasRoomAfter old.state.chronicle.limits h) (sym (same_entries old h octets so)) (subst (λ l. HasRoomAfter l h (cuts_by h octets ++ next_message h octets ∷ [])) (sym so.limited.journal) room)
 
-    by : (f : Fault) (h : List Entry) → Stands old h (end_of h) → RefusesReceive f old.state.chronicle.limits old.state.engine h 1 old.messages octets → RefusesMessage f h octets
+    by : (f : MediatorFault) (h : List Entry) → RunStands old h (end_of h) → RefusesReceiveAfter f old.state.chronicle.limits old.state.engine h 1 old.messages octets → RefusesOctets f h octets
     by (fault.Malformed why) h so x = x.1
     by fault.OutOfMemory h so x = tt
     by fault.JournalFull h so x = (x.1, λ room. x.2 (back h so room))
@@ -325,7 +326,7 @@ refused e old octets had refuses = record { after = λ h so small. by e h so (re
 
 -- ---- pulls and drains
 
-pub pull_memory : (f : Fault) (h : List Entry) → is_live 1 h ≡ true → calls.RefusesPull f h 1 → f ≡ fault.OutOfMemory
+pub pull_memory : (f : MediatorFault) (h : List Entry) → is_live 1 h ≡ true → calls.RefusesPull f h 1 → f ≡ fault.OutOfMemory
 pull_memory fault.UnknownSub h live x = absurd (no (sym x ∙ live))
   where
     no : false ≡ true → ⊥
@@ -334,23 +335,23 @@ pull_memory fault.OutOfMemory h live x = refl
 pull_memory _ h live x = absurd x
 
 -- all that waits is drained
-pub drained_are : (d : Run) (h : List Entry) (out : List AuditEntry) → StandsFor tells d.state h → length (audit_waiting d) < 2 ^ 32 → out ≡ take 4294967295 (drop (audit_drained d) (audit_list h)) → out ≡ audit_waiting d
+pub drained_are : (d : OfflineRun) (h : List Entry) (out : List AuditEntry) → StateStandsFor tells d.state h → length (audit_waiting d) < 2 ^ 32 → out ≡ take 4294967295 (drop (audit_drained d) (audit_list h)) → out ≡ audit_waiting d
 drained_are d h out so few is = is ∙ ap (take 4294967295) (sym so.stands.audit.waiting) ∙ take_all 4294967295 (audit_waiting d) (omega (arith, few))
 
-pub quiet_after : (d e : Run) (h : List Entry) (out : List AuditEntry) → StandsFor tells d.state h → StandsFor tells e.state h → out ≡ audit_waiting d → audit_drained e ≡ audit_drained d + length out → audit_waiting e ≡ []
+pub quiet_after : (d e : OfflineRun) (h : List Entry) (out : List AuditEntry) → StateStandsFor tells d.state h → StateStandsFor tells e.state h → out ≡ audit_waiting d → audit_drained e ≡ audit_drained d + length out → audit_waiting e ≡ []
 quiet_after d e h out so then is count =
     then.stands.audit.waiting
     ∙ drop_all (audit_drained e) (audit_list h) (omega (arith, count, ap length is, ap length so.stands.audit.waiting, length-drop (audit_drained d) (audit_list h), so.stands.audit.within))
 
 -- what a call of the state that drains the audit gives to a run
-pub record Drains (d e : Run) (out : List AuditEntry) : Type 0 where
+pub record Drains (d e : OfflineRun) (out : List AuditEntry) : Type 0 where
   pub same : SameButState d e
   pub sent : e.sent ≡ d.sent
   pub places : (q : ℕ) → place_of e.state.engine q ≡ place_of d.state.engine q
-  pub oldest : (h : List Entry) → StandsFor tells d.state h → (out ≡ take 4294967295 (drop (audit_drained d) (audit_list h))) × StandsFor tells e.state h
+  pub oldest : (h : List Entry) → StateStandsFor tells d.state h → (out ≡ take 4294967295 (drop (audit_drained d) (audit_list h))) × StateStandsFor tells e.state h
   pub drained : audit_drained e ≡ audit_drained d + length out
 
-pub recorded : (d e : Run) (out : List AuditEntry) → HasHistory d → length (audit_waiting d) < 2 ^ 32 → Drains d e out → Records d e
+pub recorded : (d e : OfflineRun) (out : List AuditEntry) → RunHasHistory d → length (audit_waiting d) < 2 ^ 32 → Drains d e out → Records d e
 recorded d e out had few drains =
     let got = drains.oldest had.history had.state in
     record {

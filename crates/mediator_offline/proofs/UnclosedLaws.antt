@@ -9,32 +9,34 @@ use Rattle.sequences.proofs.BeforeLaws.{last_of-none}
 use Rattle.sequences.proofs.ListLaws.{AllByRecursion-append}
 use Rattle.ipfix_template.specs.DataRecord.{DataRecord}
 use Rattle.policy_text.specs.Words.{lines_of}
-use Rattle.policy_text.specs.Policies.{Meaning as Policy, Aggregate, nothing as no_policy}
+use Rattle.policy_text.specs.Policies.{PolicyMeaning as Policy, Aggregate, nothing as no_policy}
 use Rattle.policy_text.specs.Parsing.{policy_of}
 use Rattle.policy_text.specs.Grammar.{AreAggregates}
-use Rattle.policy_text.specs.declared.fault.PolicyFault.{PolicyFault}
+use Rattle.policy_text.specs.declared.fault.Fault.{Fault as PolicyFault}
 use Rattle.policy_text.proofs.OneFaultLaws.{spelled_kept}
 use Rattle.policy_text.proofs.SpellLaws.{policy_of-found}
 use Rattle.disclosure_audit.specs.declared.entry.RemovedField.{RemovedField}
 use Rattle.disclosure_audit.specs.declared.entry.What.{What}
-use Rattle.disclosure_audit.specs.declared.entry.What.TheVariants.{Withheld, Removed, Cut as CutOff}
-use Rattle.disclosure_audit.specs.declared.reason.Reason.TheVariants as named
-use Rattle.flow_anonymize.specs.declared.disclosure.Reason.{Reason as Because}
-use Rattle.flow_anonymize.specs.declared.disclosure.Reason.TheVariants as because
-use Rattle.flow_anonymize.specs.Outcome.{Outcome, Passes, Aggregates, Withholds}
+use Rattle.disclosure_audit.specs.declared.entry.What.TheVariants as what
+use Rattle.disclosure_audit.specs.declared.reason.Reason.{Reason}
+use Rattle.disclosure_audit.specs.declared.reason.Reason.TheVariants as because
+use Rattle.flow_anonymize.specs.declared.disclosure.Disclosure.TheVariants.{Passed, Aggregated, Withheld}
+use Rattle.flow_anonymize.specs.Outcome.{Outcome}
+use Rattle.flow_anonymize.specs.Reasons.{IsOfRules, IsByRules}
+use Rattle.flow_anonymize.proofs.ReasonLaws.{reasons_are_of_rules}
 use Rattle.flow_aggregate.specs.declared.timing.Timing.{Timing}
 use Rattle.flow_aggregate.specs.declared.timing.Timing.TheVariants.{Placed, NoTime, NoKey, Late}
 use Rattle.flow_aggregate.specs.Placing.{start_of, interval_start, closes_at, has_key, timing_of, timing_at as placed_at}
 use Rattle.event_journal.specs.declared.entry.Entry.{Entry}
 use Rattle.event_journal.specs.declared.entry.Entry.TheVariants.{Message, Edit, Advance, Cut}
-use Rattle.mediator_history.specs.Subscriptions.{policy_or_none, edited, policy_in_force, served}
-use Rattle.mediator_history.specs.Accepted.{Accepted, accepted_at}
+use Rattle.mediator_history.specs.Subscriptions.{policy_or_none, policy_from, policy_in_force, name_of, served}
+use Rattle.mediator_history.specs.Accepted.{AcceptedRecord, accepted_at}
 use Rattle.mediator_history.specs.Counting.{clock_in, timing_at, outcome_for}
 use Rattle.mediator_history.specs.Disclosed.{given_at}
-use Rattle.mediator_history.specs.Auditing.{reason_named, removed_of, told_of, kept_back, audit_entry, audit_of, audit_at, audit_list}
+use Rattle.mediator_history.specs.Auditing.{removed_of, told_of, kept_back, audit_entry, audit_of, audit_at, audit_list}
 use Rattle.mediator_history.specs.Cuts.{is_cut_by}
 use Rattle.mediator_offline.specs.declared.job.OfflineJob.{OfflineJob}
-use Rattle.mediator_offline.specs.Offline.{started, stream_limits, next_message, cuts_by, after_message, history_of, disclosed_by}
+use Rattle.mediator_offline.specs.Offline.{first_entries, stream_limits, next_message, cuts_by, after_message, history_of, disclosed_by}
 use Rattle.mediator_offline.specs.Unclosed.{passing_at, passing_by, IsNotLate}
 
 -- ---- the clock
@@ -53,7 +55,7 @@ none_after [] h none = none
 none_after (octets ∷ messages) h none = none_after messages (after_message h octets) (none_more h octets none)
 
 pub no_advance : (job : OfflineJob) (messages : List (List ℕ)) → HasNone clock_in (history_of job messages)
-no_advance job messages = none_after messages (started job) (refl, (refl, (refl, tt)))
+no_advance job messages = none_after messages (first_entries job) (refl, (refl, (refl, tt)))
 
 -- ---- what passes
 
@@ -82,7 +84,7 @@ intervals_of : (before aggregates : List Aggregate) → AreAggregates before agg
 intervals_of before [] are = tt
 intervals_of before (a ∷ aggregates) are = (are.0.ranged.interval_low, intervals_of (before ++ a ∷ []) aggregates are.1)
 
-edited_lasts : (e : Entry) (policy : Policy) → edited e ≡ Some policy → HaveIntervals policy.aggregates
+edited_lasts : (e : Entry) (policy : Policy) → policy_from e ≡ Some policy → HaveIntervals policy.aggregates
 edited_lasts (Edit text) policy is = by (policy_of text) refl is where
   by : (r : Result Policy PolicyFault) → policy_of text ≡ r → policy_or_none r ≡ Some policy → HaveIntervals policy.aggregates
   by (Ok q) read is = subst (λ p. HaveIntervals p.aggregates) same (intervals_of [] q.aggregates (spelled_kept q (lines_of text) (policy_of-found text q read)).aggregates) where
@@ -91,10 +93,10 @@ edited_lasts (Edit text) policy is = by (policy_of text) refl is where
   by (Err why) read is = absurd cc
 edited_lasts _ policy is = absurd cc
 
-last_lasts : (start : Policy) (h : List Entry) → HaveIntervals start.aggregates → HaveIntervals (last_of edited start h).aggregates
+last_lasts : (start : Policy) (h : List Entry) → HaveIntervals start.aggregates → HaveIntervals (last_of policy_from start h).aggregates
 last_lasts start [] lasts = lasts
-last_lasts start (e ∷ h) lasts = last_lasts (unwrap_or (edited e) start) h (by (edited e) refl) where
-  by : (o : Option Policy) → edited e ≡ o → HaveIntervals (unwrap_or o start).aggregates
+last_lasts start (e ∷ h) lasts = last_lasts (unwrap_or (policy_from e) start) h (by (policy_from e) refl) where
+  by : (o : Option Policy) → policy_from e ≡ o → HaveIntervals (unwrap_or o start).aggregates
   by None is = lasts
   by (Some policy) is = edited_lasts e policy is
 
@@ -123,7 +125,7 @@ timing_early (a ∷ aggregates) (suc place) r last late = timing_early aggregate
 
 -- what is said of a record isn't that it is late
 abbrev SaysOther : What → Type 0
-SaysOther what = (rule : ℕ) → what ≢ Withheld rule named.Late
+SaysOther said = (rule : ℕ) → said ≢ what.Withheld rule because.Late
 
 told_other : (rule : ℕ) (timing : Timing) → timing ≢ Late → SaysOther (told_of rule timing)
 told_other rule (Placed start) early other is = absurd cc
@@ -134,29 +136,33 @@ told_other rule Late early other is = early refl
 removed_other : (removed : List RemovedField) → AllByRecursion SaysOther (removed_of removed)
 removed_other [] = tt
 removed_other (field ∷ fields) = (λ rule is. absurd (no rule is), tt) where
-  no : (rule : ℕ) → Removed (field ∷ fields) ≡ Withheld rule named.Late → ⊥
+  no : (rule : ℕ) → what.Removed (field ∷ fields) ≡ what.Withheld rule because.Late → ⊥
   no rule is = absurd cc
 
-withheld_other : (rule : ℕ) (reason : Because) → SaysOther (Withheld rule (reason_named reason))
-withheld_other rule because.Rule other is = absurd cc
-withheld_other rule because.ScopeLost other is = absurd cc
-withheld_other rule because.Empty other is = absurd cc
+withheld_other : (rule : ℕ) (reason : Reason) → IsOfRules reason → SaysOther (what.Withheld rule reason)
+withheld_other rule because.Rule by other is = absurd cc
+withheld_other rule because.ScopeLost by other is = absurd cc
+withheld_other rule because.Empty by other is = absurd cc
+withheld_other rule because.NoTime by other is = by
+withheld_other rule because.NoKey by other is = by
+withheld_other rule because.Late by other is = by
 
-kept_other : (aggregates : List Aggregate) (r : DataRecord) (outcome : Outcome) → HaveIntervals aggregates → AllByRecursion SaysOther (kept_back aggregates 0 r outcome)
-kept_other aggregates r (Passes kept removed) last = removed_other removed
-kept_other aggregates r (Aggregates rule place) last = (told_other rule (timing_at aggregates place r 0) (timing_early aggregates place r last), tt)
-kept_other aggregates r (Withholds rule reason) last = (withheld_other rule reason, tt)
+kept_other : (aggregates : List Aggregate) (r : DataRecord) (outcome : Outcome) → HaveIntervals aggregates → IsByRules outcome → AllByRecursion SaysOther (kept_back aggregates 0 r outcome)
+kept_other aggregates r (Passed kept removed) last by = removed_other removed
+kept_other aggregates r (Aggregated rule place) last by = (told_other rule (timing_at aggregates place r 0) (timing_early aggregates place r last), tt)
+kept_other aggregates r (Withheld rule reason) last by = (withheld_other rule reason by, tt)
 
 stamped : (position index sub : ℕ) (said : List What) → AllByRecursion SaysOther said → AllByRecursion IsNotLate (map (audit_entry position index sub) said)
 stamped position index sub [] other = tt
-stamped position index sub (what ∷ said) other = (other.0, stamped position index sub said other.1)
+stamped position index sub (one ∷ said) other = (other.0, stamped position index sub said other.1)
 
-noted : (before : List Entry) (a : Accepted) (sub : ℕ) → HasNone clock_in before → AllByRecursion IsNotLate (audit_of before a sub)
+noted : (before : List Entry) (a : AcceptedRecord) (sub : ℕ) → HasNone clock_in before → AllByRecursion IsNotLate (audit_of before a sub)
 noted before a sub none =
     let P : ℕ → Type 0 = λ clock. AllByRecursion IsNotLate (map (audit_entry a.position a.index sub) (kept_back (policy_in_force before).aggregates clock a.flow (outcome_for sub before a.domain a.flow))) in
     subst P (sym (last_of-none clock_in 0 before none))
     (stamped a.position a.index sub (kept_back (policy_in_force before).aggregates 0 a.flow (outcome_for sub before a.domain a.flow))
-    (kept_other (policy_in_force before).aggregates a.flow (outcome_for sub before a.domain a.flow) (intervals_in_force before)))
+    (kept_other (policy_in_force before).aggregates a.flow (outcome_for sub before a.domain a.flow) (intervals_in_force before)
+    (reasons_are_of_rules (name_of sub before) a.domain a.flow (policy_in_force before).rules)))
 
 all_flat : {X A : Type 0} (P : A → Type 0) (f : X → List A) → ((x : X) → AllByRecursion P (f x)) → (xs : List X) → AllByRecursion P (flat_map f xs)
 all_flat P f each [] = tt
@@ -167,7 +173,7 @@ noted_at before (Message session number octets) none =
     all_flat IsNotLate (λ a. flat_map (audit_of before a) (served before)) (λ a. all_flat IsNotLate (audit_of before a) (λ sub. noted before a sub none) (served before))
     (accepted_at before (Message session number octets))
 noted_at before (Cut sub) none = (λ rule is. absurd (no rule is), tt) where
-  no : (rule : ℕ) → CutOff ≡ Withheld rule named.Late → ⊥
+  no : (rule : ℕ) → what.Cut ≡ what.Withheld rule because.Late → ⊥
   no rule is = absurd cc
 noted_at before _ none = tt
 

@@ -3,7 +3,7 @@ use Rattle.std.specs.Prelude.{◌≡◌, ℕ, List, [], ◌∷◌, ◌++◌, len
 use Rattle.subscriber_stream.specs.Parts.{parts}
 use Rattle.mediator_offline.specs.declared.job.OfflineJob.{OfflineJob}
 use Rattle.mediator_offline.specs.Offline.{disclosed_by}
-use Rattle.mediator_offline.specs.HandsOut.{HandsOut}
+use Rattle.mediator_offline.specs.HandsOut.{HandsOutAll}
 
 -- the place behind all parts of what messages disclose
 abbrev pub end_by : OfflineJob → List (List ℕ) → ℕ
@@ -16,5 +16,5 @@ abbrev pub AreDue : OfflineJob → List (List ℕ) → ℕ → List (List ℕ) �
 AreDue job before p [] written = written ≡ []
 AreDue job before p (octets ∷ messages) written =
     (next later : List (List ℕ)) × (written ≡ next ++ later)
-    × HandsOut (disclosed_by job (before ++ octets ∷ [])) job.now job.target p next (end_by job (before ++ octets ∷ []))
+    × HandsOutAll (disclosed_by job (before ++ octets ∷ [])) job.now job.target p next (end_by job (before ++ octets ∷ []))
     × AreDue job (before ++ octets ∷ []) (end_by job (before ++ octets ∷ [])) messages later

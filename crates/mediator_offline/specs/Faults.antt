@@ -1,12 +1,12 @@
 -- What an intake's refusal is called here.
 use Rattle.mediator_state.specs.declared.fault.Fault.TheVariants as fault
-use Rattle.ipfix_reader.specs.declared.fault.IntakeFault.{IntakeFault}
-use Rattle.ipfix_reader.specs.declared.fault.IntakeFault.TheVariants as intake
-use Rattle.mediator_offline.specs.declared.job.OfflineFault.{OfflineFault}
-use Rattle.mediator_offline.specs.declared.job.OfflineFault.TheVariants.{Read, Framing, Turns, Core}
+use Rattle.ipfix_reader.specs.declared.fault.Fault.{Fault as IntakeFault}
+use Rattle.ipfix_reader.specs.declared.fault.Fault.TheVariants as intake
+use Rattle.mediator_offline.specs.declared.job.Fault.{Fault}
+use Rattle.mediator_offline.specs.declared.job.Fault.TheVariants.{Read, Framing, Turns, Mediator}
 
-abbrev pub intake_refusal : IntakeFault → OfflineFault
+abbrev pub intake_refusal : IntakeFault → Fault
 intake_refusal intake.Read = Read
 intake_refusal (intake.Framing why) = Framing why
 intake_refusal intake.Turns = Turns
-intake_refusal intake.OutOfMemory = Core fault.OutOfMemory
+intake_refusal intake.OutOfMemory = Mediator fault.OutOfMemory

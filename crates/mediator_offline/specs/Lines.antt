@@ -14,7 +14,7 @@ abbrev pub lines_for : Bool → List AuditEntry → List ℕ
 lines_for asked entries = if asked then lines_of entries else []
 
 -- a front of these octets was written
-pub record WritesSome (held holds : Option (List ℕ)) (octets : List ℕ) : Type 0 where
+pub record WritesBeginning (held holds : Option (List ℕ)) (octets : List ℕ) : Type 0 where
   pub count : ℕ
   pub within : count ≤ length octets
   pub written : Appends held holds (take count octets)

@@ -2,7 +2,7 @@
 use Rattle.std.specs.Prelude.{ℕ, zero, suc, List, [], ◌∷◌, ◌++◌, length, fold, Option, Some, None}
 use Rattle.sequences.specs.Before.{each_with_before}
 use Rattle.ipfix_template.specs.DataRecord.{DataRecord}
-use Rattle.subscriber_stream.specs.declared.limits.Limits.{Limits}
+use Rattle.subscriber_stream.specs.declared.limits.StreamLimits.{StreamLimits}
 use Rattle.subscriber_stream.specs.declared.limits.TheConstants.{MOST_SHAPES}
 use Rattle.subscriber_stream.specs.Parts.{parts}
 use Rattle.subscriber_stream.specs.Message.{built, place_after}
@@ -19,7 +19,7 @@ use Rattle.mediator_history.specs.Cuts.{cuts_before}
 use Rattle.mediator_state.specs.declared.state.TheConstants.{DEFAULT_AUDIT, DEFAULT_QUEUE}
 
 -- how many records may wait for a subscriber, and how many shapes its records may have
-abbrev pub stream_limits : Limits
+abbrev pub stream_limits : StreamLimits
 stream_limits = record { queue = DEFAULT_QUEUE; shapes = MOST_SHAPES }
 
 -- how many audit entries may wait
@@ -31,12 +31,12 @@ abbrev pub journal_limits : Journaled
 journal_limits = record { entries = MOST_ENTRIES; octets = MOST_OCTETS }
 
 -- the policy comes first
-abbrev pub edited : OfflineJob → List Entry
-edited job = Edit job.policy.now ∷ []
+abbrev pub first_edit : OfflineJob → List Entry
+first_edit job = Edit job.policy.now ∷ []
 
 -- before the first message: the policy, the subscription and the session
-abbrev pub started : OfflineJob → List Entry
-started job = Edit job.policy.now ∷ Subscribe 1 job.name.now ∷ Open 1 ∷ []
+abbrev pub first_entries : OfflineJob → List Entry
+first_entries job = Edit job.policy.now ∷ Subscribe 1 job.name.now ∷ Open 1 ∷ []
 
 -- the entry of the session's next message
 abbrev pub next_message : List Entry → List ℕ → Entry
@@ -52,7 +52,7 @@ after_message h octets = h ++ (cuts_by h octets ++ next_message h octets ∷ [])
 
 -- the history after messages
 abbrev pub history_of : OfflineJob → List (List ℕ) → List Entry
-history_of job messages = fold after_message (started job) messages
+history_of job messages = fold after_message (first_entries job) messages
 
 -- what messages disclose to the subscriber
 abbrev pub disclosed_by : OfflineJob → List (List ℕ) → List DataRecord
@@ -63,13 +63,13 @@ and_then None others = []
 and_then (Some message) others = message ∷ others
 
 -- the messages that pulls with this Export Time and target give one after another, from place p on, at most so many
-abbrev pub pulled : ℕ → List DataRecord → ℕ → ℕ → ℕ → List (List ℕ)
-pulled zero records p now target = []
-pulled (suc most) records p now target = and_then (built records p now target) (pulled most records (place_after records p target) now target)
+abbrev pub messages_pulled : ℕ → List DataRecord → ℕ → ℕ → ℕ → List (List ℕ)
+messages_pulled zero records p now target = []
+messages_pulled (suc most) records p now target = and_then (built records p now target) (messages_pulled most records (place_after records p target) now target)
 
 -- all of them, to the end: each takes a part or more
 abbrev pub pulled_to_end : List DataRecord → ℕ → ℕ → ℕ → List (List ℕ)
-pulled_to_end records p now target = pulled (length (parts records)) records p now target
+pulled_to_end records p now target = messages_pulled (length (parts records)) records p now target
 
 -- the messages that become due by one message more: they are pulled from where the earlier ones ended
 abbrev pub due_by : OfflineJob → List (List ℕ) → List ℕ → List (List ℕ)

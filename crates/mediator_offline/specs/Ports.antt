@@ -23,5 +23,5 @@ abbrev pub with_left : Option (List ℕ) → Bool → Outputs → Ports
 with_left left reader_failed outputs = record { left = left; reader_failed = reader_failed; outputs = outputs }
 
 -- ports of which none has failed
-abbrev pub unfailed : Option (List ℕ) → Option (List ℕ) → Option (List ℕ) → Ports
-unfailed left written audited = with_left left false (holding written audited false false)
+abbrev pub sound_ports : Option (List ℕ) → Option (List ℕ) → Option (List ℕ) → Ports
+sound_ports left written audited = with_left left false (holding written audited false false)

@@ -8,44 +8,44 @@ use Rattle.octet_io.specs.Written.{WritesFront}
 use Rattle.event_journal.specs.declared.entry.Entry.{Entry}
 use Rattle.mediator_history.specs.Disclosed.{disclosed}
 use Rattle.mediator_state.specs.declared.fault.Fault.TheVariants as fault
-use Rattle.mediator_offline.specs.declared.job.OfflineFault.{OfflineFault}
-use Rattle.mediator_offline.specs.declared.job.OfflineFault.TheVariants.{Write, Core}
-use Rattle.mediator_offline.specs.declared.run.Run.{Run}
-use Rattle.mediator_offline.specs.Runs.{Stands, Small, KeepsAudit}
-use Rattle.mediator_offline.specs.HandsOut.{HandsOut}
+use Rattle.mediator_offline.specs.declared.job.Fault.{Fault}
+use Rattle.mediator_offline.specs.declared.job.Fault.TheVariants.{Write, Mediator}
+use Rattle.mediator_offline.specs.declared.run.OfflineRun.{OfflineRun}
+use Rattle.mediator_offline.specs.Runs.{RunStands, Small, KeepsAudit}
+use Rattle.mediator_offline.specs.HandsOut.{HandsOutAll}
 use Rattle.mediator_offline.specs.Offline.{end_of}
 
 -- a run that stands somewhere in what it discloses, and counts what it has written
-pub record IsDelivering (d : Run) : Type 0 where
+pub record IsDeliveringRun (d : OfflineRun) : Type 0 where
   pub history : List Entry
   pub place : ℕ
-  pub stands : Stands d history place
+  pub stands : RunStands d history place
   pub small : Small history
   pub sent : d.sent ≤ longest_message * place
 
 -- what a pull answers, and the place that it leaves
-pub record Pulls (old : Run) (answer : Option (List ℕ)) (new : Run) : Type 0 where
-  pub message : (h : List Entry) (p : ℕ) → Stands old h p → answer ≡ built (disclosed 1 h) p old.job.now old.job.target
-  pub stands : (h : List Entry) (p : ℕ) → Stands old h p → Stands new h (place_after (disclosed 1 h) p old.job.target)
+pub record PullsMessage (old : OfflineRun) (answer : Option (List ℕ)) (new : OfflineRun) : Type 0 where
+  pub message : (h : List Entry) (p : ℕ) → RunStands old h p → answer ≡ built (disclosed 1 h) p old.job.now old.job.target
+  pub stands : (h : List Entry) (p : ℕ) → RunStands old h p → RunStands new h (place_after (disclosed 1 h) p old.job.target)
 
 -- all that waited was written
-pub record Delivers (old new : Run) (held holds : Option (List ℕ)) : Type 0 where
+pub record Delivers (old new : OfflineRun) (held holds : Option (List ℕ)) : Type 0 where
   pub job : new.job ≡ old.job
   pub audit : KeepsAudit old new
   pub messages : List (List ℕ)
-  pub handed : (h : List Entry) (p : ℕ) → Stands old h p → Small h → HandsOut (disclosed 1 h) old.job.now old.job.target p messages (end_of h) × Stands new h (end_of h)
+  pub handed : (h : List Entry) (p : ℕ) → RunStands old h p → Small h → HandsOutAll (disclosed 1 h) old.job.now old.job.target p messages (end_of h) × RunStands new h (end_of h)
   pub written : Appends held holds (concat messages)
   pub sent : new.sent ≡ old.sent + length (concat messages)
-  pub few : (p : ℕ) → old.sent ≤ longest_message * p → (h : List Entry) → Stands old h p → Small h → new.sent ≤ longest_message * end_of h
+  pub few : (p : ℕ) → old.sent ≤ longest_message * p → (h : List Entry) → RunStands old h p → Small h → new.sent ≤ longest_message * end_of h
 
 -- a front of the messages that waited was written: whole ones where memory ran out, and up to an octet where the writer
 -- failed
-abbrev pub StopsDelivery : OfflineFault → Run → Option (List ℕ) → Option (List ℕ) → Bool → List (List ℕ) → Type 0
+abbrev pub StopsDelivery : Fault → OfflineRun → Option (List ℕ) → Option (List ℕ) → Bool → List (List ℕ) → Type 0
 StopsDelivery (Write sent) old held holds failed messages = (n : ℕ) × (sent ≡ old.sent + n) × WritesFront held holds (concat messages) n failed
-StopsDelivery (Core fault.OutOfMemory) old held holds failed messages = Appends held holds (concat messages)
+StopsDelivery (Mediator fault.OutOfMemory) old held holds failed messages = Appends held holds (concat messages)
 StopsDelivery _ old held holds failed messages = ⊥
 
-pub record FailsDelivery (e : OfflineFault) (old : Run) (held holds : Option (List ℕ)) (failed : Bool) : Type 0 where
+pub record FailsDelivery (e : Fault) (old : OfflineRun) (held holds : Option (List ℕ)) (failed : Bool) : Type 0 where
   pub messages : List (List ℕ)
-  pub handed : (h : List Entry) (p : ℕ) → Stands old h p → Small h → (q : ℕ) × HandsOut (disclosed 1 h) old.job.now old.job.target p messages q
+  pub handed : (h : List Entry) (p : ℕ) → RunStands old h p → Small h → (q : ℕ) × HandsOutAll (disclosed 1 h) old.job.now old.job.target p messages q
   pub stops : StopsDelivery e old held holds failed messages

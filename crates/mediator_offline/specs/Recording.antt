@@ -1,24 +1,24 @@
 -- What recording does to a run, and where it stops.
 use Rattle.std.specs.Prelude.{◌≡◌, Bool, true, List, []}
 use Rattle.mediator_state.specs.declared.fault.Fault.TheVariants as fault
-use Rattle.mediator_offline.specs.declared.job.OfflineFault.{OfflineFault}
-use Rattle.mediator_offline.specs.declared.job.OfflineFault.TheVariants.{Core, AuditWrite}
+use Rattle.mediator_offline.specs.declared.job.Fault.{Fault}
+use Rattle.mediator_offline.specs.declared.job.Fault.TheVariants.{Mediator, AuditWrite}
 use Rattle.event_journal.specs.declared.entry.Entry.{Entry}
-use Rattle.mediator_state.specs.Calls.{StandsFor}
+use Rattle.mediator_state.specs.Calls.{StateStandsFor}
 use Rattle.mediator_state.specs.Seen.{place_of}
-use Rattle.mediator_offline.specs.declared.run.Run.{Run}
+use Rattle.mediator_offline.specs.declared.run.OfflineRun.{OfflineRun}
 use Rattle.mediator_offline.specs.Runs.{tells, audit_waiting, SameButState}
 
 -- the audit was drained
-pub record Records (old new : Run) : Type 0 where
+pub record Records (old new : OfflineRun) : Type 0 where
   pub same : SameButState old new
   pub sent : new.sent ≡ old.sent
   pub place : place_of new.state.engine 1 ≡ place_of old.state.engine 1
-  pub stands : (h : List Entry) → StandsFor tells old.state h → StandsFor tells new.state h
+  pub stands : (h : List Entry) → StateStandsFor tells old.state h → StateStandsFor tells new.state h
   pub quiet : audit_waiting new ≡ []
 
 -- lines stop where their writer failed, or memory ran out
-abbrev pub StopsLines : OfflineFault → Bool → Type 0
+abbrev pub StopsLines : Fault → Bool → Type 0
 StopsLines AuditWrite failed = failed ≡ true
-StopsLines (Core fault.OutOfMemory) failed = Unit {0}
+StopsLines (Mediator fault.OutOfMemory) failed = Unit {0}
 StopsLines _ failed = ⊥

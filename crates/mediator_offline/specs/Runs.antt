@@ -6,39 +6,39 @@ use Rattle.stream_meaning.specs.Served.{AreStreamable}
 use Rattle.disclosure_audit.specs.declared.entry.AuditEntry.{AuditEntry}
 use Rattle.event_journal.specs.declared.limits.TheConstants.{MOST_ENTRIES, MOST_OCTETS}
 use Rattle.event_journal.specs.declared.entry.Entry.{Entry}
-use Rattle.event_journal.specs.Counted.{Counted}
+use Rattle.event_journal.specs.Counted.{CountedEntries}
 use Rattle.event_journal.specs.Sizes.{history_octets, IsCountOf}
 use Rattle.mediator_history.specs.Sessions.{is_open, messages_of}
 use Rattle.mediator_history.specs.Subscriptions.{is_served, subscribed_in}
 use Rattle.mediator_history.specs.Accepted.{accepted}
 use Rattle.mediator_history.specs.Disclosed.{disclosed}
-use Rattle.mediator_state.specs.Calls.{StandsFor}
+use Rattle.mediator_state.specs.Calls.{StateStandsFor}
 use Rattle.mediator_state.specs.Seen.{place_of}
-use Rattle.mediator_offline.specs.declared.run.Run.{Run}
+use Rattle.mediator_offline.specs.declared.run.OfflineRun.{OfflineRun}
 use Rattle.mediator_offline.specs.Offline.{stream_limits, audit_limit, journal_limits}
 
--- a tally tells each history that has its sizes
-abbrev pub tells : Counted → List Entry → Type 0
+-- sizes tell each history that has them
+abbrev pub tells : CountedEntries → List Entry → Type 0
 tells t h = IsCountOf h t.count t.octets
 
 -- the entries of the audit that wait
-abbrev pub audit_waiting : Run → List AuditEntry
+abbrev pub audit_waiting : OfflineRun → List AuditEntry
 audit_waiting d = d.state.engine.audit.standing.entries
 
 -- how many entries of the audit were drained
-abbrev pub audit_drained : Run → ℕ
+abbrev pub audit_drained : OfflineRun → ℕ
 audit_drained d = d.state.engine.audit.standing.drained
 
 -- how much the mediator may hold
-pub record IsLimited (d : Run) : Type 0 where
+pub record IsLimited (d : OfflineRun) : Type 0 where
   pub limits : d.state.engine.limits ≡ stream_limits
   pub audit : d.state.engine.audit.limit ≡ audit_limit
   pub journal : d.state.chronicle.limits ≡ journal_limits
 
 -- the run stands for a history of the session 1 with the subscription 1 alone, which is served; the records up to place p of
 -- the parts of what is disclosed to it were handed out
-pub record Stands (d : Run) (h : List Entry) (p : ℕ) : Type 0 where
-  pub state : StandsFor tells d.state h
+pub record RunStands (d : OfflineRun) (h : List Entry) (p : ℕ) : Type 0 where
+  pub state : StateStandsFor tells d.state h
   pub place : place_of d.state.engine 1 ≡ p
   pub serving : is_served 1 h ≡ true
   pub alone : flat_map subscribed_in h ≡ 1 ∷ []
@@ -57,18 +57,18 @@ pub record Small (h : List Entry) : Type 0 where
   pub streamable : AreStreamable (disclosed 1 h)
 
 -- a run that stands somewhere
-pub record IsServing (d : Run) : Type 0 where
+pub record IsServing (d : OfflineRun) : Type 0 where
   pub history : List Entry
   pub place : ℕ
-  pub stands : Stands d history place
+  pub stands : RunStands d history place
 
 -- a run whose state stands for some history
-pub record HasHistory (d : Run) : Type 0 where
+pub record RunHasHistory (d : OfflineRun) : Type 0 where
   pub history : List Entry
-  pub state : StandsFor tells d.state history
+  pub state : StateStandsFor tells d.state history
 
 -- all but the history, what was handed out and drained, and the octets written is the same
-pub record SameButState (d e : Run) : Type 0 where
+pub record SameButState (d e : OfflineRun) : Type 0 where
   pub job : e.job ≡ d.job
   pub messages : e.messages ≡ d.messages
   pub records : e.records ≡ d.records
@@ -77,6 +77,6 @@ pub record SameButState (d e : Run) : Type 0 where
   pub journal : e.state.chronicle.limits ≡ d.state.chronicle.limits
 
 -- the audit is as it was
-pub record KeepsAudit (d e : Run) : Type 0 where
+pub record KeepsAudit (d e : OfflineRun) : Type 0 where
   pub drained : audit_drained e ≡ audit_drained d
   pub waiting : audit_waiting e ≡ audit_waiting d

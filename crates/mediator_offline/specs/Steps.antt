@@ -2,29 +2,29 @@
 use Rattle.std.specs.Prelude.{◌≡◌, ℕ, Bool, true, false, List, [], ◌∷◌}
 use Rattle.event_journal.specs.declared.entry.Entry.{Entry}
 use Rattle.event_journal.specs.declared.entry.Entry.TheVariants.{Cut}
-use Rattle.mediator_state.specs.declared.fault.Fault.{Fault}
-use Rattle.mediator_state.specs.Calls.{StandsFor}
-use Rattle.mediator_offline.specs.declared.run.Run.{Run}
+use Rattle.mediator_state.specs.declared.fault.Fault.{Fault as MediatorFault}
+use Rattle.mediator_state.specs.Calls.{StateStandsFor}
+use Rattle.mediator_offline.specs.declared.run.OfflineRun.{OfflineRun}
 use Rattle.mediator_offline.specs.Offline.{cuts_by, after_message}
-use Rattle.mediator_offline.specs.Runs.{tells, audit_waiting, audit_drained, Stands, Small}
+use Rattle.mediator_offline.specs.Runs.{tells, audit_waiting, audit_drained, RunStands, Small}
 use Rattle.mediator_offline.specs.Offline.{end_of}
-use Rattle.mediator_offline.specs.Accepting.{Accepts}
-use Rattle.mediator_offline.specs.Accepting.{RefusesMessage}
+use Rattle.mediator_offline.specs.Accepting.{AcceptsMessage}
+use Rattle.mediator_offline.specs.Accepting.{RefusesOctets}
 
 -- a run that has handed out all that was disclosed, and drained the audit
-pub record HasDelivered (d : Run) : Type 0 where
+pub record HasDelivered (d : OfflineRun) : Type 0 where
   pub history : List Entry
-  pub stands : Stands d history (end_of history)
+  pub stands : RunStands d history (end_of history)
   pub small : Small history
   pub quiet : audit_waiting d ≡ []
 
 -- what an accepted message does: it cuts the subscription, and then the audit goes on by the cut; or the run stands for
 -- the history with the message
-pub record Receives (old : Run) (octets : List ℕ) (is_cut : Bool) (new : Run) : Type 0 where
-  pub accepts : (h : List Entry) → Stands old h (end_of h) → Small h → Accepts h octets
-  pub cuts : (h : List Entry) → Stands old h (end_of h) → Small h → is_cut ≡ true → (cuts_by h octets ≡ Cut 1 ∷ []) × StandsFor tells new.state (after_message h octets)
+pub record TakesMessage (old : OfflineRun) (octets : List ℕ) (is_cut : Bool) (new : OfflineRun) : Type 0 where
+  pub accepts : (h : List Entry) → RunStands old h (end_of h) → Small h → AcceptsMessage h octets
+  pub cuts : (h : List Entry) → RunStands old h (end_of h) → Small h → is_cut ≡ true → (cuts_by h octets ≡ Cut 1 ∷ []) × StateStandsFor tells new.state (after_message h octets)
   pub drained : audit_drained new ≡ audit_drained old
-  pub goes_on : (h : List Entry) → Stands old h (end_of h) → Small h → is_cut ≡ false → (cuts_by h octets ≡ []) × Stands new (after_message h octets) (end_of h) × Small (after_message h octets)
+  pub goes_on : (h : List Entry) → RunStands old h (end_of h) → Small h → is_cut ≡ false → (cuts_by h octets ≡ []) × RunStands new (after_message h octets) (end_of h) × Small (after_message h octets)
 
-pub record Refuses (e : Fault) (old : Run) (octets : List ℕ) : Type 0 where
-  pub after : (h : List Entry) → Stands old h (end_of h) → Small h → RefusesMessage e h octets
+pub record RunRefuses (e : MediatorFault) (old : OfflineRun) (octets : List ℕ) : Type 0 where
+  pub after : (h : List Entry) → RunStands old h (end_of h) → Small h → RefusesOctets e h octets

@@ -2,18 +2,18 @@
 ghost use Rattle.std.specs.Prelude.{◌≡◌, false, IfOk, IfErr, OnOk};
 ghost use Rattle.mediator_offline.specs.Ports.{holding, with_left};
 ghost use Rattle.mediator_offline.specs.Failing.{FailsOnly};
-ghost use Rattle.mediator_offline.specs.Running.{Runs};
+ghost use Rattle.mediator_offline.specs.Running.{RunsSomewhere};
 ghost use Rattle.mediator_offline.specs.Reaching.{HandlesAll, StopsAmong};
 
-use crate::job::{OfflineFault, OfflineJob, OfflineReport};
-use crate::run::{Run, SUBSCRIPTION};
+use crate::job::{Fault, OfflineJob, OfflineReport};
+use crate::run::{OfflineRun, SUBSCRIPTION};
 use bytes::Bytes;
 use ipfix_reader::Intake;
-use mediator_state::Fault;
+use mediator_state::Fault as MediatorFault;
 use octet_io::{Sink, Source};
 use std::alloc::Global;
 
-impl<'a> Run<'a> {
+impl<'a> OfflineRun<'a> {
     /// Handles messages, one after another, with `writer` for the subscriber's messages and `audit_writer` for the audit.
     ///
     /// # Errors
@@ -23,8 +23,8 @@ impl<'a> Run<'a> {
         messages: Vec<Bytes>,
         writer: &mut W,
         audit_writer: &mut A,
-    ) -> Result<(), OfflineFault>
-        requires running { Runs self.old
+    ) -> Result<(), Fault>
+        requires running { RunsSomewhere self.old
             (holding (W.contents writer.old) (A.contents audit_writer.old)
             (W.has_failed writer.old) (A.has_failed audit_writer.old)) }
         // Each message was handled.
@@ -55,11 +55,11 @@ impl<'a> Run<'a> {
 }
 
 ghost use Rattle.ipfix_reader.specs.Intake.{nothing_read};
-ghost use Rattle.mediator_offline.specs.Running.{IsOpened};
+ghost use Rattle.mediator_offline.specs.Running.{IsRunOpened};
 ghost use Rattle.mediator_offline.specs.Reaching.{ReachesEnd};
 ghost use Rattle.mediator_offline.specs.Filtering.{StopsSomewhere};
 
-impl<'a> Run<'a> {
+impl<'a> OfflineRun<'a> {
     /// Reads the stream to its end by `intake`, and handles its messages.
     ///
     /// # Errors
@@ -71,8 +71,8 @@ impl<'a> Run<'a> {
         reader: &mut R,
         writer: &mut W,
         audit_writer: &mut A,
-    ) -> Result<(), OfflineFault>
-        requires opened { IsOpened self.old self.old.job }
+    ) -> Result<(), Fault>
+        requires opened { IsRunOpened self.old self.old.job }
         requires intake { intake.old ≡ nothing_read self.old.job.turns }
         requires reader { R.has_failed reader.old ≡ false }
         // The stream was read to its end, and each message was handled.
@@ -113,15 +113,15 @@ ghost use Rattle.std.specs.Prelude.{ℕ, List, length, take};
 ghost use Rattle.subscriber_stream.specs.Parts.{parts, records_in};
 ghost use Rattle.event_journal.specs.declared.entry.Entry.{Entry};
 ghost use Rattle.mediator_history.specs.Disclosed.{disclosed};
-ghost use Rattle.mediator_offline.specs.Runs.{IsServing, Stands};
+ghost use Rattle.mediator_offline.specs.Runs.{IsServing, RunStands};
 
-impl<'a> Run<'a> {
+impl<'a> OfflineRun<'a> {
     /// How much was read, accepted and written.
     fn report(&self) -> OfflineReport
         requires serving { IsServing self.now }
         ensures messages { result.messages ≡ self.now.messages }
         ensures records { result.records ≡ self.now.records }
-        ensures disclosed { (h : List Entry) (p : ℕ) → Stands self.now h p
+        ensures disclosed { (h : List Entry) (p : ℕ) → RunStands self.now h p
             → result.disclosed ≡ length (records_in (take p (parts (disclosed 1 h)))) }
     {
         let disclosed = match self.state.status(SUBSCRIPTION) {
@@ -136,7 +136,7 @@ impl<'a> Run<'a> {
     }
 }
 
-ghost use Rattle.mediator_offline.specs.Ports.{unfailed};
+ghost use Rattle.mediator_offline.specs.Ports.{sound_ports};
 ghost use Rattle.mediator_offline.specs.Filtering.{FiltersAll, FailsToFilter};
 
 /// Filters one stream for one subscriber, and answers how much was read, accepted and written. It reads the messages of an
@@ -148,9 +148,9 @@ ghost use Rattle.mediator_offline.specs.Filtering.{FiltersAll, FailsToFilter};
 /// 131,072 audit entries of one message, and a journal of 100,000,000 entries and 2^40 octets, though none is kept.
 ///
 /// # Errors
-/// `Core` where the policy or the name of the job is refused: then nothing was read. Else the run stops at `Read`, `Write` or
+/// `Mediator` where the policy or the name of the job is refused: then nothing was read. Else the run stops at `Read`, `Write` or
 /// `AuditWrite`, where that device fails; at `Framing`, where the stream is faulty or ends inside a message; at `Turns`, where it
-/// doesn't end within the job's reads; at `Core`, where a message is refused or memory runs out; or at `Cut`, where a message
+/// doesn't end within the job's reads; at `Mediator`, where a message is refused or memory runs out; or at `Cut`, where a message
 /// cuts the subscriber. What is due for all messages before that one was written, and what more of it may have been is said with
 /// each fault.
 ///
@@ -186,13 +186,13 @@ pub fn offline<R: Source, W: Sink, A: Sink>(
     reader: &mut R,
     writer: &mut W,
     audit_writer: &mut A,
-) -> Result<OfflineReport, OfflineFault>
+) -> Result<OfflineReport, Fault>
     requires reader { R.has_failed reader.old ≡ false }
     requires writer { W.has_failed writer.old ≡ false }
     requires audit { A.has_failed audit_writer.old ≡ false }
     // All was read and accepted, what is due was written, and it means what is disclosed.
     ensures filters { IfOk result (λ report. FiltersAll job.entry.now report
-        (unfailed (R.remaining reader.old) (W.contents writer.old) (A.contents audit_writer.old))
+        (sound_ports (R.remaining reader.old) (W.contents writer.old) (A.contents audit_writer.old))
         (record {
           left = R.remaining reader.new;
           reader_failed = R.has_failed reader.new;
@@ -205,7 +205,7 @@ pub fn offline<R: Source, W: Sink, A: Sink>(
         })) }
     // Where it stopped, by what cause, and what was written by then.
     ensures stops { IfErr result (λ e. FailsToFilter e job.entry.now
-        (unfailed (R.remaining reader.old) (W.contents writer.old) (A.contents audit_writer.old))
+        (sound_ports (R.remaining reader.old) (W.contents writer.old) (A.contents audit_writer.old))
         (record {
           left = R.remaining reader.new;
           reader_failed = R.has_failed reader.new;
@@ -222,9 +222,9 @@ pub fn offline<R: Source, W: Sink, A: Sink>(
     ensures fails { IfErr result (λ e. FailsOnly e false false
         (R.has_failed reader.new) (W.has_failed writer.new) (A.has_failed audit_writer.new)) }
 {
-    let mut run = Run::open(alloc, *job)?;
+    let mut run = OfflineRun::open(alloc, *job)?;
     let Ok(mut intake) = Intake::new(alloc, job.turns) else {
-        return Err(OfflineFault::Core(Fault::OutOfMemory));
+        return Err(Fault::Mediator(MediatorFault::OutOfMemory));
     };
     run.read_stream(&mut intake, reader, writer, audit_writer)?;
     Ok(run.report())

@@ -2,14 +2,14 @@
 ghost use Rattle.std.specs.Prelude.{◌≡◌, false, IfErr, OnOk};
 ghost use Rattle.mediator_offline.specs.Ports.{holding};
 ghost use Rattle.mediator_offline.specs.Failing.{FailsOnly};
-ghost use Rattle.mediator_offline.specs.Running.{Runs, HandlesOn, StopsOn};
+ghost use Rattle.mediator_offline.specs.Running.{RunsSomewhere, HandlesOn, StopsOn};
 
-use crate::job::OfflineFault;
-use crate::run::Run;
+use crate::job::Fault;
+use crate::run::OfflineRun;
 use bytes::Bytes;
 use octet_io::Sink;
 
-impl<'a> Run<'a> {
+impl<'a> OfflineRun<'a> {
     /// Accepts `message`, writes what it gives the subscriber to `writer`, and then what the audit says of it to `audit_writer`.
     ///
     /// # Errors
@@ -19,8 +19,8 @@ impl<'a> Run<'a> {
         message: Bytes,
         writer: &mut W,
         audit_writer: &mut A,
-    ) -> Result<(), OfflineFault>
-        requires running { Runs self.old
+    ) -> Result<(), Fault>
+        requires running { RunsSomewhere self.old
             (holding (W.contents writer.old) (A.contents audit_writer.old)
             (W.has_failed writer.old) (A.has_failed audit_writer.old)) }
         // The message was accepted, and what is due for it was written.
@@ -45,7 +45,7 @@ impl<'a> Run<'a> {
     {
         if self.receive(message)? {
             self.record(audit_writer)?;
-            return Err(OfflineFault::Cut);
+            return Err(Fault::Cut);
         }
         self.deliver(writer)?;
         self.record(audit_writer)?;

@@ -1,7 +1,7 @@
 //! What `offline` is asked for, and what it answers: a report or a fault.
 
-use ipfix_reader::{FramingFault, IntakeFault};
-use mediator_state::Fault;
+use ipfix_reader::{Fault as IntakeFault, FramingFault};
+use mediator_state::Fault as MediatorFault;
 use std::error::Error;
 use std::fmt::{self, Display, Formatter, Write};
 
@@ -35,7 +35,7 @@ pub struct OfflineReport {
 
 /// Why a stream was not read to its end. Its text is its name.
 #[derive(Clone, Copy, Debug, PartialEq, Eq)]
-pub enum OfflineFault {
+pub enum Fault {
     /// The reader failed.
     Read,
     /// The writer failed, when `sent` octets of the whole run had been written.
@@ -45,16 +45,16 @@ pub enum OfflineFault {
     /// As many reads were made as the job allows, and the end was not read.
     Turns,
     /// The mediator refused the job, or a message; or memory ran out.
-    Core(Fault),
+    Mediator(MediatorFault),
     /// The subscription was cut: a message would have given it records with more templates than it may use.
     Cut,
     /// The writer of the audit failed. A front of the lines that were due was written.
     AuditWrite,
 }
 
-impl Error for OfflineFault {}
+impl Error for Fault {}
 
-impl Display for OfflineFault {
+impl Display for Fault {
     ghost use Rattle.std.specs.Prelude.{Option, Some};
     ghost use Rattle.mediator_offline.specs.FaultTexts.{text_of_offline};
 
@@ -62,40 +62,40 @@ impl Display for OfflineFault {
 
     fn fmt<W: Write>(&self, f: &mut Formatter<W>) -> fmt::Result {
         f.write_str(match self {
-            OfflineFault::Read => "Read",
-            OfflineFault::Write { .. } => "Write",
-            OfflineFault::Framing(_) => "Framing",
-            OfflineFault::Turns => "Turns",
-            OfflineFault::Core(_) => "Core",
-            OfflineFault::Cut => "Cut",
-            OfflineFault::AuditWrite => "AuditWrite",
+            Fault::Read => "Read",
+            Fault::Write { .. } => "Write",
+            Fault::Framing(_) => "Framing",
+            Fault::Turns => "Turns",
+            Fault::Mediator(_) => "Mediator",
+            Fault::Cut => "Cut",
+            Fault::AuditWrite => "AuditWrite",
         })
     }
 }
 
-impl From<Fault> for OfflineFault {
+impl From<MediatorFault> for Fault {
     ghost use Rattle.std.specs.Prelude.{◌≡◌};
-    ghost use Rattle.mediator_offline.specs.declared.job.OfflineFault.TheVariants.{Core};
+    ghost use Rattle.mediator_offline.specs.declared.job.Fault.TheVariants.{Mediator};
 
-    ghost from_gives = { λ f e. e ≡ Core f };
+    ghost from_gives = { λ f e. e ≡ Mediator f };
 
-    fn from(fault: Fault) -> OfflineFault {
-        OfflineFault::Core(fault)
+    fn from(fault: MediatorFault) -> Fault {
+        Fault::Mediator(fault)
     }
 }
 
-impl From<IntakeFault> for OfflineFault {
+impl From<IntakeFault> for Fault {
     ghost use Rattle.std.specs.Prelude.{◌≡◌};
     ghost use Rattle.mediator_offline.specs.Faults.{intake_refusal};
 
     ghost from_gives = { λ f e. e ≡ intake_refusal f };
 
-    fn from(fault: IntakeFault) -> OfflineFault {
+    fn from(fault: IntakeFault) -> Fault {
         match fault {
-            IntakeFault::Read => OfflineFault::Read,
-            IntakeFault::Framing(why) => OfflineFault::Framing(why),
-            IntakeFault::Turns => OfflineFault::Turns,
-            IntakeFault::OutOfMemory => OfflineFault::Core(Fault::OutOfMemory),
+            IntakeFault::Read => Fault::Read,
+            IntakeFault::Framing(why) => Fault::Framing(why),
+            IntakeFault::Turns => Fault::Turns,
+            IntakeFault::OutOfMemory => Fault::Mediator(MediatorFault::OutOfMemory),
         }
     }
 }

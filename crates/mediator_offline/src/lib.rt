@@ -3,7 +3,7 @@
 //! state doesn't.
 //!
 //! - `engine`: [`offline`].
-//! - `job`: [`OfflineJob`], [`OfflineReport`], and [`OfflineFault`].
+//! - `job`: [`OfflineJob`], [`OfflineReport`], and [`Fault`].
 //! - `run`: the state of a mediator with one session and one subscription; `handling`, `delivery` and `recording` say
 //!   what is done with a message.
 //! - [`laws`]: over the definitions that the contract of [`offline`] cites, with no code behind them:
@@ -40,7 +40,6 @@ mod run;
 
 pub use engine::offline;
 pub use ipfix_reader::FramingFault;
-pub use job::{OfflineFault, OfflineJob, OfflineReport};
+pub use job::{Fault, OfflineJob, OfflineReport};
 pub use laws::{accepted_messages_are_the_history, due_is_built, nothing_closes};
-pub use mediator_state::Fault;
 pub use octet_io::{Device, Failed, Sink, Source};

@@ -2,13 +2,13 @@
 ghost use Rattle.std.specs.Prelude.{◌≡◌, IfOk, IfErr, OnOk, OnErr, string_bytes};
 ghost use Rattle.std.specs.Io.KnownBytes.{Appends};
 ghost use Rattle.mediator_offline.specs.Failing.{audit_after};
-ghost use Rattle.mediator_offline.specs.Lines.{lines_of, WritesSome};
+ghost use Rattle.mediator_offline.specs.Lines.{lines_of, WritesBeginning};
 ghost use Rattle.mediator_offline.specs.Recording.{StopsLines};
 
-use crate::job::OfflineFault;
-use crate::run::Run;
+use crate::job::Fault;
+use crate::run::OfflineRun;
 use disclosure_audit::{AuditEntry, put_line};
-use mediator_state::Fault;
+use mediator_state::Fault as MediatorFault;
 use octet_io::{Sink, write_all};
 use std::alloc::{AllocError, Global};
 
@@ -20,7 +20,7 @@ pub(crate) fn write_lines<A: Sink>(
     alloc: Global,
     entries: &[AuditEntry],
     writer: &mut A,
-) -> Result<(), OfflineFault>
+) -> Result<(), Fault>
     // All lines were written.
     ensures ok { OnOk result (Appends (A.contents writer.old) (A.contents writer.new)
         (lines_of entries.now)) }
@@ -29,15 +29,15 @@ pub(crate) fn write_lines<A: Sink>(
     ensures cause { IfErr result (λ e. StopsLines e (A.has_failed writer.new)) }
     ensures fails { IfErr result (λ e. A.has_failed writer.new
         ≡ audit_after e (A.has_failed writer.old)) }
-    ensures err { OnErr result (WritesSome (A.contents writer.old) (A.contents writer.new)
+    ensures err { OnErr result (WritesBeginning (A.contents writer.old) (A.contents writer.new)
         (lines_of entries.now)) }
 {
     let Ok(text) = lines(alloc, entries) else {
-        return Err(OfflineFault::Core(Fault::OutOfMemory));
+        return Err(Fault::Mediator(MediatorFault::OutOfMemory));
     };
     match write_all(writer, text.as_bytes()) {
         Ok(()) => Ok(()),
-        Err(_) => Err(OfflineFault::AuditWrite),
+        Err(_) => Err(Fault::AuditWrite),
     }
 }
 
@@ -57,16 +57,16 @@ fn lines(alloc: Global, entries: &[AuditEntry]) -> Result<String, AllocError>
 
 ghost use Rattle.std.specs.Prelude.{◌<◌, ◌^◌, length};
 ghost use Rattle.mediator_offline.specs.Lines.{lines_for};
-ghost use Rattle.mediator_offline.specs.Runs.{HasHistory, audit_waiting};
+ghost use Rattle.mediator_offline.specs.Runs.{RunHasHistory, audit_waiting};
 ghost use Rattle.mediator_offline.specs.Recording.{Records};
 
-impl<'a> Run<'a> {
+impl<'a> OfflineRun<'a> {
     /// Drains the audit, and writes its lines to `writer` where the job asks for them.
     ///
     /// # Errors
     /// The writer failed, or memory ran out: a front of the lines was written.
-    pub(crate) fn record<A: Sink>(&mut self, writer: &mut A) -> Result<(), OfflineFault>
-        requires known { HasHistory self.old }
+    pub(crate) fn record<A: Sink>(&mut self, writer: &mut A) -> Result<(), Fault>
+        requires known { RunHasHistory self.old }
         requires few { length (audit_waiting self.old) < 2 ^ 32 }
         // The lines were written, where they are asked for, and the audit is empty.
         ensures written { OnOk result (Appends (A.contents writer.old) (A.contents writer.new)
@@ -77,11 +77,11 @@ impl<'a> Run<'a> {
         ensures cause { IfErr result (λ e. StopsLines e (A.has_failed writer.new)) }
         ensures fails { IfErr result (λ e. A.has_failed writer.new
             ≡ audit_after e (A.has_failed writer.old)) }
-        ensures err { OnErr result (WritesSome (A.contents writer.old) (A.contents writer.new)
+        ensures err { OnErr result (WritesBeginning (A.contents writer.old) (A.contents writer.new)
             (lines_for self.old.job.audit (audit_waiting self.old))) }
     {
         let Ok(entries) = self.state.drain_audit(u32::MAX) else {
-            return Err(OfflineFault::Core(Fault::OutOfMemory));
+            return Err(Fault::Mediator(MediatorFault::OutOfMemory));
         };
         if !self.job.audit {
             return Ok(());

@@ -4,33 +4,32 @@ ghost use Rattle.event_journal.specs.Room.{Limits as Journaled};
 
 use crate::job::OfflineJob;
 use bytes::Bytes;
-use event_journal::{MOST_ENTRIES, MOST_OCTETS, Tally};
-use mediator_state::{DEFAULT_AUDIT, DEFAULT_QUEUE, Fault, Limits, State};
+use event_journal::{JournalSizes, MOST_ENTRIES, MOST_OCTETS};
+use mediator_state::{DEFAULT_AUDIT, DEFAULT_QUEUE, Fault as MediatorFault, State};
+use mediator_tables::{SessionId, SubId};
 use std::alloc::Global;
-use subscriber_stream::MOST_SHAPES;
+use subscriber_stream::{MOST_SHAPES, StreamLimits};
 
-/// How many records may wait for the subscriber, how many templates its records may have, and how many entries may wait in
-/// the audit.
-const LIMITS: Limits = Limits {
+/// How many records may wait for the subscriber, and how many templates its records may have.
+const LIMITS: StreamLimits = StreamLimits {
     queue: DEFAULT_QUEUE,
     shapes: MOST_SHAPES,
-    audit: DEFAULT_AUDIT,
 };
 
 /// The number of the one session.
-const SESSION: u64 = 1;
+const SESSION: SessionId = SessionId(1);
 
 /// The number of the one subscription.
-pub(crate) const SUBSCRIPTION: u64 = 1;
+pub(crate) const SUBSCRIPTION: SubId = SubId(1);
 
 /// A run: the state of a mediator with one session and one subscription, and what is counted for the report.
 #[derive(Drop)]
-pub(crate) struct Run<'a> {
+pub(crate) struct OfflineRun<'a> {
     pub(crate) alloc: Global,
     /// What is asked for.
     pub(crate) job: OfflineJob<'a>,
     /// The mediator, of whose journal the sizes alone are kept.
-    pub(crate) state: State<Tally>,
+    pub(crate) state: State<JournalSizes>,
     /// The messages that were accepted.
     pub(crate) messages: u64,
     /// The records that they brought.
@@ -40,24 +39,29 @@ pub(crate) struct Run<'a> {
 }
 
 ghost use Rattle.mediator_offline.specs.Opening.{RefusesJob};
-ghost use Rattle.mediator_offline.specs.Running.{IsOpened};
+ghost use Rattle.mediator_offline.specs.Running.{IsRunOpened};
 ghost use Rattle.mediator_offline.specs.Runs.{audit_waiting};
-ghost use Rattle.mediator_offline.specs.Steps.{HasDelivered, Receives, Refuses};
+ghost use Rattle.mediator_offline.specs.Steps.{HasDelivered, TakesMessage, RunRefuses};
 
-impl<'a> Run<'a> {
+impl<'a> OfflineRun<'a> {
     /// Accepts the policy, the subscription and the session of a run.
     ///
     /// # Errors
     /// The policy or the name is refused; or the journal has no room, or memory ran out.
-    pub(crate) fn open(alloc: Global, job: OfflineJob<'a>) -> Result<Run<'a>, Fault>
-        ensures ok { IfOk result (λ d. IsOpened d job.entry) }
+    pub(crate) fn open(alloc: Global, job: OfflineJob<'a>) -> Result<OfflineRun<'a>, MediatorFault>
+        ensures ok { IfOk result (λ d. IsRunOpened d job.entry) }
         ensures err { IfErr result (λ e. RefusesJob e job.entry) }
     {
-        let mut state = State::new(alloc, LIMITS, Tally::new(MOST_ENTRIES, MOST_OCTETS))?;
+        let mut state = State::new(
+            alloc,
+            LIMITS,
+            DEFAULT_AUDIT,
+            JournalSizes::new(MOST_ENTRIES, MOST_OCTETS),
+        )?;
         state.edit(job.policy)?;
         state.subscribe(job.name)?;
         state.open()?;
-        Ok(Run {
+        Ok(OfflineRun {
             alloc,
             job,
             state,
@@ -72,16 +76,16 @@ impl<'a> Run<'a> {
     ///
     /// # Errors
     /// The message is malformed; or the journal is full, or the audit, or memory.
-    pub(crate) fn receive(&mut self, message: Bytes) -> Result<bool, Fault>
+    pub(crate) fn receive(&mut self, message: Bytes) -> Result<bool, MediatorFault>
         requires delivered { HasDelivered self.old }
         // The job, and what was written, stay as they are.
         ensures job { self.new.job ≡ self.old.job }
         ensures sent { self.new.sent ≡ self.old.sent }
         // The message was accepted, or cut the subscription.
         ensures few { OnOk result (length (audit_waiting self.new) < 2 ^ 32) }
-        ensures ok { IfOk result (λ is_cut. Receives self.old message is_cut self.new) }
+        ensures ok { IfOk result (λ is_cut. TakesMessage self.old message is_cut self.new) }
         // Why it was refused.
-        ensures err { IfErr result (λ e. Refuses e self.old message) }
+        ensures err { IfErr result (λ e. RunRefuses e self.old message) }
     {
         let receipt = self.state.receive(SESSION, self.messages, message)?;
         self.messages += 1;

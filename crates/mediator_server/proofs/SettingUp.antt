@@ -6,8 +6,8 @@ use Rattle.event_journal.specs.declared.entry.Entry.{Entry}
 use Rattle.event_journal.specs.declared.entry.Entry.TheVariants.{Edit, Subscribe}
 use Rattle.shared_mediator.specs.declared.kept.KeptEntry.{KeptEntry}
 use Rattle.shared_mediator.specs.Handles.{KeepsEntry}
-use Rattle.mediator_server.specs.declared.plan.Plan.{Plan}
-use Rattle.mediator_server.specs.declared.plan.Collector.{Collector}
+use Rattle.mediator_connections.specs.declared.collector.Collector.{Collector}
+use Rattle.mediator_server.specs.declared.plan.RunPlan.{RunPlan}
 use Rattle.mediator_server.specs.Listening.{AreBegins, SetsUp, IsSetUp}
 
 -- the policy was put in force, and subscriptions were begun under these names
@@ -17,7 +17,7 @@ pub record IsSettingUp (policy : List ℕ) (names : List (List ℕ)) (kept : Lis
   pub are : AreBegins names begins
 
 abbrev pub name_of : Collector → List ℕ
-name_of collector = string_bytes collector.name
+name_of collector = string_bytes collector.subscriber
 
 pub edited : (policy : List ℕ) (old new : List KeptEntry) → old ≡ [] → KeepsEntry old (Edit policy) new → IsSettingUp policy [] new
 edited policy old new none keeps = record {
@@ -48,7 +48,7 @@ subscribed policy items i x sub old new low is so keeps =
     (begun_more policy (map name_of (take i items)) (name_of x) sub old new so keeps)
 
 -- all of them
-pub set_up : (plan : Plan) (i : ℕ) (kept : List KeptEntry) → length plan.deliver.items ≤ i → IsSettingUp (string_bytes plan.policy) (map name_of (take i plan.deliver.items)) kept → SetsUp plan kept
+pub set_up : (plan : RunPlan) (i : ℕ) (kept : List KeptEntry) → length plan.deliver.items ≤ i → IsSettingUp (string_bytes plan.policy) (map name_of (take i plan.deliver.items)) kept → SetsUp plan kept
 set_up plan i kept all so = record {
   begins = so.begins;
   entries = so.entries;
@@ -56,5 +56,5 @@ set_up plan i kept all so = record {
 }
 
 -- and the handle comes behind the others
-pub is_last : (plan : Plan) (others all : List (List KeptEntry)) (first : List KeptEntry) → SetsUp plan first → all ≡ others ++ first ∷ [] → IsSetUp plan all
+pub is_last : (plan : RunPlan) (others all : List (List KeptEntry)) (first : List KeptEntry) → SetsUp plan first → all ≡ others ++ first ∷ [] → IsSetUp plan all
 is_last plan others all first so are = record { others = others; first = first; admins_are = are; set_up = so }

@@ -8,7 +8,7 @@ use crate::listeners::Caller;
 use crate::notes;
 use crate::report::{help_page, policy_page, run_page};
 use crate::roster::Reach;
-use crate::run_state::{RunState, TurnOver};
+use crate::run_state::{Dismissal, RunState};
 use crate::service::Service;
 use crate::socket_options::{look_while_reading, prepare_to_write};
 use crate::stream_calls::{PatientWriter, is_late, read_on};
@@ -111,7 +111,7 @@ struct Commands<'r, 'v, 'c, 'l, 'o, R> {
     state: &'v RunState,
     stream: &'c TcpStream,
     is_last: &'l Cell<bool>,
-    over: &'o Cell<Option<TurnOver>>,
+    over: &'o Cell<Option<Dismissal>>,
     /// When something came last.
     heard: Duration,
     has_failed: bool,
@@ -126,7 +126,7 @@ impl<R: Wait + Clock> Commands<'_, '_, '_, '_, '_, R> {
             if self.is_last.get() {
                 return Ok(0);
             }
-            if let Some(why) = self.state.turn_over(self.rt, self.heard) {
+            if let Some(why) = self.state.dismissal(self.rt, self.heard) {
                 self.over.set(Some(why));
                 return Ok(0);
             }

@@ -4,7 +4,6 @@ use crate::connections::Connection;
 use crate::listeners::OwnAddresses;
 use crate::machine_clock::MachineClock;
 use crate::notes;
-use crate::plan::Collector;
 use crate::roster::Reach;
 use crate::send_queue::is_sent;
 use crate::service::Service;
@@ -12,11 +11,9 @@ use crate::socket_options::{look_while_reading, prepare_to_write, reset};
 use crate::stream_calls::{PatientWriter, say_farewell};
 use crate::time::{has_passed, now};
 use log::Log;
-use mediator_connections::{ServeFault, deliver};
-use mediator_state::Fault;
-use shared_mediator::{
-    AdminHandle, DeliveryHandle, EntryLedger, Handed, HandleFault, RecordLedger,
-};
+use mediator_connections::{Collector, Fault as ServeFault, deliver};
+use mediator_state::Fault as MediatorFault;
+use shared_mediator::{AdminHandle, DeliveryHandle, EntryLedger, Handed, RecordLedger};
 use std::alloc::Global;
 use std::io::{self, ErrorKind};
 use std::net::{Net, SocketAddr, TcpListener, TcpStream, ToSocketAddrs};
@@ -250,15 +247,10 @@ fn begin<E: EntryLedger, H: RecordLedger, R: Wait>(
     service: &Service<'_, E, H>,
     collector: &Collector,
     handles: &mut CollectorHandles<E, H>,
-) -> Result<(), HandleFault> {
-    if handles.deliveries.reserve(1).is_err() {
-        return Err(HandleFault::Core(Fault::OutOfMemory));
-    }
-    let name = collector.name.as_str();
-    let sub = match handles.admin.subscribe(rt, service.shared, name) {
-        Ok(sub) => sub,
-        Err(why) => return Err(HandleFault::Core(why)),
-    };
+) -> Result<(), MediatorFault> {
+    handles.deliveries.reserve(1)?;
+    let name = collector.subscriber.as_str();
+    let sub = handles.admin.subscribe(rt, service.shared, name)?;
     service.roster.begin(rt, sub, name, Reach::Absent);
     let delivery = service.shared.delivery(rt, sub)?;
     handles.deliveries.push_reserved(delivery);

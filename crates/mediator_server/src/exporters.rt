@@ -13,7 +13,7 @@ use ipfix_reader::FramingFault;
 use ipfix_session::Gap;
 use log::Log;
 use mediator_calls::SessionId;
-use mediator_connections::{Patience, Reception, ServeFault, Served, serve_exporter};
+use mediator_connections::{Fault as ServeFault, Patience, Reception, Served, serve_exporter};
 use mediator_state::Receipt;
 use octet_io::{Failed, Source};
 use shared_mediator::{EntryLedger, ExporterHandle, RecordLedger};
@@ -228,7 +228,7 @@ fn is_refusal(ended: &Result<Served, (ServeFault, Served)>) -> bool {
     match ended {
         Ok(_) | Err((ServeFault::Read | ServeFault::Write { .. } | ServeFault::Turns, _)) => false,
         Err((ServeFault::Framing(why), _)) => *why != FramingFault::CutOff,
-        Err((ServeFault::Core(_) | ServeFault::TooWide | ServeFault::TooManyCounts, _)) => true,
+        Err((ServeFault::Mediator(_) | ServeFault::TooWide | ServeFault::TooManyCounts, _)) => true,
     }
 }
 

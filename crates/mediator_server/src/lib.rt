@@ -2,7 +2,7 @@
 //! is served in a thread of its own, and administrators one after another. What is done over one connection is
 //! `mediator_connections`', whose names this crate has too; the mediating is `shared_mediator`'s.
 //!
-//! - `listening`: [`listen`], which serves a mediator as a [`Plan`] says (`plan`).
+//! - `listening`: [`listen`], which serves a mediator as a [`RunPlan`] says (`plan`).
 //! - `service` has the threads: that which takes who comes in by the `listeners`, and those of `exporters`, `collectors` and
 //!   `administrators`, which tell each other by `run_state` how far the run is.
 //! - `connections` has the connections that are open; `stream_calls`, `socket_options` and `send_queue` what is done on one.
@@ -35,8 +35,9 @@ mod socket_options;
 mod stream_calls;
 mod time;
 
-pub use listening::{Ended, ListenFault, listen};
+pub use listening::{Ended, Fault, listen};
 pub use mediator_connections::{
-    Clock, Control, Patience, Reception, ServeFault, Served, deliver, serve_admin, serve_exporter,
+    Clock, Collector, Control, Fault as ServeFault, Patience, Reception, Served, deliver,
+    serve_admin, serve_exporter,
 };
-pub use plan::{Collector, Plan};
+pub use plan::RunPlan;

@@ -1,7 +1,7 @@
 //! The two addresses at which a server is reached, and who comes in there.
 
 use crate::notes;
-use crate::plan::Plan;
+use crate::plan::RunPlan;
 use log::Log;
 use mio::unix::SourceFd;
 use mio::{Events, Interest, Poll, Token, Waker};
@@ -164,7 +164,7 @@ impl Listeners {
     pub(crate) fn open<R: Net<Listener = TcpListener, Stream = TcpStream> + Log>(
         rt: &R,
         alloc: Global,
-        plan: &Plan,
+        plan: &RunPlan,
     ) -> io::Result<Listeners> {
         let events = Events::with_capacity(alloc, 4)?;
         let poll = Poll::new(rt)?;

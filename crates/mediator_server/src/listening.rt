@@ -4,12 +4,12 @@ ghost use Rattle.shared_mediator.specs.Counted.{handed_live};
 ghost use Rattle.mediator_server.specs.Listening.{IsServed};
 
 use crate::notes;
-use crate::plan::Plan;
+use crate::plan::RunPlan;
 use crate::service::{Handles, serve};
 use log::Log;
 use mediator_calls::Mediator;
-use mediator_state::Fault;
-use shared_mediator::{CloseFault, Closed, EntryLedger, HandleFault, RecordLedger, SharedMediator};
+use mediator_state::Fault as MediatorFault;
+use shared_mediator::{Closed, EntryLedger, Fault as CloseFault, RecordLedger, SharedMediator};
 use std::alloc::{AllocError, Global};
 use std::error::Error;
 use std::fmt::{self, Display, Formatter, Write};
@@ -23,7 +23,7 @@ use std::time::Clock;
 
 /// Why a server ended without giving its mediator back. Its text is its name.
 #[derive(Clone, Copy, Debug, PartialEq, Eq)]
-pub enum ListenFault {
+pub enum Fault {
     /// One of its two addresses can't be listened on, or a connection couldn't be accepted.
     Bind,
     /// The collector at this place of the plan's list, from 0, can't be connected to.
@@ -31,12 +31,12 @@ pub enum ListenFault {
     /// The system refused to start a thread.
     NoThread,
     /// The policy, or a subscription, was refused; or memory ran out.
-    Core(Fault),
-    /// The run has ended, but the mediator isn't given back.
+    Mediator(MediatorFault),
+    /// The run has ended, but the mediator isn't given back, and not for want of memory.
     Close(CloseFault),
 }
 
-impl Error for ListenFault {}
+impl Error for Fault {}
 
 /// How a run ended that gave its mediator back.
 #[derive(Drop)]
@@ -47,7 +47,7 @@ pub struct Ended {
     pub stopped: bool,
 }
 
-impl Display for ListenFault {
+impl Display for Fault {
     ghost use Rattle.std.specs.Prelude.{Option, Some};
     ghost use Rattle.mediator_server.specs.FaultTexts.{text_of_listen};
 
@@ -55,43 +55,46 @@ impl Display for ListenFault {
 
     fn fmt<W: Write>(&self, f: &mut Formatter<W>) -> fmt::Result {
         f.write_str(match self {
-            ListenFault::Bind => "Bind",
-            ListenFault::Connect { .. } => "Connect",
-            ListenFault::NoThread => "NoThread",
-            ListenFault::Core(_) => "Core",
-            ListenFault::Close(_) => "Close",
+            Fault::Bind => "Bind",
+            Fault::Connect { .. } => "Connect",
+            Fault::NoThread => "NoThread",
+            Fault::Mediator(_) => "Mediator",
+            Fault::Close(_) => "Close",
         })
     }
 }
 
-impl ListenFault {
+impl Fault {
     /// What a refusal at a door is called: memory ran out, or it isn't open.
-    pub(crate) fn at_door(fault: &io::Error) -> ListenFault {
+    pub(crate) fn at_door(fault: &io::Error) -> Fault {
         match fault.kind() {
-            ErrorKind::OutOfMemory => ListenFault::Core(Fault::OutOfMemory),
-            _ => ListenFault::Bind,
+            ErrorKind::OutOfMemory => Fault::Mediator(MediatorFault::OutOfMemory),
+            _ => Fault::Bind,
         }
     }
 }
 
-impl From<Fault> for ListenFault {
-    fn from(fault: Fault) -> ListenFault {
-        ListenFault::Core(fault)
-    }
-}
-
-impl From<AllocError> for ListenFault {
-    fn from(_e: AllocError) -> ListenFault {
-        ListenFault::Core(Fault::OutOfMemory)
-    }
-}
-
-impl From<HandleFault> for ListenFault {
-    fn from(fault: HandleFault) -> ListenFault {
+impl From<MediatorFault> for Fault {
+    fn from(fault: MediatorFault) -> Fault {
         match fault {
             // Each handle is one thread's own.
-            HandleFault::NoHandle => ListenFault::NoThread,
-            HandleFault::Core(why) => ListenFault::Core(why),
+            MediatorFault::NoHandle => Fault::NoThread,
+            why => Fault::Mediator(why),
+        }
+    }
+}
+
+impl From<AllocError> for Fault {
+    fn from(_e: AllocError) -> Fault {
+        Fault::Mediator(MediatorFault::OutOfMemory)
+    }
+}
+
+impl From<CloseFault> for Fault {
+    fn from(fault: CloseFault) -> Fault {
+        match fault {
+            CloseFault::OutOfMemory => Fault::Mediator(MediatorFault::OutOfMemory),
+            why => Fault::Close(why),
         }
     }
 }
@@ -100,7 +103,7 @@ impl From<HandleFault> for ListenFault {
 const MOST_HANDLES: u64 = 0xffff_ffff;
 
 /// How many handles of each kind a plan needs: for its exporters; or for its deliveries, the administrator, and what sets it up.
-fn handles_for(plan: &Plan) -> u64
+fn handles_for(plan: &RunPlan) -> u64
     ensures { result ≤ 0xffff_ffff }
 {
     if plan.endless || plan.reconnect.is_some() {
@@ -127,13 +130,13 @@ fn handles_for(plan: &Plan) -> u64
 /// to nobody. Who comes and goes is noted in the log.
 ///
 /// # Errors
-/// `Core` where the policy or a subscription was refused, or memory ran out; `Bind` where an address can't be listened on, or a
-/// connection couldn't be accepted; `Connect` where a collector can't be connected to; `NoThread` where a thread was refused; or
+/// `Mediator` where the policy or a subscription was refused, or memory ran out; `Bind` where an address can't be listened on, or
+/// a connection couldn't be accepted; `Connect` where a collector can't be connected to; `NoThread` where a thread was refused; or
 /// `Close` where the mediator isn't given back. What runs is ended first: all who came in are hung up, and what is queued is
 /// sent. The mediator is lost.
 pub fn listen<
     R: Net<Listener = TcpListener, Stream = TcpStream> + Threads + Wait + Clock + Log + Sync,
->(rt: &R, alloc: Global, plan: &Plan, mediator: Mediator) -> Result<Ended, ListenFault>
+>(rt: &R, alloc: Global, plan: &RunPlan, mediator: Mediator) -> Result<Ended, Fault>
     requires fresh { handed_live mediator ≡ 0 }
     ensures served { IfOk result (λ ended. IsServed plan.now mediator.history
         ended.closed.mediator.history ended.closed.accepted ended.closed.handed) }
@@ -154,12 +157,12 @@ fn listen_with<
 >(
     rt: &R,
     alloc: Global,
-    plan: &Plan,
+    plan: &RunPlan,
     mediator: Mediator,
     handles: u64,
     entries: Blank,
     handed: Blank,
-) -> Result<Ended, ListenFault>
+) -> Result<Ended, Fault>
     requires fresh { handed_live mediator ≡ 0 }
     requires before { E.before ≡ mediator.history }
     // The ledger of entries is whole: a share for each handle of an exporter or an administrator, and one more.
@@ -186,7 +189,7 @@ fn listen_with<
             notes::totals(rt, &closed);
             Ok(Ended { closed, stopped })
         }
-        Err(fault) => Err(ListenFault::Close(fault)),
+        Err(fault) => Err(Fault::from(fault)),
     }
 }
 

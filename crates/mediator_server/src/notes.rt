@@ -1,14 +1,13 @@
 //! The notes of a run, a line of the log each: who came and went, and the totals.
 
 use crate::exporters::WhyEnded;
-use crate::plan::Collector;
-use crate::run_state::TurnOver;
+use crate::run_state::Dismissal;
 use ipfix_session::Gap;
 use log::{Log, error, info, warn};
 use mediator_calls::{Limits, SessionId};
-use mediator_connections::{ServeFault, Served};
-use mediator_state::Receipt;
-use shared_mediator::{Closed, Fill, Handed, HandleFault};
+use mediator_connections::{Collector, Fault as ServeFault, Served};
+use mediator_state::{Fault as MediatorFault, Receipt};
+use shared_mediator::{Closed, Fill, Handed};
 use std::fmt::{self, Display, Formatter, Write};
 use std::io;
 use std::net::SocketAddr;
@@ -21,7 +20,7 @@ impl Display for Cause {
     fn fmt<W: Write>(&self, f: &mut Formatter<W>) -> fmt::Result {
         match self.0 {
             ServeFault::Framing(why) => why.fmt(f),
-            ServeFault::Core(why) => why.fmt(f),
+            ServeFault::Mediator(why) => why.fmt(f),
             fault => fault.fmt(f),
         }
     }
@@ -54,13 +53,13 @@ pub(crate) fn cannot_accept(rt: &impl Log, why: &io::Error) {
 
 /// A collector can't be connected to.
 pub(crate) fn cannot_connect(rt: &impl Log, collector: &Collector, why: &io::Error) {
-    let (name, address) = (collector.name.as_str(), collector.address.as_str());
+    let (name, address) = (collector.subscriber.as_str(), collector.address.as_str());
     error!(rt; "cannot connect to collector {name} {address}: {why}");
 }
 
 /// A collector can't be connected to, and is tried again.
 pub(crate) fn cannot_reach(rt: &impl Log, collector: &Collector, why: &io::Error) {
-    let (name, address) = (collector.name.as_str(), collector.address.as_str());
+    let (name, address) = (collector.subscriber.as_str(), collector.address.as_str());
     warn!(rt; "cannot connect to collector {name} {address} yet: {why}");
 }
 
@@ -92,7 +91,7 @@ pub(crate) fn exporter_gap(rt: &impl Log, peer: SocketAddr, gap: Gap, position: 
 }
 
 /// No session could be opened for an exporter.
-pub(crate) fn exporter_refused(rt: &impl Log, peer: SocketAddr, why: HandleFault) {
+pub(crate) fn exporter_refused(rt: &impl Log, peer: SocketAddr, why: MediatorFault) {
     warn!(rt; "exporter {peer} refused: {why}");
 }
 
@@ -186,13 +185,13 @@ pub(crate) fn admin_ends(
     rt: &impl Log,
     peer: SocketAddr,
     answered: Result<u64, ServeFault>,
-    over: Option<TurnOver>,
+    over: Option<Dismissal>,
 ) {
     match (over, answered) {
-        (Some(TurnOver::Silent), _) => {
+        (Some(Dismissal::Silent), _) => {
             warn!(rt; "admin {peer} closed: silent while another waits")
         }
-        (Some(TurnOver::Closing), _) => info!(rt; "admin {peer} closed, the run ends"),
+        (Some(Dismissal::Closing), _) => info!(rt; "admin {peer} closed, the run ends"),
         (None, Ok(commands)) => info!(rt; "admin {peer} ended: commands {commands}"),
         (None, Err(fault)) => {
             let why = Cause(fault);
@@ -203,26 +202,26 @@ pub(crate) fn admin_ends(
 
 /// A collector is connected to.
 pub(crate) fn collector_begins(rt: &impl Log, collector: &Collector) {
-    let (name, address) = (collector.name.as_str(), collector.address.as_str());
+    let (name, address) = (collector.subscriber.as_str(), collector.address.as_str());
     info!(rt; "collector {name} {address} connected");
 }
 
 /// A collector is connected to again: `dropped` records had waited for it and were dropped, and `accepted` came while it had no
 /// subscription.
 pub(crate) fn collector_again(rt: &impl Log, collector: &Collector, dropped: u64, accepted: u64) {
-    let (name, address) = (collector.name.as_str(), collector.address.as_str());
+    let (name, address) = (collector.subscriber.as_str(), collector.address.as_str());
     info!(rt; "collector {name} {address} connected again: dropped {dropped} accepted meanwhile {accepted}");
 }
 
 /// A collector can't be subscribed anew, and is tried again.
-pub(crate) fn cannot_subscribe(rt: &impl Log, collector: &Collector, why: HandleFault) {
-    let (name, address) = (collector.name.as_str(), collector.address.as_str());
+pub(crate) fn cannot_subscribe(rt: &impl Log, collector: &Collector, why: MediatorFault) {
+    let (name, address) = (collector.subscriber.as_str(), collector.address.as_str());
     warn!(rt; "collector {name} {address} not subscribed: {why}");
 }
 
 /// A collector isn't there when the run ends, and `waited` records wait for it.
 pub(crate) fn collector_absent(rt: &impl Log, collector: &Collector, waited: u64) {
-    let (name, address) = (collector.name.as_str(), collector.address.as_str());
+    let (name, address) = (collector.subscriber.as_str(), collector.address.as_str());
     warn!(rt; "collector {name} {address} absent at the end: dropped {waited}");
 }
 
@@ -234,7 +233,7 @@ pub(crate) fn collector_ends(
     sent: Result<u64, (ServeFault, u64)>,
     cut: bool,
 ) {
-    let (name, address) = (collector.name.as_str(), collector.address.as_str());
+    let (name, address) = (collector.subscriber.as_str(), collector.address.as_str());
     let records = pulled
         .iter()
         .fold(0u64, |sum, handed| sum.saturating_add(handed.records));

@@ -1,10 +1,11 @@
-//! The plan of a server: where it is reached, what it begins with, and to whom it delivers.
+//! The plan of a server's run: where it is reached, what it begins with, and to whom it delivers.
 
 use mediator_calls::Limits;
+use mediator_connections::Collector;
 
-/// How a server is to run: where it is reached, what it begins with, and to whom it delivers.
+/// How a server is to serve in a run: where it is reached, what it begins with, and to whom it delivers.
 #[derive(Debug, Drop)]
-pub struct Plan {
+pub struct RunPlan {
     /// The number of the run, as an administrator is told it.
     pub run: u64,
     /// The address and the port at which exporters connect.
@@ -38,13 +39,4 @@ pub struct Plan {
     pub limits: Limits,
     /// To whom is delivered, in the order in which they are subscribed.
     pub deliver: Vec<Collector>,
-}
-
-/// A subscriber, and where its messages are sent.
-#[derive(Debug, Drop)]
-pub struct Collector {
-    /// The subscriber's name.
-    pub name: String,
-    /// The address and the port at which its collector listens.
-    pub address: String,
 }

@@ -1,6 +1,6 @@
 //! The pages that an administrator is told of a run: how it stands, the policy in force, and the commands.
 
-use crate::run_state::Tally;
+use crate::run_state::RunCounts;
 use crate::service::Service;
 use event_journal::Entry;
 use shared_mediator::{EntryLedger, Fill, KeptEntry, RecordLedger};
@@ -76,14 +76,14 @@ pub(crate) fn run_page<E: EntryLedger, H: RecordLedger>(
     let limits = &plan.limits;
     let (most_entries, most_octets, most_audit) = (limits.entries, limits.octets, limits.audit);
     let (exporters, connections) = (service.exporters.len(rt), plan.connections);
-    let Tally {
+    let RunCounts {
         messages,
         records,
         gaps,
         refused,
         edits,
         clock,
-    } = service.state.tally(rt);
+    } = service.state.counts(rt);
     let fill = format!(in alloc;
         "run {run}\nstarted {started}\nentries {entries} {most_entries}\noctets {octets} {most_octets}\naudit {audit} {most_audit}\n"
     )?;

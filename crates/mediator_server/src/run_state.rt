@@ -46,14 +46,14 @@ struct Standing {
     /// Whether what is queued is sent, and nothing more comes.
     is_draining: bool,
     /// What came.
-    tally: Tally,
+    counts: RunCounts,
     /// How many records there were before the last message that cut a subscription.
     records_before_cut: u64,
 }
 
 /// What came in a run.
 #[derive(Clone, Copy)]
-pub(crate) struct Tally {
+pub(crate) struct RunCounts {
     /// The messages that were accepted.
     pub(crate) messages: u64,
     /// The records in them.
@@ -70,7 +70,7 @@ pub(crate) struct Tally {
 
 /// What ends an administrator's connection.
 #[derive(Clone, Copy, PartialEq, Eq)]
-pub(crate) enum TurnOver {
+pub(crate) enum Dismissal {
     /// It was silent for long, and another waits.
     Silent,
     /// The run ends.
@@ -90,7 +90,7 @@ impl RunState {
                 was_administered: false,
                 is_administered: true,
                 is_draining: false,
-                tally: Tally {
+                counts: RunCounts {
                     messages: 0,
                     records: 0,
                     gaps: 0,
@@ -187,38 +187,38 @@ impl RunState {
     pub(crate) fn add_message(&self, rt: &impl Wait, receipt: &Receipt) {
         let mut standing = self.standing.lock(rt);
         if receipt.cut > 0 {
-            standing.records_before_cut = standing.tally.records;
+            standing.records_before_cut = standing.counts.records;
         }
-        let tally = standing.tally;
-        standing.tally = Tally {
-            messages: tally.messages.saturating_add(1),
-            records: tally.records.saturating_add(receipt.records),
-            gaps: tally.gaps.saturating_add(u64::from(receipt.gap.is_some())),
-            ..tally
+        let counts = standing.counts;
+        standing.counts = RunCounts {
+            messages: counts.messages.saturating_add(1),
+            records: counts.records.saturating_add(receipt.records),
+            gaps: counts.gaps.saturating_add(u64::from(receipt.gap.is_some())),
+            ..counts
         };
     }
 
     /// A message was not accepted.
     pub(crate) fn add_refusal(&self, rt: &impl Wait) {
         let mut standing = self.standing.lock(rt);
-        standing.tally.refused = standing.tally.refused.saturating_add(1);
+        standing.counts.refused = standing.counts.refused.saturating_add(1);
     }
 
     /// A policy took force; answers which it is of the run.
     pub(crate) fn add_edit(&self, rt: &impl Wait) -> u64 {
         let mut standing = self.standing.lock(rt);
-        standing.tally.edits = standing.tally.edits.saturating_add(1);
-        standing.tally.edits
+        standing.counts.edits = standing.counts.edits.saturating_add(1);
+        standing.counts.edits
     }
 
     /// The clock stands at `t`, in milliseconds since 1970.
     pub(crate) fn set_clock(&self, rt: &impl Wait, t: u64) {
-        self.standing.lock(rt).tally.clock = t;
+        self.standing.lock(rt).counts.clock = t;
     }
 
     /// What came.
-    pub(crate) fn tally(&self, rt: &impl Wait) -> Tally {
-        self.standing.lock(rt).tally
+    pub(crate) fn counts(&self, rt: &impl Wait) -> RunCounts {
+        self.standing.lock(rt).counts
     }
 
     /// How many records were accepted in all; or, with `before_cut`, how many before the last message that cut a subscription.
@@ -227,7 +227,7 @@ impl RunState {
         if before_cut {
             standing.records_before_cut
         } else {
-            standing.tally.records
+            standing.counts.records
         }
     }
 }
@@ -278,15 +278,15 @@ impl RunState {
     }
 
     /// Whether an administrator's turn is over, from which something came last at `heard`; and why.
-    pub(crate) fn turn_over<R: Wait + Clock>(&self, rt: &R, heard: Duration) -> Option<TurnOver> {
+    pub(crate) fn dismissal<R: Wait + Clock>(&self, rt: &R, heard: Duration) -> Option<Dismissal> {
         let standing = self.standing.lock(rt);
         if let Some(gone) = standing.exporters_gone {
             if standing.is_stopped || has_passed(rt, gone, Duration::from_secs(LAST_WORDS)) {
-                return Some(TurnOver::Closing);
+                return Some(Dismissal::Closing);
             }
         }
         if !standing.waiting.is_empty() && has_passed(rt, heard, Duration::from_secs(SILENCE)) {
-            return Some(TurnOver::Silent);
+            return Some(Dismissal::Silent);
         }
         None
     }

@@ -6,14 +6,15 @@ use crate::collectors::{self, CollectorHandles};
 use crate::connections::{Connection, Connections};
 use crate::exporters::{self, ExporterHandles};
 use crate::listeners::{Caller, Incoming, Listeners, OwnAddresses};
-use crate::listening::ListenFault;
-use crate::plan::{Collector, Plan};
+use crate::listening::Fault;
+use crate::plan::RunPlan;
 use crate::roster::{Reach, Roster};
 use crate::run_state::RunState;
 use crate::time::{has_passed, now};
 use crate::{administrators, notes};
 use log::Log;
 use mediator_calls::SubId;
+use mediator_connections::Collector;
 use mio::Waker;
 use shared_mediator::{
     AdminHandle, DeliveryHandle, EntryLedger, ExporterHandle, RecordLedger, SharedMediator,
@@ -46,7 +47,7 @@ pub(crate) struct Handles<E: EntryLedger, H: RecordLedger> {
 pub(crate) struct Service<'m, E: EntryLedger, H: RecordLedger> {
     pub(crate) alloc: Global,
     pub(crate) shared: &'m SharedMediator<E, H>,
-    pub(crate) plan: &'m Plan,
+    pub(crate) plan: &'m RunPlan,
     /// The addresses at which the server is reached.
     pub(crate) own: OwnAddresses,
     /// When the run began, in milliseconds since 1970; 0 where the machine's time can't be read.
@@ -73,7 +74,7 @@ impl<'m, E: EntryLedger, H: RecordLedger> Service<'m, E, H> {
     fn new(
         alloc: Global,
         shared: &'m SharedMediator<E, H>,
-        plan: &'m Plan,
+        plan: &'m RunPlan,
         own: OwnAddresses,
         started: u64,
         waker: Waker,
@@ -134,8 +135,8 @@ pub(crate) fn serve<
     rt: &R,
     alloc: Global,
     shared: &SharedMediator<E, H>,
-    plan: &Plan,
-) -> Result<Handles<E, H>, ListenFault>
+    plan: &RunPlan,
+) -> Result<Handles<E, H>, Fault>
     ensures set_up { IfOk result (λ handles. IsSetUp plan.now handles.admins.items) }
 {
     let mut first = shared.admin(rt)?;
@@ -178,7 +179,7 @@ fn list_first<E: EntryLedger, H: RecordLedger, R: Wait + Log>(
     for (collector, sub) in service.plan.deliver.iter().zip(subs.iter()) {
         service
             .roster
-            .begin(rt, *sub, collector.name.as_str(), Reach::Absent);
+            .begin(rt, *sub, collector.subscriber.as_str(), Reach::Absent);
     }
 }
 
@@ -186,15 +187,15 @@ fn list_first<E: EntryLedger, H: RecordLedger, R: Wait + Log>(
 fn open_listeners<R: Net<Listener = TcpListener, Stream = TcpStream> + Log>(
     rt: &R,
     alloc: Global,
-    plan: &Plan,
-) -> Result<(Listeners, Waker), ListenFault> {
+    plan: &RunPlan,
+) -> Result<(Listeners, Waker), Fault> {
     let listeners = match Listeners::open(rt, alloc, plan) {
         Ok(listeners) => listeners,
-        Err(fault) => return Err(ListenFault::at_door(&fault)),
+        Err(fault) => return Err(Fault::at_door(&fault)),
     };
     match listeners.waker() {
         Ok(waker) => Ok((listeners, waker)),
-        Err(fault) => Err(ListenFault::at_door(&fault)),
+        Err(fault) => Err(Fault::at_door(&fault)),
     }
 }
 
@@ -204,8 +205,8 @@ fn set_up<E: EntryLedger, H: RecordLedger>(
     alloc: Global,
     shared: &SharedMediator<E, H>,
     admin: &mut AdminHandle<E>,
-    plan: &Plan,
-) -> Result<Vec<SubId>, ListenFault>
+    plan: &RunPlan,
+) -> Result<Vec<SubId>, Fault>
     requires fresh { admin.old ≡ [] }
     ensures set_up { OnOk result (SetsUp plan.now admin.new) }
 {
@@ -213,7 +214,7 @@ fn set_up<E: EntryLedger, H: RecordLedger>(
     let mut subs = Vec::new(alloc);
     'collectors: for collector in plan.deliver.as_slice() {
         subs.reserve(1)?;
-        let sub = admin.subscribe(rt, shared, collector.name.as_str())?;
+        let sub = admin.subscribe(rt, shared, collector.subscriber.as_str())?;
         subs.push_reserved(sub);
     }
     Ok(subs)
@@ -231,7 +232,7 @@ fn prepare_deliveries<
     E: EntryLedger,
     H: RecordLedger,
     R: Net<Listener = TcpListener, Stream = TcpStream> + Wait + Clock + Log,
->(rt: &R, service: &Service<'_, E, H>, subs: Vec<SubId>) -> Result<Vec<Start<E, H>>, ListenFault> {
+>(rt: &R, service: &Service<'_, E, H>, subs: Vec<SubId>) -> Result<Vec<Start<E, H>>, Fault> {
     let mut starts = Vec::new(service.alloc);
     for (place, (collector, sub)) in service.plan.deliver.iter().zip(subs).enumerate() {
         starts.reserve(1)?;
@@ -262,12 +263,12 @@ fn connect_once<
     service: &Service<'_, E, H>,
     collector: &Collector,
     place: usize,
-) -> Result<Connection, ListenFault> {
+) -> Result<Connection, Fault> {
     match collectors::connect(rt, service.own, collector.address.as_str()) {
         Ok((stream, peer)) => Ok(service.collectors.add(rt, stream, peer)?),
         Err(why) => {
             notes::cannot_connect(rt, collector, &why);
-            Err(ListenFault::Connect { collector: place })
+            Err(Fault::Connect { collector: place })
         }
     }
 }
@@ -283,7 +284,7 @@ fn serve_all<
     admin: &mut AdminHandle<E>,
     listeners: Listeners,
     subs: Vec<SubId>,
-) -> Result<Handles<E, H>, ListenFault> {
+) -> Result<Handles<E, H>, Fault> {
     let starts = prepare_deliveries(rt, service, subs)?;
     thread::scope(thread::scope_env(), rt, |scope| {
         let mut delivering = Vec::new(service.alloc);
@@ -340,7 +341,7 @@ fn start_deliveries<
     scope: &Scope<'s, X>,
     starts: Vec<Start<E, H>>,
     delivering: &mut Vec<JoinHandle<CollectorHandles<E, H>>>,
-) -> Result<(), ListenFault> {
+) -> Result<(), Fault> {
     for (collector, start) in service.plan.deliver.iter().zip(starts) {
         delivering.reserve(1)?;
         let Start {
@@ -351,7 +352,7 @@ fn start_deliveries<
             rt, service, collector, handles, connection,
         ));
         let Ok(thread) = started else {
-            return Err(ListenFault::NoThread);
+            return Err(Fault::NoThread);
         };
         delivering.push_reserved(thread);
     }
@@ -393,7 +394,7 @@ fn serve_callers<
     service: &Service<'_, E, H>,
     admin: &mut AdminHandle<E>,
     listeners: Listeners,
-) -> Result<(), ListenFault> {
+) -> Result<(), Fault> {
     thread::scope(thread::scope_env(), rt, |scope| {
         let ended = match start_administrators(rt, service, scope, admin) {
             Ok(()) => take_callers(rt, service, scope, listeners),
@@ -425,10 +426,10 @@ fn start_administrators<
     service: &'v Service<'m, E, H>,
     scope: &Scope<'s, X>,
     admin: &'a mut AdminHandle<E>,
-) -> Result<(), ListenFault> {
+) -> Result<(), Fault> {
     match scope.spawn(move || administrators::serve_all(rt, service, admin)) {
         Ok(_serving) => Ok(()),
-        Err(_refused) => Err(ListenFault::NoThread),
+        Err(_refused) => Err(Fault::NoThread),
     }
 }
 
@@ -447,7 +448,7 @@ fn take_callers<
     service: &'v Service<'m, E, H>,
     scope: &Scope<'s, X>,
     mut listeners: Listeners,
-) -> Result<(), ListenFault> {
+) -> Result<(), Fault> {
     let mut taken = 0u64;
     for _ in rt.forever() {
         if !service.state.is_administered(rt) {
@@ -462,7 +463,7 @@ fn take_callers<
             Ok(None) => {}
             Err(why) => {
                 notes::cannot_accept(rt, &why);
-                return Err(ListenFault::at_door(&why));
+                return Err(Fault::at_door(&why));
             }
         }
     }

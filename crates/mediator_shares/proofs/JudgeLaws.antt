@@ -15,7 +15,7 @@ use Rattle.mediator_shares.specs.InForce.{InForce}
 use Rattle.mediator_tables.specs.declared.share.Share.{Share}
 use Rattle.mediator_tables.specs.SubscriptionTable.{shown}
 use Rattle.mediator_shares.specs.Sharing.{blank}
-use Rattle.mediator_shares.specs.Judges.{Judges, for_of, given_to, plans_for, of_template, JudgeFor, JudgesAny, AreReady, AreFor, whose, emptied, is_of}
+use Rattle.mediator_shares.specs.Judges.{Judges, for_of, given_to, plans_for, of_template, JudgeFor, JudgesAny, AreJudgesReady, AreFor, whose, without_records, is_of}
 
 pub got_map : {A B : Type 0} (f : A → B) (xs : List A) (n : ℕ) (x other : A) → n < length xs → x ≡ get_or xs n other → slice_get (map f xs) n ≡ Some (f x)
 got_map f [] n x other l at = absurd (omega arith)
@@ -134,7 +134,7 @@ begun_all t old now place so over = changed_all for_of (of_template t) old now p
 
 pub record HaveGiven (old now : List Judge) (taken : List Share) (place : ℕ) : Type 0 where
   pub fors : map for_of now ≡ map for_of old
-  pub given : map given_to now ≡ map emptied (map given_to (take place old)) ++ map given_to (drop place old)
+  pub given : map given_to now ≡ map without_records (map given_to (take place old)) ++ map given_to (drop place old)
   pub shares : map shown taken ≡ map given_to (take place old)
   pub many : length now ≡ length old
 
@@ -154,20 +154,20 @@ got_back {B} f g (o ∷ old) (n ∷ now) (suc place) was other all l l2 at = got
   tail_is e = cc
 
 pub given_step : (old now : List Judge) (shares shares2 : List Share) (place : ℕ) (was j : Judge) (share : Share) → HaveGiven old now shares place → place < length now → was ≡ get_or now place was
-    → for_of j ≡ for_of was → given_to j ≡ emptied (given_to was) → shown share ≡ given_to was → shares2 ≡ shares ++ share ∷ [] → HaveGiven old (set now place j) shares2 (place + 1)
+    → for_of j ≡ for_of was → given_to j ≡ without_records (given_to was) → shown share ≡ given_to was → shares2 ≡ shares ++ share ∷ [] → HaveGiven old (set now place j) shares2 (place + 1)
 given_step old now shares shares2 place was j share so l at for given shows more =
     let l2 : place < length old = omega (arith, l, so.many) in
     record {
       fors = set_same for_of now place was j l at for ∙ so.fors;
-      given = changed_at given_to emptied old now place was j l so.given at given l2 ∙ ap (λ n. map emptied (map given_to (take n old)) ++ map given_to (drop n old)) (one_more place);
+      given = changed_at given_to without_records old now place was j l so.given at given l2 ∙ ap (λ n. map without_records (map given_to (take n old)) ++ map given_to (drop n old)) (one_more place);
       shares = ap (map shown) more ∙ map-append shown shares (share ∷ []) ∙ ap (λ s. s ++ shown share ∷ []) so.shares
-          ∙ ap (λ s. map given_to (take place old) ++ s ∷ []) (shows ∙ got_back given_to emptied old now place was was so.given l l2 at)
+          ∙ ap (λ s. map given_to (take place old) ++ s ∷ []) (shows ∙ got_back given_to without_records old now place was was so.given l l2 at)
           ∙ sym (map-append given_to (take place old) (get_or old place was ∷ [])) ∙ ap (map given_to) (sym (take_more old place was l2));
       many = length-set-same now place j ∙ so.many;
     }
 
-pub given_taken : (old now : List Judge) (shares : List Share) (place : ℕ) → HaveGiven old now shares place → length now ≤ place → map given_to now ≡ map emptied (map given_to old)
-given_taken old now shares place so over = changed_all given_to emptied old now place so.given (omega (arith, over, so.many))
+pub given_taken : (old now : List Judge) (shares : List Share) (place : ℕ) → HaveGiven old now shares place → length now ≤ place → map given_to now ≡ map without_records (map given_to old)
+given_taken old now shares place so over = changed_all given_to without_records old now place so.given (omega (arith, over, so.many))
 
 pub given_shares : (old now : List Judge) (shares : List Share) (place : ℕ) → HaveGiven old now shares place → length now ≤ place → map shown shares ≡ map given_to old
 given_shares old now shares place so over = so.shares ∙ ap (map given_to) (take_all place old (omega (arith, over, so.many)))
@@ -222,7 +222,7 @@ alike_subs judges domain served place so over many =
     ap (λ js. map (λ (s : ℕ × List DataRecord). s.0) (map given_to js)) (sym (take_all place judges over)) ∙ so.subs ∙ ap (map (λ (who : Served). who.sub)) (take_all place served (omega (arith, over, many)))
 
 -- those that are kept, where they are for these
-pub ready_judges : (j : Judges) (f : InForce) (domain : ℕ) (served : List Served) → AreReady f.policy.rules j → AreFor j domain served → JudgesAny j f domain served
+pub ready_judges : (j : Judges) (f : InForce) (domain : ℕ) (served : List Served) → AreJudgesReady f.policy.rules j → AreFor j domain served → JudgesAny j f domain served
 ready_judges j f domain served ready for =
     let plan : ℕ × List ℕ → PlansFor = λ w. plans_for f.policy.rules j.cuts w.0 j.template w.1 in
     record {
@@ -233,17 +233,17 @@ ready_judges j f domain served ready for =
       };
     }
 
-pub ready_blank : (j : Judges) (rules : List Rule) (domain : ℕ) (served : List Served) → AreReady rules j → AreFor j domain served → j.shares ≡ map blank served
+pub ready_blank : (j : Judges) (rules : List Rule) (domain : ℕ) (served : List Served) → AreJudgesReady rules j → AreFor j domain served → j.shares ≡ map blank served
 ready_blank j rules domain served ready for =
     let none : ℕ → ℕ × List DataRecord = λ sub. (sub, []) in
     ready.shares ∙ sym (map_twice (λ (s : ℕ × List DataRecord). s.0) none j.shares) ∙ ap (map none) for.subs ∙ map_twice (λ (who : Served). who.sub) none served
 
 -- those that have judged for some are ready for more, once all is taken
-pub judges_ready : (before new : Judges) (f : InForce) (domain : ℕ) (served : List Served) → JudgesAny before f domain served → new ≡ with_shares before (map emptied before.shares) → AreReady f.policy.rules new
+pub judges_ready : (before new : Judges) (f : InForce) (domain : ℕ) (served : List Served) → JudgesAny before f domain served → new ≡ with_shares before (map without_records before.shares) → AreJudgesReady f.policy.rules new
 judges_ready before new f domain served so is =
-    subst (AreReady f.policy.rules) (sym is) (record {
+    subst (AreJudgesReady f.policy.rules) (sym is) (record {
       fors = again before f domain so.template served so.judges;
-      shares = sym (map_twice emptied emptied before.shares);
+      shares = sym (map_twice without_records without_records before.shares);
     })
   where
     again : (j : Judges) (f : InForce) (domain : ℕ) (template : Option Template) (served : List Served) → JudgeFor j f domain template served → j.fors ≡ map (λ p. plans_for f.policy.rules j.cuts p.domain j.template p.name) j.fors

@@ -2,9 +2,9 @@
 use Rattle.std.proofs.Common.{◌≡◌, ℕ, zero, suc, ◌+◌, ◌-◌, ◌<◌, ◌≤◌, List, [], ◌∷◌, ◌++◌, length, take, refl, sym, ap, ◌∙◌, arith, append_assoc, append-nil, length-append}
 use Rattle.std.proofs.lemmas.List.{take_all}
 use Rattle.disclosure_audit.specs.declared.entry.Note.{Note}
-use Rattle.mediator_shares.specs.Noting.{Kept, kept_of, and_more}
+use Rattle.mediator_shares.specs.Noting.{KeptNotes, kept_of, and_more}
 
-abbrev kept_as : ℕ → List Note → ℕ → Kept
+abbrev kept_as : ℕ → List Note → ℕ → KeptNotes
 kept_as most notes count = record { notes = notes; count = count; most = most }
 
 kept_same : (most : ℕ) (a b : List Note) (n m : ℕ) → a ≡ b → n ≡ m → kept_as most a n ≡ kept_as most b m
@@ -31,14 +31,14 @@ left_over zero xs = omega arith
 left_over (suc n) [] = refl
 left_over (suc n) (x ∷ xs) = omega (arith, left_over n xs)
 
-pub none_more : (k : Kept) → and_more k [] ≡ k
+pub none_more : (k : KeptNotes) → and_more k [] ≡ k
 none_more k =
     let few : 0 ≤ k.most - length k.notes = omega arith in
     let same : k.count + 0 ≡ k.count = omega arith in
     kept_same k.most (k.notes ++ take (k.most - length k.notes) []) k.notes (k.count + 0) k.count
     (ap (λ l. k.notes ++ l) (take_all (k.most - length k.notes) [] few) ∙ append-nil k.notes) same
 
-pub more_more : (k : Kept) (a b : List Note) → and_more (and_more k a) b ≡ and_more k (a ++ b)
+pub more_more : (k : KeptNotes) (a b : List Note) → and_more (and_more k a) b ≡ and_more k (a ++ b)
 more_more k a b =
     let m = k.most - length k.notes in
     let front = k.notes ++ take m a in
@@ -53,5 +53,5 @@ kept_more most a b =
     (ap (λ n. take most a ++ take n b) (left_over most a) ∙ sym (taken_of_both a b most)) (sym (length-append a b))
 
 -- from none on
-pub kept_from_none : (most : ℕ) (all : List Note) (k l : Kept) → k ≡ kept_of most [] → l ≡ and_more k all → l ≡ kept_of most all
+pub kept_from_none : (most : ℕ) (all : List Note) (k l : KeptNotes) → k ≡ kept_of most [] → l ≡ and_more k all → l ≡ kept_of most all
 kept_from_none most all k l start grown = grown ∙ ap (λ n. and_more n all) start ∙ kept_more most [] all

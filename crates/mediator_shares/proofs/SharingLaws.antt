@@ -10,19 +10,19 @@ use Rattle.mediator_history.proofs.HistoryLaws.{flat_map-push}
 use Rattle.ipfix_template.specs.DataRecord.{DataRecord, kept_record}
 use Rattle.ipfix_records.specs.Runs.{RunOf, records_of, records_in}
 use Rattle.flow_aggregate.specs.Counts.{count_of}
-use Rattle.flow_anonymize.specs.declared.decision.Decision.{Decision}
 use Rattle.policy_text.specs.Policies.{Aggregate}
 use Rattle.flow_anonymize.specs.Outcome as outcome
-use Rattle.flow_anonymize.specs.Outcome.{Outcome, Passes, Aggregates, Withholds}
+use Rattle.flow_anonymize.specs.declared.disclosure.Disclosure.TheVariants.{Passed, Aggregated, Withheld}
+use Rattle.flow_anonymize.specs.Outcome.{Outcome, Decision}
 use Rattle.mediator_history.specs.Counting.{counts}
 use Rattle.mediator_history.specs.Auditing.{kept_back}
 use Rattle.mediator_shares.specs.InForce.{InForce}
 use Rattle.mediator_tables.specs.declared.served.Served.{Served}
 use Rattle.mediator_tables.specs.declared.tally.Tally.{Tally}
-use Rattle.mediator_shares.specs.Noting.{Kept, kept_of, and_more}
+use Rattle.mediator_shares.specs.Noting.{KeptNotes, kept_of, and_more}
 use Rattle.mediator_shares.proofs.NotingLaws.{none_more, more_more, kept_more}
 use Rattle.mediator_tables.specs.Adding.{tallied}
-use Rattle.mediator_shares.specs.Sharing.{outcome_by, given_by, added_by, kept_by, kept_back_by, counts_by, blank, share_by, shares_of, tallies_of, note_of, noted, noted_of_each, notes_of}
+use Rattle.mediator_shares.specs.Sharing.{outcome_by, given_by, added_by, kept_by, kept_back_by, counts_by, blank, share_by, shares_of, tallies_of, note_of, notes_on, noted_of_each, notes_of}
 
 abbrev pub as_share : {X : Type 0} → ℕ → List X → ℕ × List X
 as_share sub items = (sub, items)
@@ -107,14 +107,14 @@ sharing_step gives old new new2 r served place who other so within at adds done 
     ∙ ap (λ l. l ++ map f0 (drop (place + 1) served)) (sym (map-append f1 (take place served) (who ∷ [])) ∙ ap (map f1) (sym (more_served served place who other within at)))
 
 -- the same of what is given and of what is added, and what was noted
-pub record IsAdding (old new : List (ℕ × List DataRecord)) (told tnew : List Tally) (before notes : Kept) (domain : ℕ) (f : InForce) (index : ℕ) (r : DataRecord) (served : List Served) (place : ℕ) : Type 0 where
+pub record IsAdding (old new : List (ℕ × List DataRecord)) (told tnew : List Tally) (before notes : KeptNotes) (domain : ℕ) (f : InForce) (index : ℕ) (r : DataRecord) (served : List Served) (place : ℕ) : Type 0 where
   pub shares : IsSharing (given_by domain f) old new r served place
   pub tallies : IsSharing (added_by domain f) (map tallied told) (map tallied tnew) r served place
-  pub noting : notes ≡ and_more before (flat_map (noted domain f (index, r)) (take place served))
+  pub noting : notes ≡ and_more before (flat_map (notes_on domain f (index, r)) (take place served))
   pub stay : length new ≡ length served
   pub stay_tallies : length tnew ≡ length served
 
-pub adding_start : (s : List (ℕ × List DataRecord)) (t : List Tally) (n : Kept) (domain : ℕ) (f : InForce) (index : ℕ) (r : DataRecord) (served : List Served) → length s ≡ length served → length t ≡ length served
+pub adding_start : (s : List (ℕ × List DataRecord)) (t : List Tally) (n : KeptNotes) (domain : ℕ) (f : InForce) (index : ℕ) (r : DataRecord) (served : List Served) → length s ≡ length served → length t ≡ length served
     → IsAdding s s t t n n domain f index r served 0
 adding_start s t n domain f index r served same same_too = record {
   shares = λ done start. start;
@@ -125,31 +125,31 @@ adding_start s t n domain f index r served same same_too = record {
 }
 
 -- all subscriptions have it
-pub record HasAdded (old new : List (ℕ × List DataRecord)) (told tnew : List Tally) (before notes : Kept) (domain : ℕ) (f : InForce) (index : ℕ) (r : DataRecord) (served : List Served) : Type 0 where
+pub record HasAdded (old new : List (ℕ × List DataRecord)) (told tnew : List Tally) (before notes : KeptNotes) (domain : ℕ) (f : InForce) (index : ℕ) (r : DataRecord) (served : List Served) : Type 0 where
   pub shares : (done : List DataRecord) → old ≡ shares_of domain f done served → new ≡ shares_of domain f (done ++ r ∷ []) served
   pub tallies : (done : List DataRecord) → map tallied told ≡ tallies_of domain f done served → map tallied tnew ≡ tallies_of domain f (done ++ r ∷ []) served
   pub noting : notes ≡ and_more before (noted_of_each domain f served (index, r))
 
-pub added : (old new : List (ℕ × List DataRecord)) (told tnew : List Tally) (before notes : Kept) (domain : ℕ) (f : InForce) (index : ℕ) (r : DataRecord) (served : List Served) (place : ℕ)
+pub added : (old new : List (ℕ × List DataRecord)) (told tnew : List Tally) (before notes : KeptNotes) (domain : ℕ) (f : InForce) (index : ℕ) (r : DataRecord) (served : List Served) (place : ℕ)
     → IsAdding old new told tnew before notes domain f index r served place → length served ≤ place → HasAdded old new told tnew before notes domain f index r served
 added old new told tnew before notes domain f index r served place so over = record {
   shares = sharing_end (given_by domain f) old new r served place so.shares over;
   tallies = sharing_end (added_by domain f) (map tallied told) (map tallied tnew) r served place so.tallies over;
-  noting = so.noting ∙ ap (λ l. and_more before (flat_map (noted domain f (index, r)) l)) (take_all place served over);
+  noting = so.noting ∙ ap (λ l. and_more before (flat_map (notes_on domain f (index, r)) l)) (take_all place served over);
 }
 
 counts_same : (aggregates : List Aggregate) (clock : ℕ) (r : DataRecord) (o : Outcome) → counts_by aggregates clock r (outcome.decision_of o) ≡ counts aggregates clock r o
-counts_same aggregates clock r (Passes kept removed) = refl
-counts_same aggregates clock r (Aggregates rule definition) = refl
-counts_same aggregates clock r (Withholds rule reason) = refl
+counts_same aggregates clock r (Passed kept removed) = refl
+counts_same aggregates clock r (Aggregated rule definition) = refl
+counts_same aggregates clock r (Withheld rule reason) = refl
 
 kept_back_same : (aggregates : List Aggregate) (clock : ℕ) (r : DataRecord) (o : Outcome) → kept_back_by aggregates clock r (outcome.decision_of o) ≡ kept_back aggregates clock r o
-kept_back_same aggregates clock r (Passes kept removed) = refl
-kept_back_same aggregates clock r (Aggregates rule definition) = refl
-kept_back_same aggregates clock r (Withholds rule reason) = refl
+kept_back_same aggregates clock r (Passed kept removed) = refl
+kept_back_same aggregates clock r (Aggregated rule definition) = refl
+kept_back_same aggregates clock r (Withheld rule reason) = refl
 
 -- one subscription more, for which this is decided of the record
-pub adding_step : (old new new2 : List (ℕ × List DataRecord)) (told tnew tnew2 : List Tally) (before notes notes2 : Kept) (domain : ℕ) (f : InForce) (index : ℕ) (r : DataRecord) (served : List Served) (place : ℕ) (who other : Served) (found : Decision)
+pub adding_step : (old new new2 : List (ℕ × List DataRecord)) (told tnew tnew2 : List Tally) (before notes notes2 : KeptNotes) (domain : ℕ) (f : InForce) (index : ℕ) (r : DataRecord) (served : List Served) (place : ℕ) (who other : Served) (found : Decision)
     → IsAdding old new told tnew before notes domain f index r served place → place < length served → who ≡ get_or served place other → found ≡ outcome.decision_of (outcome_by domain f who.name.now r)
     → GrowsAt new new2 place (outcome.passed (outcome_by domain f who.name.now r)) → GrowsAt (map tallied tnew) (map tallied tnew2) place (map count_of (counts_by f.policy.aggregates f.clock r found))
     → length new2 ≡ length new → length tnew2 ≡ length tnew → notes2 ≡ and_more notes (map (note_of index who.sub) (kept_back_by f.policy.aggregates f.clock r found))
@@ -160,8 +160,8 @@ adding_step old new new2 told tnew tnew2 before notes notes2 domain f index r se
       (λ b a s split l. tallies b a s split l ∙ ap (λ (d : Decision). b ++ grown s (map count_of (counts_by f.policy.aggregates f.clock r d)) ∷ a) is ∙ ap (λ c. b ++ grown s (map count_of c) ∷ a) (counts_same f.policy.aggregates f.clock r o));
   noting = notes_grow ∙ ap (λ (d : Decision). and_more notes (map (note_of index who.sub) (kept_back_by f.policy.aggregates f.clock r d))) is ∙ ap (λ k. and_more notes (map (note_of index who.sub) k)) (kept_back_same f.policy.aggregates f.clock r o)
       ∙ ap (λ n. and_more n (map (note_of index who.sub) (kept_by domain f who.name.now r))) so.noting
-      ∙ more_more before (flat_map (noted domain f (index, r)) (take place served)) (noted domain f (index, r) who)
-      ∙ ap (λ l. and_more before l) (sym (flat_map-push (noted domain f (index, r)) (take place served) who) ∙ ap (flat_map (noted domain f (index, r))) (sym (more_served served place who other within at)));
+      ∙ more_more before (flat_map (notes_on domain f (index, r)) (take place served)) (notes_on domain f (index, r) who)
+      ∙ ap (λ l. and_more before l) (sym (flat_map-push (notes_on domain f (index, r)) (take place served) who) ∙ ap (flat_map (notes_on domain f (index, r))) (sym (more_served served place who other within at)));
   stay = same ∙ so.stay;
   stay_tallies = same_too ∙ so.stay_tallies;
 }
@@ -181,14 +181,14 @@ enumerate-append n (x ∷ xs) ys = ap (λ t. (n, x) ∷ t) (enumerate-append (n 
   same = omega arith
 
 -- the shares of the first so many records of a run, the first of which has this index
-pub record IsRunning (old new : List (ℕ × List DataRecord)) (told tnew : List Tally) (before notes : Kept) (domain : ℕ) (f : InForce) (first : ℕ) (rs : List DataRecord) (served : List Served) (place : ℕ) : Type 0 where
+pub record IsRunning (old new : List (ℕ × List DataRecord)) (told tnew : List Tally) (before notes : KeptNotes) (domain : ℕ) (f : InForce) (first : ℕ) (rs : List DataRecord) (served : List Served) (place : ℕ) : Type 0 where
   pub shares : (done : List DataRecord) → old ≡ shares_of domain f done served → new ≡ shares_of domain f (done ++ take place rs) served
   pub tallies : (done : List DataRecord) → map tallied told ≡ tallies_of domain f done served → map tallied tnew ≡ tallies_of domain f (done ++ take place rs) served
   pub noting : notes ≡ and_more before (flat_map (noted_of_each domain f served) (enumerate_from first (take place rs)))
   pub stay : length new ≡ length served
   pub stay_tallies : length tnew ≡ length served
 
-pub running_start : (old new : List (ℕ × List DataRecord)) (t : List Tally) (n : Kept) (domain : ℕ) (f : InForce) (first : ℕ) (rs : List DataRecord) (served : List Served) → new ≡ old → length old ≡ length served → length t ≡ length served
+pub running_start : (old new : List (ℕ × List DataRecord)) (t : List Tally) (n : KeptNotes) (domain : ℕ) (f : InForce) (first : ℕ) (rs : List DataRecord) (served : List Served) → new ≡ old → length old ≡ length served → length t ≡ length served
     → IsRunning old new t t n n domain f first rs served 0
 running_start old new t n domain f first rs served is same same_too = record {
   shares = λ done start. is ∙ start ∙ ap (λ l. shares_of domain f l served) (sym (append-nil done));
@@ -198,7 +198,7 @@ running_start old new t n domain f first rs served is same same_too = record {
   stay_tallies = same_too;
 }
 
-pub running_step : (old new new2 : List (ℕ × List DataRecord)) (told tnew tnew2 : List Tally) (before notes notes2 : Kept) (domain : ℕ) (f : InForce) (first index : ℕ) (rs : List DataRecord) (served : List Served) (place : ℕ) (r other : DataRecord)
+pub running_step : (old new new2 : List (ℕ × List DataRecord)) (told tnew tnew2 : List Tally) (before notes notes2 : KeptNotes) (domain : ℕ) (f : InForce) (first index : ℕ) (rs : List DataRecord) (served : List Served) (place : ℕ) (r other : DataRecord)
     → IsRunning old new told tnew before notes domain f first rs served place → place < length rs → r ≡ get_or rs place other → index ≡ first + place
     → HasAdded new new2 tnew tnew2 notes notes2 domain f index r served → length new2 ≡ length served → length tnew2 ≡ length served
     → IsRunning old new2 told tnew2 before notes2 domain f first rs served (place + 1)
@@ -226,12 +226,12 @@ running_step old new new2 told tnew tnew2 before notes notes2 domain f first ind
     here = omega (arith, numbered, length-take-le place rs (omega (arith, within)))
 
 -- the shares of all records of a run
-pub record HasRun (old new : List (ℕ × List DataRecord)) (told tnew : List Tally) (before notes : Kept) (domain : ℕ) (f : InForce) (first : ℕ) (rs : List DataRecord) (served : List Served) : Type 0 where
+pub record HasRun (old new : List (ℕ × List DataRecord)) (told tnew : List Tally) (before notes : KeptNotes) (domain : ℕ) (f : InForce) (first : ℕ) (rs : List DataRecord) (served : List Served) : Type 0 where
   pub shares : (done : List DataRecord) → old ≡ shares_of domain f done served → new ≡ shares_of domain f (done ++ rs) served
   pub tallies : (done : List DataRecord) → map tallied told ≡ tallies_of domain f done served → map tallied tnew ≡ tallies_of domain f (done ++ rs) served
   pub noting : notes ≡ and_more before (flat_map (noted_of_each domain f served) (enumerate_from first rs))
 
-pub has_run : (old new : List (ℕ × List DataRecord)) (told tnew : List Tally) (before notes : Kept) (domain : ℕ) (f : InForce) (first : ℕ) (rs : List DataRecord) (served : List Served) (place : ℕ)
+pub has_run : (old new : List (ℕ × List DataRecord)) (told tnew : List Tally) (before notes : KeptNotes) (domain : ℕ) (f : InForce) (first : ℕ) (rs : List DataRecord) (served : List Served) (place : ℕ)
     → IsRunning old new told tnew before notes domain f first rs served place → length rs ≤ place → HasRun old new told tnew before notes domain f first rs served
 has_run old new told tnew before notes domain f first rs served place so over =
     let P : List DataRecord → Type 0 = λ l. HasRun old new told tnew before notes domain f first l served in
@@ -240,7 +240,7 @@ has_run old new told tnew before notes domain f first rs served place so over =
 -- ---- one run after another
 
 -- the shares of the records of the first so many runs
-pub record AreShares (shares : List (ℕ × List DataRecord)) (tallies : List Tally) (start notes : Kept) (domain : ℕ) (f : InForce) (runs : List RunOf) (served : List Served) (place before : ℕ) : Type 0 where
+pub record AreShares (shares : List (ℕ × List DataRecord)) (tallies : List Tally) (start notes : KeptNotes) (domain : ℕ) (f : InForce) (runs : List RunOf) (served : List Served) (place before : ℕ) : Type 0 where
   pub sharing : shares ≡ shares_of domain f (records_in (take place runs)) served
   pub tallying : map tallied tallies ≡ tallies_of domain f (records_in (take place runs)) served
   pub noting : notes ≡ and_more start (notes_of domain f (records_in (take place runs)) served)
@@ -248,7 +248,7 @@ pub record AreShares (shares : List (ℕ × List DataRecord)) (tallies : List Ta
   pub stay : length shares ≡ length served
   pub stay_tallies : length tallies ≡ length served
 
-pub shares_start : (s : List (ℕ × List DataRecord)) (t : List Tally) (n : Kept) (domain : ℕ) (f : InForce) (runs : List RunOf) (served : List Served)
+pub shares_start : (s : List (ℕ × List DataRecord)) (t : List Tally) (n : KeptNotes) (domain : ℕ) (f : InForce) (runs : List RunOf) (served : List Served)
     → s ≡ map blank served → map tallied t ≡ map blank served → AreShares s t n n domain f runs served 0 0
 shares_start s t n domain f runs served blanks empty = record {
   sharing = blanks;
@@ -259,7 +259,7 @@ shares_start s t n domain f runs served blanks empty = record {
   stay_tallies = sym (length-map t tallied) ∙ ap length empty ∙ length-map served blank;
 }
 
-pub shares_step : (s s2 : List (ℕ × List DataRecord)) (t t2 : List Tally) (begin n n2 : Kept) (domain : ℕ) (f : InForce) (runs : List RunOf) (served : List Served) (place before more : ℕ) (run other : RunOf)
+pub shares_step : (s s2 : List (ℕ × List DataRecord)) (t t2 : List Tally) (begin n n2 : KeptNotes) (domain : ℕ) (f : InForce) (runs : List RunOf) (served : List Served) (place before more : ℕ) (run other : RunOf)
     → AreShares s t begin n domain f runs served place before → place < length runs → run ≡ get_or runs place other → more ≡ length run.texts → HasRun s s2 t t2 n n2 domain f before (records_of run) served
     → length s2 ≡ length served → length t2 ≡ length served → AreShares s2 t2 begin n2 domain f runs served (place + 1) (before + more)
 shares_step s s2 t t2 begin n n2 domain f runs served place before more run other so within at many adds same same_too = record {
@@ -298,12 +298,12 @@ fewer_records (r ∷ runs) (suc place) run other within at =
     omega (arith, rest, all, some)
 
 -- the shares of all records
-pub record HasShares (shares : List (ℕ × List DataRecord)) (tallies : List Tally) (begin notes : Kept) (domain : ℕ) (f : InForce) (records : List DataRecord) (served : List Served) : Type 0 where
+pub record HasShares (shares : List (ℕ × List DataRecord)) (tallies : List Tally) (begin notes : KeptNotes) (domain : ℕ) (f : InForce) (records : List DataRecord) (served : List Served) : Type 0 where
   pub shares_are : shares ≡ shares_of domain f records served
   pub tallies_are : map tallied tallies ≡ tallies_of domain f records served
   pub notes_are : notes ≡ and_more begin (notes_of domain f records served)
 
-pub has_shares : (s : List (ℕ × List DataRecord)) (t : List Tally) (begin n : Kept) (domain : ℕ) (f : InForce) (runs : List RunOf) (served : List Served) (place before : ℕ)
+pub has_shares : (s : List (ℕ × List DataRecord)) (t : List Tally) (begin n : KeptNotes) (domain : ℕ) (f : InForce) (runs : List RunOf) (served : List Served) (place before : ℕ)
     → AreShares s t begin n domain f runs served place before → length runs ≤ place → HasShares s t begin n domain f (records_in runs) served
 has_shares s t begin n domain f runs served place before so over =
     let P : List RunOf → Type 0 = λ l. HasShares s t begin n domain f (records_in l) served in

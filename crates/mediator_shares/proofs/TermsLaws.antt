@@ -4,11 +4,11 @@ use Rattle.std.specs.List.{flat_map, enumerate_from}
 use Rattle.std.proofs.lemmas.List.{length-map, map-append, take_more, take_all}
 use Rattle.std.proofs.lemmas.List.Concat.{flat_map-cons}
 use Rattle.ipfix_template.specs.DataRecord.{DataRecord}
-use Rattle.policy_text.specs.Policies.{Meaning}
+use Rattle.policy_text.specs.Policies.{PolicyMeaning}
 use Rattle.policy_text.specs.Parsing.{policy_of}
 use Rattle.policy_text.specs.Grammar.{IsPolicy}
 use Rattle.policy_text.specs.Printing.{policy_text}
-use Rattle.policy_text.specs.declared.fault.PolicyFault.{PolicyFault}
+use Rattle.policy_text.specs.declared.fault.Fault.{Fault as PolicyFault}
 use Rattle.policy_text.proofs.RoundLaws.{reads_back}
 use Rattle.mediator_tables.specs.declared.served.Served.{Served}
 use Rattle.mediator_tables.specs.SubscriptionTable.{told}
@@ -51,13 +51,13 @@ alike_long f g xs ys so = sym (length-map xs f) ∙ ap length so ∙ length-map 
 
 -- ---- policies with the same text
 
-abbrev read_as : Meaning → Result Meaning PolicyFault
+abbrev read_as : PolicyMeaning → Result PolicyMeaning PolicyFault
 read_as p = Ok p
 
-read_is : (p q : Meaning) → read_as p ≡ read_as q → p ≡ q
+read_is : (p q : PolicyMeaning) → read_as p ≡ read_as q → p ≡ q
 read_is p q e = cc
 
-pub same_policy : (p q : Meaning) → IsPolicy p → IsPolicy q → policy_text p ≡ policy_text q → p ≡ q
+pub same_policy : (p q : PolicyMeaning) → IsPolicy p → IsPolicy q → policy_text p ≡ policy_text q → p ≡ q
 same_policy p q so is same = read_is p q (sym (reads_back p so) ∙ ap policy_of same ∙ reads_back q is)
 
 -- ---- shares for those that are told alike

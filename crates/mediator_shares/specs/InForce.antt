@@ -1,7 +1,7 @@
 -- What decides over a message's records: the policy in force, and the time to which the clock was advanced.
 use Rattle.std.specs.Prelude.{◌≡◌, ℕ, List, [], ◌∷◌, map, Option, Some, None, slice_get}
 use Rattle.ipfix_template.specs.DataRecord.{DataRecord}
-use Rattle.policy_text.specs.Policies.{Meaning as Policy, Aggregate}
+use Rattle.policy_text.specs.Policies.{PolicyMeaning as Policy, Aggregate}
 use Rattle.policy_text.specs.Grammar.{IsPolicy}
 use Rattle.policy_text.specs.Printing.{policy_text}
 use Rattle.policy_text.specs.declared.rule.Rule.{Rule}
@@ -18,7 +18,7 @@ abbrev pub in_force_with : Policy → ℕ → InForce
 in_force_with policy clock = record { policy = policy; clock = clock }
 
 -- what is kept of a policy: its printed text, its rules, the cuts of their prefixes, and its aggregates
-pub record IsKept (policy : Policy) (text : List ℕ) (rules : List Rule) (cuts : List ℕ) (aggregates : List Aggregate) : Type 0 where
+pub record IsPolicyKept (policy : Policy) (text : List ℕ) (rules : List Rule) (cuts : List ℕ) (aggregates : List Aggregate) : Type 0 where
   pub sound : IsPolicy policy
   pub printed : text ≡ policy_text policy
   pub rules_are : rules ≡ policy.rules

@@ -48,15 +48,15 @@ pub record JudgesAny (j : Judges) (f : InForce) (domain : ℕ) (served : List Se
   pub judges : JudgeFor j f domain template served
 
 -- a share from which all was taken
-abbrev pub emptied : ℕ × List DataRecord → ℕ × List DataRecord
-emptied s = (s.0, [])
+abbrev pub without_records : ℕ × List DataRecord → ℕ × List DataRecord
+without_records s = (s.0, [])
 
 -- ---- those that are kept from one message to the next
 
 -- each is by these rules for records of one template, or of none yet, and was given nothing
-pub record AreReady (rules : List Rule) (j : Judges) : Type 0 where
+pub record AreJudgesReady (rules : List Rule) (j : Judges) : Type 0 where
   pub fors : j.fors ≡ map (λ p. plans_for rules j.cuts p.domain j.template p.name) j.fors
-  pub shares : j.shares ≡ map emptied j.shares
+  pub shares : j.shares ≡ map without_records j.shares
 
 -- for which observation domain and whom plans are
 abbrev pub whose : PlansFor → ℕ × List ℕ

@@ -3,17 +3,16 @@
 use Rattle.std.specs.Prelude.{ℕ, List, [], ◌∷◌, map, slice_get}
 use Rattle.std.specs.List.{flat_map, enumerate_from}
 use Rattle.ipfix_template.specs.DataRecord.{DataRecord}
-use Rattle.flow_anonymize.specs.Outcome.{Outcome, passed}
+use Rattle.flow_anonymize.specs.Outcome.{Outcome, Decision, passed}
 use Rattle.flow_anonymize.specs.Disclosed.{disclosure_of}
 use Rattle.flow_aggregate.specs.Counts.{Count, count_of}
 use Rattle.disclosure_audit.specs.declared.entry.What.{What}
 use Rattle.disclosure_audit.specs.declared.entry.What.TheVariants as what
 use Rattle.policy_text.specs.Policies.{Aggregate}
-use Rattle.flow_anonymize.specs.declared.decision.Decision.{Decision}
-use Rattle.flow_anonymize.specs.declared.decision.Decision.TheVariants.{Passed, Aggregated, Withheld}
-use Rattle.flow_aggregate.specs.Groups.{Counted}
+use Rattle.flow_anonymize.specs.declared.disclosure.Disclosure.TheVariants.{Passed, Aggregated, Withheld}
+use Rattle.flow_aggregate.specs.Groups.{Sample}
 use Rattle.mediator_history.specs.Counting.{counts, counted_in, timing_at}
-use Rattle.mediator_history.specs.Auditing.{kept_back, removed_of, told_of, reason_named}
+use Rattle.mediator_history.specs.Auditing.{kept_back, removed_of, told_of}
 use Rattle.mediator_shares.specs.InForce.{InForce}
 use Rattle.mediator_tables.specs.declared.served.Served.{Served}
 use Rattle.disclosure_audit.specs.declared.entry.Note.{Note}
@@ -57,13 +56,13 @@ tallies_of domain f records served = map (tally_of domain f records) served
 -- ---- by what was decided of a record, for which what is handed on doesn't matter
 
 abbrev pub kept_back_by : List Aggregate → ℕ → DataRecord → Decision → List What
-kept_back_by aggregates clock r (Passed removed) = removed_of removed
+kept_back_by aggregates clock r (Passed kept removed) = removed_of removed
 kept_back_by aggregates clock r (Aggregated rule place) = told_of rule (timing_at aggregates place r clock) ∷ []
-kept_back_by aggregates clock r (Withheld rule reason) = what.Withheld rule (reason_named reason) ∷ []
+kept_back_by aggregates clock r (Withheld rule reason) = what.Withheld rule reason ∷ []
 
-abbrev pub counts_by : List Aggregate → ℕ → DataRecord → Decision → List Counted
+abbrev pub counts_by : List Aggregate → ℕ → DataRecord → Decision → List Sample
 counts_by aggregates clock r (Aggregated rule place) = counted_in (slice_get aggregates place) r (timing_at aggregates place r clock)
-counts_by aggregates clock r (Passed removed) = []
+counts_by aggregates clock r (Passed kept removed) = []
 counts_by aggregates clock r (Withheld rule reason) = []
 
 -- ---- what is noted
@@ -76,12 +75,12 @@ abbrev pub kept_by : ℕ → InForce → List ℕ → DataRecord → List What
 kept_by domain f name r = kept_back f.policy.aggregates f.clock r (outcome_by domain f name r)
 
 -- what is kept back of the record with this index from one subscription
-abbrev pub noted : ℕ → InForce → ℕ × DataRecord → Served → List Note
-noted domain f r who = map (note_of r.0 who.sub) (kept_by domain f who.name.now r.1)
+abbrev pub notes_on : ℕ → InForce → ℕ × DataRecord → Served → List Note
+notes_on domain f r who = map (note_of r.0 who.sub) (kept_by domain f who.name.now r.1)
 
 -- and from each
 abbrev pub noted_of_each : ℕ → InForce → List Served → ℕ × DataRecord → List Note
-noted_of_each domain f served r = flat_map (noted domain f r) served
+noted_of_each domain f served r = flat_map (notes_on domain f r) served
 
 -- what is kept back of the records, by index and then by subscription
 abbrev pub notes_of : ℕ → InForce → List DataRecord → List Served → List Note

@@ -3,7 +3,7 @@ ghost use Rattle.std.specs.Prelude.{◌≡◌, ◌↔◌, ◌++◌, ◌∷◌, I
 ghost use Rattle.std.specs.Prelude.{List};
 ghost use Rattle.std.specs.List.{All};
 ghost use Rattle.policy_text.specs.declared.rule.Rule.{Rule};
-ghost use Rattle.mediator_shares.specs.Judges.{AreReady};
+ghost use Rattle.mediator_shares.specs.Judges.{AreJudgesReady};
 ghost use Rattle.policy_text.specs.Policies.{nothing};
 
 use crate::judges::{Judges, place_for};
@@ -48,13 +48,13 @@ impl Model for InForce {
     ghost use Rattle.std.specs.List.{All};
     ghost use Rattle.std.specs.Arc.{arc_value};
     ghost use Rattle.mediator_shares.specs.InForce.{InForce, in_force_with};
-    ghost use Rattle.mediator_shares.specs.Judges.{AreReady};
+    ghost use Rattle.mediator_shares.specs.Judges.{AreJudgesReady};
 
     ghost Value = { InForce };
 
     ghost view = { λ f. in_force_with (arc_value f.revision) f.clock };
 
-    ghost invariant = { λ f. All (AreReady (arc_value f.revision).rules) f.judges.items };
+    ghost invariant = { λ f. All (AreJudgesReady (arc_value f.revision).rules) f.judges.items };
 }
 
 impl InForce {
@@ -151,7 +151,7 @@ impl InForce {
 
     /// Keeps `judges`, which decided over a message, for those to come, where there is memory for them.
     pub(crate) fn keep(&mut self, judges: Judges)
-        requires { AreReady self.old.policy.rules judges }
+        requires { AreJudgesReady self.old.policy.rules judges }
         ensures { self.new ≡ self.old }
     {
         make_room(&mut self.judges, judges.len());
@@ -232,8 +232,8 @@ impl InForce {
 
 /// Drops all of `kept` where it is as much as may be kept, if each of them judges for as many as `subscriptions`.
 fn make_room(kept: &mut Vec<Judges>, subscriptions: usize)
-    ensures { (rules : List Rule) → All (AreReady rules) kept.old.items
-        → All (AreReady rules) kept.new.items }
+    ensures { (rules : List Rule) → All (AreJudgesReady rules) kept.old.items
+        → All (AreJudgesReady rules) kept.new.items }
 {
     if kept.len() >= MOST_KEPT || kept.len().saturating_mul(subscriptions) >= MOST_PLANS {
         kept.clear();

@@ -8,7 +8,7 @@ ghost use Rattle.flow_anonymize.specs.Classes.{classes_of};
 ghost use Rattle.flow_anonymize.specs.Plans.{PlansFor, outcome_for};
 ghost use Rattle.mediator_tables.specs.SubscriptionTable.{shown};
 
-use flow_anonymize::{Decision, Plans, RecordClasses};
+use flow_anonymize::{Disclosure, Plans, RecordClasses};
 use ipfix_records::Run;
 use ipfix_template::{RecordView, Template};
 use mediator_tables::{Served, Share};
@@ -51,7 +51,7 @@ impl Model for Judges {
 }
 
 impl Judges {
-    ghost use Rattle.mediator_shares.specs.Judges.{plans_for, of_template, AreFor, emptied};
+    ghost use Rattle.mediator_shares.specs.Judges.{plans_for, of_template, AreFor, without_records};
 
     /// Judges by the rules of `table`, with `classes`, which the prefixes of these rules make, for records of the
     /// Observation Domain `domain`; for no subscription yet. What comes to be worked out is in memory from `alloc`.
@@ -152,7 +152,7 @@ impl Judges {
         place: usize,
         classes: Option<RecordClasses>,
         flow_record: &RecordView<'_>,
-    ) -> Result<Decision, AllocError>
+    ) -> Result<Disclosure<()>, AllocError>
         requires there { place < length self.old.fors }
         requires template { (p : PlansFor) → slice_get self.old.fors place ≡ Some p
             → p.template ≡ Some flow_record.now.template }
@@ -206,13 +206,13 @@ impl Judges {
     pub(crate) fn take_shares(&mut self, alloc: Global) -> Result<Vec<Share>, AllocError>
         ensures shares { IfOk result (λ shares. map shown shares.items ≡ self.old.shares) }
         ensures taken { OnOk result
-            (self.new ≡ record self.old { shares = map emptied self.old.shares }) }
+            (self.new ≡ record self.old { shares = map without_records self.old.shares }) }
     {
         take_shares(alloc, &mut self.judges)
     }
 }
 
-ghost use Rattle.mediator_shares.specs.Judges.{Judges as JudgesOf, AreFor, for_of, given_to, of_template, is_of, whose, emptied};
+ghost use Rattle.mediator_shares.specs.Judges.{Judges as JudgesOf, AreFor, for_of, given_to, of_template, is_of, whose, without_records};
 
 /// The place in `kept` of the first that judge the records of the Observation Domain `domain` for the subscriptions
 /// `served`, and are ready for a message with these `runs`; or `None`.
@@ -258,7 +258,7 @@ fn take_shares(alloc: Global, judges: &mut Vec<Judge>) -> Result<Vec<Share>, All
         map shown shares.items ≡ map given_to judges.old.items) }
     ensures fors { OnOk result (map for_of judges.new.items ≡ map for_of judges.old.items) }
     ensures taken { OnOk result (map given_to judges.new.items
-        ≡ map emptied (map given_to judges.old.items)) }
+        ≡ map without_records (map given_to judges.old.items)) }
 {
     let mut shares = Vec::new(alloc);
     'judges: for place in 0..judges.len() {
@@ -306,7 +306,7 @@ impl Judge {
     fn take_share(&mut self) -> Result<Share, AllocError>
         ensures share { IfOk result (λ share. shown share ≡ given_to self.old) }
         ensures plans { OnOk result (for_of self.new ≡ for_of self.old) }
-        ensures taken { OnOk result (given_to self.new ≡ emptied (given_to self.old)) }
+        ensures taken { OnOk result (given_to self.new ≡ without_records (given_to self.old)) }
     {
         let given = self.plans.take_records()?;
         Ok(Share {

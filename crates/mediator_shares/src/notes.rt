@@ -20,9 +20,9 @@ pub struct Notes {
 
 impl Model for Notes {
     ghost use Rattle.std.specs.Prelude.{◌<◌, ◌^◌};
-    ghost use Rattle.mediator_shares.specs.Noting.{Kept};
+    ghost use Rattle.mediator_shares.specs.Noting.{KeptNotes};
 
-    ghost Value = { Kept };
+    ghost Value = { KeptNotes };
 
     ghost view = { λ n. record { notes = n.kept.items; count = n.count; most = n.most } };
 

@@ -41,15 +41,15 @@ impl Drop for Revision {
 impl Model for Revision {
     ghost use Rattle.std.specs.Prelude.{◌≡◌, string_bytes};
     ghost use Rattle.std.specs.Arc.{arc_value};
-    ghost use Rattle.policy_text.specs.Policies.{Meaning};
+    ghost use Rattle.policy_text.specs.Policies.{PolicyMeaning};
     ghost use Rattle.policy_text.specs.Printing.{policy_text};
-    ghost use Rattle.mediator_shares.specs.InForce.{IsKept};
+    ghost use Rattle.mediator_shares.specs.InForce.{IsPolicyKept};
 
-    ghost Value = { Meaning };
+    ghost Value = { PolicyMeaning };
 
     ghost view = { λ r. r.policy };
 
-    ghost invariant = { λ r. IsKept r.policy (string_bytes r.text) (arc_value r.table)
+    ghost invariant = { λ r. IsPolicyKept r.policy (string_bytes r.text) (arc_value r.table)
         (arc_value r.classes) r.definitions.items };
 }
 
@@ -65,7 +65,7 @@ impl Revision {
         ensures { IfOk result (λ r. r ≡ policy) }
     {
         // The kinds of a key's elements are kept by the type of policies.
-        let _rules = policy.rules();
+        let _for_proof = policy.rules();
         let definitions = definitions_of(alloc, policy.aggregates())?;
         let text = policy.print(alloc)?;
         let table = RuleTable::build(alloc, &policy)?;

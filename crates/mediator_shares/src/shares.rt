@@ -4,7 +4,7 @@ ghost use Rattle.std.specs.List.{flat_map, enumerate_from};
 ghost use Rattle.ipfix_template.specs.DataRecord.{DataRecord};
 ghost use Rattle.ipfix_records.specs.Runs.{records_of, records_in};
 ghost use Rattle.flow_aggregate.specs.Counts.{Count as OneCount, count_of};
-ghost use Rattle.mediator_history.specs.Auditing.{reason_named, removed_of, told_of};
+ghost use Rattle.mediator_history.specs.Auditing.{removed_of, told_of};
 ghost use Rattle.mediator_shares.specs.InForce.{count_by, timing_by, as_list};
 ghost use Rattle.mediator_shares.specs.Judges.{JudgeFor, JudgesAny};
 ghost use Rattle.mediator_tables.specs.SubscriptionTable.{shown};
@@ -15,9 +15,9 @@ ghost use Rattle.mediator_shares.specs.Noting.{kept_of, and_more};
 use crate::in_force::InForce;
 use crate::judges::Judges;
 use crate::notes::Notes;
-use disclosure_audit::{Note, RemovedFields, What};
+use disclosure_audit::{Note, Reason, RemovedFields, What};
 use flow_aggregate::{Count, Timing};
-use flow_anonymize::Decision;
+use flow_anonymize::Disclosure;
 use ipfix_records::{Records, Run};
 use ipfix_template::RecordView;
 use mediator_tables::{Served, Share, Tally};
@@ -247,7 +247,7 @@ impl Sums {
         sub: u64,
         in_force: &InForce,
         flow_record: &RecordView<'_>,
-        found: Decision,
+        found: Disclosure<()>,
     ) -> Result<(), AllocError>
         requires within { place < length self.old.tallies.items }
         ensures tallies { (before after : List (ℕ × List OneCount)) (s : ℕ × List OneCount)
@@ -264,8 +264,8 @@ impl Sums {
             flow_record.now found))) }
     {
         match found {
-            Decision::Passed { removed } => self.note_removed(index, sub, removed),
-            Decision::Aggregated { rule, definition } => {
+            Disclosure::Passed { kept: _, removed } => self.note_removed(index, sub, removed),
+            Disclosure::Aggregated { rule, definition } => {
                 let flow_record = flow_record.to_record()?;
                 let what = told(rule, in_force.timing(definition, &flow_record));
                 self.note(index, sub, what)?;
@@ -274,8 +274,7 @@ impl Sums {
                     None => Ok(()),
                 }
             }
-            Decision::Withheld { rule, reason } => {
-                let reason = named(reason);
+            Disclosure::Withheld { rule, reason } => {
                 self.note(index, sub, What::Withheld { rule, reason })
             }
         }
@@ -332,17 +331,6 @@ impl Sums {
     }
 }
 
-/// The audit's word for `reason`, for which a record is withheld by the rules.
-fn named(reason: flow_anonymize::Reason) -> disclosure_audit::Reason
-    ensures { result ≡ reason_named reason }
-{
-    match reason {
-        flow_anonymize::Reason::Rule => disclosure_audit::Reason::Rule,
-        flow_anonymize::Reason::ScopeLost => disclosure_audit::Reason::ScopeLost,
-        flow_anonymize::Reason::Empty => disclosure_audit::Reason::Empty,
-    }
-}
-
 /// What the audit says of a record that the aggregate rule with the number `rule` names, where `timing` is what became
 /// of it.
 fn told(rule: u32, timing: Timing) -> What
@@ -350,9 +338,9 @@ fn told(rule: u32, timing: Timing) -> What
 {
     let reason = match timing {
         Timing::Placed { .. } => return What::Aggregated { rule },
-        Timing::NoTime => disclosure_audit::Reason::NoTime,
-        Timing::NoKey => disclosure_audit::Reason::NoKey,
-        Timing::Late => disclosure_audit::Reason::Late,
+        Timing::NoTime => Reason::NoTime,
+        Timing::NoKey => Reason::NoKey,
+        Timing::Late => Reason::Late,
     };
     What::Withheld { rule, reason }
 }

@@ -7,9 +7,9 @@ use Rattle.std.proofs.lemmas.List.{length-map, length-drop, take-append-drop}
 use Rattle.ipfix_template.specs.DataRecord.{DataRecord}
 use Rattle.ipfix_session.specs.Keeping.{at_key}
 use Rattle.ipfix_session.specs.ReadAhead.{Ahead, IsReadingOf, HasRoomFor}
-use Rattle.subscriber_stream.specs.declared.limits.Limits.{Limits}
+use Rattle.subscriber_stream.specs.declared.limits.StreamLimits.{StreamLimits}
 use Rattle.subscriber_stream.specs.Parts.{parts, records_in}
-use Rattle.subscriber_stream.specs.Standing.{Standing, StandsAt, HasRoom, queued}
+use Rattle.subscriber_stream.specs.Standing.{StreamStanding, StandsAt, HasStreamRoom, queue_size}
 use Rattle.subscriber_stream.proofs.CallLaws.{parts_bring}
 use Rattle.subscriber_stream.proofs.Standings.{records_in-append}
 use Rattle.disclosure_audit.specs.declared.entry.AuditEntry.{AuditEntry}
@@ -28,8 +28,8 @@ use Rattle.mediator_history.proofs.EntryLaws.{messages_few, all_served}
 use Rattle.mediator_history.proofs.CutLaws.{is_open-cuts, messages-cuts, length-cuts, is_served-cuts}
 use Rattle.flow_aggregate.specs.declared.addition.Addition.{Addition}
 use Rattle.flow_aggregate.specs.Counts.{Count, count_of}
-use Rattle.flow_aggregate.specs.Additions.{AreReady}
-use Rattle.flow_aggregate.specs.Running.{Held, nothing_held}
+use Rattle.flow_aggregate.specs.Additions.{AreReadyToAdd}
+use Rattle.flow_aggregate.specs.Running.{HeldGroups, nothing_held}
 use Rattle.mediator_tables.specs.GroupTable.{held_at}
 use Rattle.mediator_tables.specs.SubscriptionTable.{shown}
 use Rattle.mediator_tables.specs.Adding.{tallied}
@@ -38,13 +38,13 @@ use Rattle.mediator_tables.specs.declared.subscription.Subscription.{Subscriptio
 use Rattle.mediator_tables.specs.SubscriptionTable.{at, cut_off, HasSpare, IsReady, AreReadyAmong}
 use Rattle.mediator_state.specs.declared.engine.Engine.{Engine}
 use Rattle.mediator_state.specs.declared.closing.Closing.{Closing}
-use Rattle.mediator_state.specs.declared.plan.Plan.{Plan}
-use Rattle.mediator_state.specs.Standing.{Stands, place, IsSession, IsLiveAs, AreInRange}
+use Rattle.mediator_state.specs.declared.plan.MessagePlan.{MessagePlan}
+use Rattle.mediator_state.specs.Standing.{Stands, place, IsSession, IsLiveAs, AreEngineLimits}
 use Rattle.mediator_state.specs.Steps.{CutsInARow, HasAuditRoom}
-use Rattle.mediator_tables.specs.Adding.{AllReady, AreApart}
-use Rattle.mediator_shares.specs.Noting.{Kept}
+use Rattle.mediator_tables.specs.Adding.{AllReady, NoneTwice}
+use Rattle.mediator_shares.specs.Noting.{KeptNotes}
 use Rattle.mediator_state.specs.Planning.{share_at, AreTallied, HasRoomIn, IsJudged, IsPlan}
-use Rattle.mediator_state.specs.Accepting.{HasRoomForPlan, IsPlannedFor, IsReadyToTake, IsMessage}
+use Rattle.mediator_state.specs.Accepting.{HasRoomForPlan, IsPlannedFor, IsReadyToTake, IsBroughtBy}
 use Rattle.mediator_state.specs.Advancing.{HasRoomToClose, IsClosingFor, IsReadyToClose, AreClosings}
 use Rattle.mediator_state.proofs.MessageSteps.{few_given}
 use Rattle.event_journal.specs.declared.limits.TheConstants.{MOST_ENTRIES}
@@ -54,7 +54,7 @@ use Rattle.subscriber_stream.specs.declared.limits.TheConstants.{MOST_QUEUE}
 -- ---- counts
 
 -- what was handed out and what waits is the whole list
-whole : (s : Standing) (records : List DataRecord) → StandsAt s records (place s) → s.handed + queued s ≡ length records
+whole : (s : StreamStanding) (records : List DataRecord) → StandsAt s records (place s) → s.handed + queue_size s ≡ length records
 whole s records so =
     omega (arith, so.handed, ap (λ ps. length (records_in ps)) so.waiting, streamed records (place s))
   where
@@ -82,14 +82,14 @@ session_count h session (Some s) few so = omega (arith, so.1, messages_few sessi
 -- ---- the streams
 
 -- a cut leaves a subscription's stream
-same_room : (more : List DataRecord) (in' : Bool) (s : Option Subscription) → IsSomeAnd s (λ x. HasRoom x.stream more) → IsSomeAnd (cond in' (option_map cut_off s) s) (λ x. HasRoom x.stream more)
+same_room : (more : List DataRecord) (in' : Bool) (s : Option Subscription) → IsSomeAnd s (λ x. HasStreamRoom x.stream more) → IsSomeAnd (cond in' (option_map cut_off s) s) (λ x. HasStreamRoom x.stream more)
 same_room more true None room = room
 same_room more true (Some s) room = room
 same_room more false s room = room
 
 kept_room : (d e : Engine) (cuts : List ℕ) → CutsInARow cuts d e → (share : ℕ × List DataRecord) → HasRoomIn d.subscriptions share → HasRoomIn e.subscriptions share
 kept_room d e cuts row share room some =
-    subst (λ (s : Option Subscription). IsSomeAnd s (λ x. HasRoom x.stream share.1)) (sym (row.table share.0)) (same_room share.1 (is_in share.0 cuts) (at d.subscriptions share.0) (room some))
+    subst (λ (s : Option Subscription). IsSomeAnd s (λ x. HasStreamRoom x.stream share.1)) (sym (row.table share.0)) (same_room share.1 (is_in share.0 cuts) (at d.subscriptions share.0) (room some))
 
 pub rooms_kept : (d e : Engine) (cuts : List ℕ) → CutsInARow cuts d e → (shares : List (ℕ × List DataRecord)) → AllByRecursion (HasRoomIn d.subscriptions) shares → AllByRecursion (HasRoomIn e.subscriptions) shares
 rooms_kept d e cuts row [] rooms = tt
@@ -101,8 +101,8 @@ same_spare n true (Some s) spare = spare
 same_spare n false s spare = spare
 
 -- a live subscription is ready for its share
-ready_one : (limits : Limits) (h : List Entry) (share : ℕ × List DataRecord) (s : Option Subscription) → AreInRange limits → length h ≤ 2 * MOST_ENTRIES → length (disclosed share.0 h) ≤ MOST_QUEUE * length h → IsLiveAs h limits share.0 s
-    → (0 < length share.1 → IsSomeAnd s (λ x. HasRoom x.stream share.1)) → IfSome s (λ x. length share.1 ≤ x.stream.spare) → IfSome s (λ x. IsReady x.stream share.1)
+ready_one : (limits : StreamLimits) (h : List Entry) (share : ℕ × List DataRecord) (s : Option Subscription) → AreEngineLimits limits → length h ≤ 2 * MOST_ENTRIES → length (disclosed share.0 h) ≤ MOST_QUEUE * length h → IsLiveAs h limits share.0 s
+    → (0 < length share.1 → IsSomeAnd s (λ x. HasStreamRoom x.stream share.1)) → IfSome s (λ x. length share.1 ≤ x.stream.spare) → IfSome s (λ x. IsReady x.stream share.1)
 ready_one limits h share None range short listed so room spare = tt
 ready_one limits h share (Some x) range short listed so room spare = record {
   room = room;
@@ -152,7 +152,7 @@ tallies_apart : (g : ℕ → List Count) (n : ℕ) (ns : List ℕ) → AllByRecu
 tallies_apart g n [] apart = tt
 tallies_apart g n (m ∷ ns) apart = (apart.0, tallies_apart g n ns apart.1)
 
-all_apart : (g : ℕ → List Count) (ns : List ℕ) → AreDistinct ns → AreApart (map (λ n. (n, g n)) ns)
+all_apart : (g : ℕ → List Count) (ns : List ℕ) → AreDistinct ns → NoneTwice (map (λ n. (n, g n)) ns)
 all_apart g [] distinct = tt
 all_apart g (n ∷ ns) distinct = (tallies_apart g n ns distinct.0, all_apart g ns distinct.1)
 
@@ -163,18 +163,18 @@ left_ready d e cuts g [] [] row uncut made = tt
 left_ready d e cuts g [] (n ∷ ns) row uncut made = absurd made
 left_ready d e cuts g (r ∷ rs) [] row uncut made = absurd made
 left_ready d e cuts g (r ∷ rs) (n ∷ ns) row uncut made = (
-  (ap (λ (ks : List ℕ). slice_get ks r.0) row.places ∙ made.0.0, subst (λ (h : Held). AreReady h r.1 (g n)) (sym (row.groups n ∙ ap (λ (b : Bool). cond b nothing_held (held_at d.groups n)) uncut.0)) made.0.1),
+  (ap (λ (ks : List ℕ). slice_get ks r.0) row.places ∙ made.0.0, subst (λ (h : HeldGroups). AreReadyToAdd h r.1 (g n)) (sym (row.groups n ∙ ap (λ (b : Bool). cond b nothing_held (held_at d.groups n)) uncut.0)) made.0.1),
   left_ready d e cuts g rs ns row uncut.1 made.1,
 )
 
 pub groups_ready : (d e : Engine) (h : List Entry) (x : Entry) (cuts : List ℕ) (reserved : List (ℕ × List Addition)) (tallies : List (ℕ × List Count))
-    → Stands e (after_cuts h cuts) → CutsInARow cuts d e → AreTallied (after_cuts h cuts) x tallies → (AreApart tallies → AllReady d.groups reserved tallies)
-    → AllReady e.groups reserved tallies × AreApart tallies
+    → Stands e (after_cuts h cuts) → CutsInARow cuts d e → AreTallied (after_cuts h cuts) x tallies → (NoneTwice tallies → AllReady d.groups reserved tallies)
+    → AllReady e.groups reserved tallies × NoneTwice tallies
 groups_ready d e h x cuts reserved tallies so row are made =
     let g : ℕ → List Count = λ n. map count_of (counted_at n (after_cuts h cuts) x) in
     let left : List ℕ = served (after_cuts h cuts) in
-    let apart : AreApart tallies =
-    subst AreApart (sym are) (all_apart g left (distinct_filter (λ s. is_served s (after_cuts h cuts)) (flat_map subscribed_in (after_cuts h cuts)) so.numbered.distinct)) in (
+    let apart : NoneTwice tallies =
+    subst NoneTwice (sym are) (all_apart g left (distinct_filter (λ s. is_served s (after_cuts h cuts)) (flat_map subscribed_in (after_cuts h cuts)) so.numbered.distinct)) in (
       subst (AllReady e.groups reserved) (sym are)
           (left_ready d e cuts g reserved left row (left_uncut h cuts left (all_served (after_cuts h cuts))) (subst (AllReady d.groups reserved) are (made apart))),
       apart,
@@ -183,21 +183,21 @@ groups_ready d e h x cuts reserved tallies so row are made =
 -- ---- a plan
 
 -- no more notes are kept than there are
-few_kept : (e : Engine) (h : List Entry) (number : ℕ) (octets : List ℕ) (p : Plan) → IsPlan e h number octets p → length p.notes.notes ≤ p.notes.count
+few_kept : (e : Engine) (h : List Entry) (number : ℕ) (octets : List ℕ) (p : MessagePlan) → IsPlan e h number octets p → length p.notes.notes ≤ p.notes.count
 few_kept e h number octets p plan =
-    omega (arith, ap (λ (k : Kept). length k.notes) plan.kept, ap (λ (k : Kept). k.count) plan.kept, length-take e.audit.limit plan.named)
+    omega (arith, ap (λ (k : KeptNotes). length k.notes) plan.kept, ap (λ (k : KeptNotes). k.count) plan.kept, length-take e.audit.limit plan.named)
 
 -- all are kept that the audit may hold
-all_kept : (e : Engine) (h : List Entry) (number : ℕ) (octets : List ℕ) (p : Plan) (plan : IsPlan e h number octets p) → p.notes.count ≤ e.audit.limit → p.notes.notes ≡ plan.named
+all_kept : (e : Engine) (h : List Entry) (number : ℕ) (octets : List ℕ) (p : MessagePlan) (plan : IsPlan e h number octets p) → p.notes.count ≤ e.audit.limit → p.notes.notes ≡ plan.named
 all_kept e h number octets p plan few =
-    ap (λ (k : Kept). k.notes) plan.kept ∙ take_all e.audit.limit plan.named (omega (arith, few, ap (λ (k : Kept). k.count) plan.kept))
+    ap (λ (k : KeptNotes). k.notes) plan.kept ∙ take_all e.audit.limit plan.named (omega (arith, few, ap (λ (k : KeptNotes). k.count) plan.kept))
 
 -- behind the cuts the message is what the plan says
-pub is_message : (d e : Engine) (h : List Entry) (number : ℕ) (octets : List ℕ) (p : Plan) (reserved : List (ℕ × List Addition)) → IsPlan d h number octets p → HasRoomForPlan d p reserved → CutsInARow p.cuts.items d e
-    → IsMessage e (after_cuts h p.cuts.items) p.session number octets (record { reading = p.reading; shares = map shown p.shares.items; tallies = map tallied p.tallies.items; entries = map (stamp p.position) p.notes.notes })
+pub is_message : (d e : Engine) (h : List Entry) (number : ℕ) (octets : List ℕ) (p : MessagePlan) (reserved : List (ℕ × List Addition)) → IsPlan d h number octets p → HasRoomForPlan d p reserved → CutsInARow p.cuts.items d e
+    → IsBroughtBy e (after_cuts h p.cuts.items) p.session.0 number octets (record { reading = p.reading; shares = map shown p.shares.items; tallies = map tallied p.tallies.items; entries = map (stamp p.position) p.notes.notes })
 is_message d e h number octets p reserved plan room row = record {
-  opened = is_open-cuts p.session h p.cuts.items ∙ plan.opened;
-  read = subst (λ ms. IsReadingOf ms octets p.reading) (sym (messages-cuts p.session h p.cuts.items)) plan.read;
+  opened = is_open-cuts p.session.0 h p.cuts.items ∙ plan.opened;
+  read = subst (λ ms. IsReadingOf ms octets p.reading) (sym (messages-cuts p.session.0 h p.cuts.items)) plan.read;
   shares_are = plan.judged.shares_are;
   tallies_are = plan.tallied_are;
   entries_are = ap (map (stamp p.position)) (all_kept d h number octets p plan whole) ∙ plan.judged.entries_are;
@@ -210,7 +210,7 @@ is_message d e h number octets p reserved plan room row = record {
     whole = omega (arith, room.audit)
 
 -- there is room for the cuts
-pub cuts_room : (d : Engine) (position : ℕ) (p : Plan) (reserved : List (ℕ × List Addition)) → IsPlannedFor d position p → HasRoomForPlan d p reserved → HasAuditRoom d.audit (length p.cuts.items)
+pub cuts_room : (d : Engine) (position : ℕ) (p : MessagePlan) (reserved : List (ℕ × List Addition)) → IsPlannedFor d position p → HasRoomForPlan d p reserved → HasAuditRoom d.audit (length p.cuts.items)
 cuts_room d position p reserved planned room = record {
   room = omega (arith, room.audit);
   reserved = omega (arith, room.reserved);
@@ -218,20 +218,20 @@ cuts_room d position p reserved planned room = record {
 }
 
 -- and behind them for the message
-pub ready : (d e : Engine) (position : ℕ) (p : Plan) (reserved : List (ℕ × List Addition)) → IsPlannedFor d position p → HasRoomForPlan d p reserved → CutsInARow p.cuts.items d e
-    → ((h : List Entry) → Stands d h → length h ≡ position → Stands e (after_cuts h p.cuts.items)) → IsReadyToTake e p.session p.reading (map shown p.shares.items) reserved (length p.notes.notes)
+pub ready : (d e : Engine) (position : ℕ) (p : MessagePlan) (reserved : List (ℕ × List Addition)) → IsPlannedFor d position p → HasRoomForPlan d p reserved → CutsInARow p.cuts.items d e
+    → ((h : List Entry) → Stands d h → length h ≡ position → Stands e (after_cuts h p.cuts.items)) → IsReadyToTake e p.session.0 p.reading (map shown p.shares.items) reserved (length p.notes.notes)
 ready d e position p reserved planned room row stands =
     let h = planned.history in
     let cuts = p.cuts.items in
     let so : Stands e (after_cuts h cuts) = stands h planned.stands planned.counted in
     let long : length (after_cuts h cuts) ≤ 2 * MOST_ENTRIES = omega (arith, length-cuts h cuts, planned.counted, planned.short, room.audit, room.limit) in
-    let E : Entry = Message p.session planned.number planned.octets in
+    let E : Entry = Message p.session.0 planned.number planned.octets in
     let few = few_kept d h planned.number planned.octets p planned.plan in
     record {
       history = after_cuts h cuts;
       stands = so;
-      session_room = subst (λ ss. IsSomeAnd (at_key p.session ss) (λ o. HasRoomFor o.session p.reading)) (sym row.rest.sessions) (session_room h p.session p.reading (at_key p.session d.sessions) (planned.stands.sessions p.session) planned.plan.opened room.session);
-      session_count = subst (λ ss. IfSome (at_key p.session ss) (λ o. o.accepted + 1 < 2 ^ 64)) (sym row.rest.sessions) (session_count h p.session (at_key p.session d.sessions) (omega (arith, planned.counted, planned.short)) (planned.stands.sessions p.session));
+      session_room = subst (λ ss. IsSomeAnd (at_key p.session.0 ss) (λ o. HasRoomFor o.session p.reading)) (sym row.rest.sessions) (session_room h p.session.0 p.reading (at_key p.session.0 d.sessions) (planned.stands.sessions p.session.0) planned.plan.opened room.session);
+      session_count = subst (λ ss. IfSome (at_key p.session.0 ss) (λ o. o.accepted + 1 < 2 ^ 64)) (sym row.rest.sessions) (session_count h p.session.0 (at_key p.session.0 d.sessions) (omega (arith, planned.counted, planned.short)) (planned.stands.sessions p.session.0));
       streams = streams_ready d e h E cuts (map shown p.shares.items) so long row planned.plan.judged.shares_are planned.plan.judged.room room.streams;
       groups = let made = groups_ready d e h E cuts reserved (map tallied p.tallies.items) so row planned.plan.tallied_are room.groups in (map tallied p.tallies.items, made.0, made.1);
       audit = omega (arith, row.entries, row.rest.audit_limit, room.audit, few);

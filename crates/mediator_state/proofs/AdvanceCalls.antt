@@ -1,6 +1,6 @@
 -- What an advance of the clock answers and leaves, by what its steps do.
 use Rattle.std.proofs.Common.{◌≡◌, ℕ, ◌≤◌, List, [], ◌∷◌, ◌++◌, length, map, refl, sym, ap, ◌∙◌, subst, append_assoc, arith}
-use Rattle.disclosure_audit.specs.Queue.{Standing}
+use Rattle.disclosure_audit.specs.Queue.{AuditStanding}
 use Rattle.event_journal.specs.Sizes.{IsCountOf}
 use Rattle.event_journal.specs.declared.entry.Entry.{Entry}
 use Rattle.event_journal.specs.declared.entry.Entry.TheVariants.{Advance, Cut}
@@ -21,7 +21,7 @@ use Rattle.mediator_state.specs.Seen.{waiting_of, IsSameEngine}
 use Rattle.mediator_state.specs.Planning.{IsJudged}
 use Rattle.mediator_state.specs.Accepting.{LacksAudit}
 use Rattle.mediator_state.specs.Advancing.{HasRoomToClose, IsClosingFor}
-use Rattle.mediator_state.specs.Calls.{StandsFor, Accepts, AuditHolds, with_cuts, Advances, RefusesAdvance}
+use Rattle.mediator_state.specs.Calls.{StateStandsFor, Accepts, AuditHoldsAfter, with_cuts_after, AdvancesAfter, RefusesAdvanceAfter}
 use Rattle.mediator_state.proofs.SameLaws.{stands_same, judged_same}
 use Rattle.mediator_state.proofs.CallLaws.{room_after, room_before, length-cut_entries, audit_holds}
 use Rattle.event_journal.specs.declared.limits.TheConstants.{MOST_ENTRIES}
@@ -35,12 +35,12 @@ pub record IsClosing (e : Engine) (h : List Entry) (t : ℕ) (c : Closing) (entr
 cuts_made : (e : Engine) (h : List Entry) (t : ℕ) (c : Closing) (entries : List Entry) → IsClosing e h t c entries → map Cut c.cuts.items ≡ cuts_before e.limits h (Advance t) (waiting_of e)
 cuts_made e h t c entries f = ap (λ (cuts : List ℕ). map Cut cuts) f.judged.cuts_are
 
-entries_closing : (e : Engine) (h : List Entry) (t : ℕ) (c : Closing) (entries : List Entry) → IsClosing e h t c entries → entries ≡ with_cuts e h (Advance t)
+entries_closing : (e : Engine) (h : List Entry) (t : ℕ) (c : Closing) (entries : List Entry) → IsClosing e h t c entries → entries ≡ with_cuts_after e h (Advance t)
 entries_closing e h t c entries f = f.entries_made ∙ ap (λ (cuts : List Entry). cuts ++ Advance t ∷ []) (cuts_made e h t c entries f)
 
 -- the audit gains its cuts alone
 noted_closing : (e : Engine) (h : List Entry) (t : ℕ) (c : Closing) (entries : List Entry) → IsClosing e h t c entries
-    → audit_list (h ++ with_cuts e h (Advance t)) ≡ audit_list h ++ cut_entries (length h) c.cuts.items
+    → audit_list (h ++ with_cuts_after e h (Advance t)) ≡ audit_list h ++ cut_entries (length h) c.cuts.items
 noted_closing e h t c entries f =
     ap (λ (cuts : List Entry). audit_list (h ++ (cuts ++ Advance t ∷ []))) (sym (cuts_made e h t c entries f))
     ∙ ap audit_list (sym (append_assoc h (map Cut c.cuts.items) (Advance t ∷ [])))
@@ -48,14 +48,14 @@ noted_closing e h t c entries f =
     ∙ audit-cuts h c.cuts.items
 
 pub closing_full : (limits : Journaled) (count sizes : ℕ) (e : Engine) (h : List Entry) (t : ℕ) (c : Closing) (entries : List Entry) → IsCountOf h count sizes → IsClosing e h t c entries
-    → (HasRoom limits count sizes entries → ⊥) → RefusesAdvance fault.JournalFull limits e h t
+    → (HasRoom limits count sizes entries → ⊥) → RefusesAdvanceAfter fault.JournalFull limits e h t
 closing_full limits count sizes e h t c entries counts f full = (
   f.ahead,
   λ r. full (room_before limits count sizes h entries counts (subst (λ (more : List Entry). HasRoomAfter limits h more) (sym (entries_closing e h t c entries f)) r)),
 )
 
 pub closing_audit : (why : Fault) (limits : Journaled) (count sizes : ℕ) (e : Engine) (h : List Entry) (t : ℕ) (c : Closing) (entries : List Entry) → IsCountOf h count sizes → IsClosing e h t c entries
-    → HasRoom limits count sizes entries → LacksAudit why e.audit (length c.cuts.items) → RefusesAdvance why limits e h t
+    → HasRoom limits count sizes entries → LacksAudit why e.audit (length c.cuts.items) → RefusesAdvanceAfter why limits e h t
 closing_audit (fault.AuditFull need room) limits count sizes e h t c entries counts f r lacks = (
   f.ahead,
   subst (λ (more : List Entry). HasRoomAfter limits h more) (entries_closing e h t c entries f) (room_after limits count sizes h entries counts r),
@@ -73,17 +73,20 @@ closing_audit (fault.Policy why) limits count sizes e h t c entries counts f r l
 closing_audit fault.BadName limits count sizes e h t c entries counts f r lacks = absurd lacks
 closing_audit (fault.AlreadySubscribed sub) limits count sizes e h t c entries counts f r lacks = absurd lacks
 closing_audit fault.UnknownSub limits count sizes e h t c entries counts f r lacks = absurd lacks
+closing_audit fault.NoHandle limits count sizes e h t c entries counts f r lacks = absurd lacks
+closing_audit fault.HandedFull limits count sizes e h t c entries counts f r lacks = absurd lacks
+closing_audit fault.BadLimits limits count sizes e h t c entries counts f r lacks = absurd lacks
 closing_audit (fault.ClockBack last) limits count sizes e h t c entries counts f r lacks = absurd lacks
 
 -- memory ran out where the clock doesn't stand later
-pub ahead_memory : (why : Fault) (limits : Journaled) (e : Engine) (h : List Entry) (t : ℕ) → why ≡ fault.OutOfMemory → clock_of h ≤ t → RefusesAdvance why limits e h t
+pub ahead_memory : (why : Fault) (limits : Journaled) (e : Engine) (h : List Entry) (t : ℕ) → why ≡ fault.OutOfMemory → clock_of h ≤ t → RefusesAdvanceAfter why limits e h t
 ahead_memory why limits e h t is ahead = rw is ahead
 
 -- the room that was made for an advance holds what is named of its cuts
-pub closing_held : (d e : Engine) (h : List Entry) (t : ℕ) (c : Closing) (entries : List Entry) → IsSameEngine d e → Stands d h → IsClosing d h t c entries → HasRoomToClose e c → AuditHolds d h (with_cuts d h (Advance t))
+pub closing_held : (d e : Engine) (h : List Entry) (t : ℕ) (c : Closing) (entries : List Entry) → IsSameEngine d e → Stands d h → IsClosing d h t c entries → HasRoomToClose e c → AuditHoldsAfter d h (with_cuts_after d h (Advance t))
 closing_held d e h t c entries same so f room =
-    audit_holds d h (with_cuts d h (Advance t)) (cut_entries (length h) c.cuts.items) so.audit (noted_closing d h t c entries f)
-    (omega (arith, room.audit.room, same.audit_limit, ap (λ (s : Standing). length s.entries) same.audit, length-cut_entries (length h) c.cuts.items))
+    audit_holds d h (with_cuts_after d h (Advance t)) (cut_entries (length h) c.cuts.items) so.audit (noted_closing d h t c entries f)
+    (omega (arith, room.audit.room, same.audit_limit, ap (λ (s : AuditStanding). length s.entries) same.audit, length-cut_entries (length h) c.cuts.items))
 
 -- room was made for it, which the engine shows in nothing else
 pub closing_for : (d e : Engine) (h : List Entry) (t position : ℕ) (c : Closing) → IsSameEngine d e → Stands d h → length h ≡ position → position ≤ MOST_ENTRIES
@@ -102,10 +105,10 @@ AcceptsClosing e position t c new = (h : List Entry) → Stands e h → length h
     → Stands new (after_cuts h c.cuts.items ++ Advance t ∷ [])
 
 pub advanced : {C : Type 0} (tells : C → List Entry → Type 0) (limits : C → Journaled) (old new : State C) (e : Engine) (count sizes : ℕ) (h : List Entry) (t : ℕ) (c : Closing) (entries : List Entry) (position : ℕ)
-    → StandsFor tells old h → IsCountOf h count sizes → position ≡ count → IsClosing old.engine h t c entries → HasRoom (limits old.chronicle) count sizes entries → IsSameEngine old.engine e → AuditHolds old.engine h (with_cuts old.engine h (Advance t))
-    → tells new.chronicle (h ++ entries) → AcceptsClosing e position t c new.engine → Advances old.engine t h (Accepts tells limits old new h)
+    → StateStandsFor tells old h → IsCountOf h count sizes → position ≡ count → IsClosing old.engine h t c entries → HasRoom (limits old.chronicle) count sizes entries → IsSameEngine old.engine e → AuditHoldsAfter old.engine h (with_cuts_after old.engine h (Advance t))
+    → tells new.chronicle (h ++ entries) → AcceptsClosing e position t c new.engine → AdvancesAfter old.engine t h (Accepts tells limits old new h)
 advanced tells limits old new e count sizes h t c entries position stands counts at f room same held told accepts =
-    let same_entries : entries ≡ with_cuts old.engine h (Advance t) = entries_closing old.engine h t c entries f in
+    let same_entries : entries ≡ with_cuts_after old.engine h (Advance t) = entries_closing old.engine h t c entries f in
     let after : Stands new.engine (after_cuts h c.cuts.items ++ Advance t ∷ []) =
     accepts h (stands_same old.engine e h same stands.stands) (sym (at ∙ counts.entries)) f.ahead (judged_same old.engine e h (Advance t) c.cuts.items (map shown c.shares.items) [] same f.judged) in
     let history : after_cuts h c.cuts.items ++ Advance t ∷ [] ≡ h ++ entries = append_assoc h (map Cut c.cuts.items) (Advance t ∷ []) ∙ ap (λ (more : List Entry). h ++ more) (sym f.entries_made) in

@@ -6,8 +6,8 @@ use Rattle.std.proofs.lemmas.Simd.{map-map}
 use Rattle.std.proofs.lemmas.List.{map-append, take_more}
 use Rattle.std.proofs.lemmas.List.Elements.{filter-append}
 use Rattle.ipfix_template.specs.DataRecord.{DataRecord}
-use Rattle.flow_aggregate.specs.Groups.{Counted}
-use Rattle.flow_aggregate.specs.Running.{StandsFor as StandsForRecords}
+use Rattle.flow_aggregate.specs.Groups.{Sample}
+use Rattle.flow_aggregate.specs.Running.{SumsStand as StandsForRecords}
 use Rattle.flow_aggregate.specs.Closing.{closed_by}
 use Rattle.event_journal.specs.declared.entry.Entry.{Entry}
 use Rattle.event_journal.specs.declared.entry.Entry.TheVariants.{Advance}
@@ -23,7 +23,7 @@ use Rattle.mediator_tables.specs.declared.served.Served.{Served}
 use Rattle.mediator_tables.specs.declared.share.Share.{Share}
 use Rattle.mediator_tables.specs.SubscriptionTable.{shown}
 use Rattle.mediator_tables.specs.GroupTable.{groups_at}
-use Rattle.mediator_tables.specs.SubscriptionTable.{Table, told, told_in, lacks_room_at}
+use Rattle.mediator_tables.specs.SubscriptionTable.{SubscriptionRows, told, told_in, lacks_room_at}
 use Rattle.mediator_state.specs.declared.engine.Engine.{Engine}
 use Rattle.mediator_state.specs.Standing.{Stands}
 use Rattle.mediator_state.specs.Seen.{waiting_of}
@@ -37,7 +37,7 @@ number_in s = s.0
 -- ---- what it closes for each
 
 -- one share more that is parted
-part_one : (t : Table) (all : List (ℕ × List DataRecord)) (cuts : List ℕ) (left : List (ℕ × List DataRecord)) (x : ℕ × List DataRecord) (lacking : Bool)
+part_one : (t : SubscriptionRows) (all : List (ℕ × List DataRecord)) (cuts : List ℕ) (left : List (ℕ × List DataRecord)) (x : ℕ × List DataRecord) (lacking : Bool)
     → lacks_room_at t x ≡ lacking → AreParted t all cuts left → AreParted t (all ++ x ∷ []) (cuts ++ cond lacking (x.0 ∷ []) []) (left ++ cond lacking [] (x ∷ []))
 part_one t all cuts left x true is so = record {
   cutting = ap (λ l. l ++ x.0 ∷ []) so.cutting
@@ -59,7 +59,7 @@ part_one t all cuts left x false is so = record {
 -- the share of what an advance closes for one of those that are served
 pub record IsShareOf (e : Engine) (t : ℕ) (who : Served) (s : Share) : Type 0 where
   pub sub : s.sub ≡ who.sub
-  pub closes : (counted : List Counted) → StandsForRecords (groups_at e.groups who.sub) counted → s.given ≡ closed_by t counted
+  pub closes : (counted : List Sample) → StandsForRecords (groups_at e.groups who.sub) counted → s.given ≡ closed_by t counted
 
 -- those before a place are parted
 abbrev pub IsParting : Engine → ℕ → List Served → List ℕ → List Share → ℕ → Type 0

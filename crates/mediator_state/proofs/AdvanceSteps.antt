@@ -6,17 +6,17 @@ use Rattle.sequences.proofs.BeforeLaws.{last_of-push}
 use Rattle.ipfix_template.specs.DataRecord.{DataRecord}
 use Rattle.ipfix_session.specs.Keeping.{at_key}
 use Rattle.policy_text.specs.Policies.{nothing as no_policy}
-use Rattle.subscriber_stream.specs.declared.limits.Limits.{Limits}
+use Rattle.subscriber_stream.specs.declared.limits.StreamLimits.{StreamLimits}
 use Rattle.subscriber_stream.specs.Standing.{StandsAt}
-use Rattle.flow_aggregate.specs.Groups.{Counted}
-use Rattle.flow_aggregate.specs.Running.{staying, StandsFor as StandsForRecords}
+use Rattle.flow_aggregate.specs.Groups.{Sample}
+use Rattle.flow_aggregate.specs.Running.{staying, SumsStand as StandsForRecords}
 use Rattle.flow_aggregate.specs.Closing.{closed_by}
 use Rattle.disclosure_audit.specs.Queue.{StandsIn}
 use Rattle.event_journal.specs.declared.entry.Entry.{Entry}
 use Rattle.event_journal.specs.declared.entry.Entry.TheVariants.{Advance}
 use Rattle.mediator_history.specs.Numbers.{AreDistinct}
 use Rattle.mediator_history.specs.Sessions.{opens, is_open, opened_in, sessions_opened}
-use Rattle.mediator_history.specs.Subscriptions.{edited, texts_in, named, name_of, begins, is_live, switched, is_served, subscribed_in, subscriptions_begun}
+use Rattle.mediator_history.specs.Subscriptions.{policy_from, texts_in, named, name_of, begins, is_live, switched, is_served, subscribed_in, subscriptions_begun}
 use Rattle.mediator_history.specs.Counting.{clock_in, clock_of, running}
 use Rattle.mediator_history.specs.Disclosed.{given_at, disclosed}
 use Rattle.mediator_history.specs.Auditing.{audit_list}
@@ -30,7 +30,7 @@ use Rattle.mediator_shares.specs.InForce.{InForce, in_force_with}
 use Rattle.mediator_tables.specs.GroupTable.{groups_at}
 use Rattle.mediator_state.specs.declared.engine.Engine.{Engine}
 use Rattle.mediator_state.specs.Ascending.{Ascend}
-use Rattle.mediator_state.specs.Standing.{Stands, place, IsSession, IsLiveAs, AreNumbered, AreInRange}
+use Rattle.mediator_state.specs.Standing.{Stands, place, IsSession, IsLiveAs, AreNumbered, AreEngineLimits}
 use Rattle.mediator_state.specs.Seen.{place_in, place_of}
 use Rattle.mediator_state.specs.Advancing.{AreClosings}
 use Rattle.mediator_state.proofs.CutSteps.{no_entry, session_stays, unopened_stays, unbegun_stays}
@@ -63,7 +63,7 @@ closes_served_only h t sub off = ap (closed_by t) (running_unserved sub h off) �
 
 -- ---- subscriptions
 
-live_advanced : (h : List Entry) (t : ℕ) (limits : Limits) (sub : ℕ) (old new : Option Subscription)
+live_advanced : (h : List Entry) (t : ℕ) (limits : StreamLimits) (sub : ℕ) (old new : Option Subscription)
     → Related (TakesGiven (given_at sub h (Advance t))) old new → IsLiveAs h limits sub old → IsLiveAs (h ++ Advance t ∷ []) limits sub new
 live_advanced h t limits sub None None takes so = is_live-advance sub h t ∙ so
 live_advanced h t limits sub None (Some y) takes so = absurd takes
@@ -110,12 +110,12 @@ pub record Closes (d e : Engine) (t : ℕ) (shares : List (ℕ × List DataRecor
   pub limits : e.limits ≡ d.limits
   pub each : (sub : ℕ) → Related (TakesGiven (given_to sub shares)) (at d.subscriptions sub) (at e.subscriptions sub)
   pub served : e.subscriptions.served ≡ d.subscriptions.served
-  pub stays : (q : ℕ) (counted : List Counted) → StandsForRecords (groups_at d.groups q) counted → StandsForRecords (groups_at e.groups q) (staying t counted)
+  pub stays : (q : ℕ) (counted : List Sample) → StandsForRecords (groups_at d.groups q) counted → StandsForRecords (groups_at e.groups q) (staying t counted)
   pub audit : e.audit ≡ d.audit
 
 pub advance_step : (d e : Engine) (h : List Entry) (t : ℕ) (shares : List (ℕ × List DataRecord)) → Stands d h → clock_of h ≤ t → AreClosings d h t shares → Closes d e t shares → Stands e (h ++ Advance t ∷ [])
 advance_step d e h t shares so ahead is did = record {
-  policy = ap (λ (f : InForce). f.policy) did.in_force ∙ so.policy ∙ sym (last_of-push edited no_policy h (Advance t));
+  policy = ap (λ (f : InForce). f.policy) did.in_force ∙ so.policy ∙ sym (last_of-push policy_from no_policy h (Advance t));
   clock = ap (λ (f : InForce). f.clock) did.in_force ∙ sym (last_of-push clock_in 0 h (Advance t));
   edits = did.edits ∙ so.edits ∙ sym (ap (λ (ts : List (List ℕ)). length ts) (no_entry texts_in h (Advance t) refl));
   opened = did.opened ∙ so.opened ∙ sym (ap (λ (ns : List ℕ). length ns) (no_entry opened_in h (Advance t) refl));
@@ -127,7 +127,7 @@ advance_step d e h t shares so ahead is did = record {
   served_are = did.served ∙ so.served_are ∙ sym (served_same h (Advance t) (λ sub. refl) refl);
   groups = λ sub. subst (StandsForRecords (groups_at e.groups sub)) (sym (running-advance sub h t ahead)) (did.stays sub (running sub h) (so.groups sub));
   audit = subst (λ a. StandsIn a.standing (audit_list (h ++ Advance t ∷ []))) (sym did.audit) (subst (StandsIn d.audit.standing) (sym (audit_same h (Advance t) refl)) so.audit);
-  limits = subst AreInRange (sym did.limits) so.limits;
+  limits = subst AreEngineLimits (sym did.limits) so.limits;
   numbered = numbered_advance h t so.numbered;
   small = small_given d h (Advance t) shares so (closes_served_only h t) (omega arith) is.shares_are is.room is.streamable;
 }

@@ -5,11 +5,11 @@ use Rattle.std.specs.Result.{IsErr, IsErrAnd, IfErr}
 use Rattle.std.proofs.lemmas.List.{length-map, drop-append-le}
 use Rattle.policy_text.specs.Naming.{is_name}
 use Rattle.policy_text.specs.Parsing.{policy_of}
-use Rattle.policy_text.specs.Policies.{Meaning as Policy}
+use Rattle.policy_text.specs.Policies.{PolicyMeaning as Policy}
 use Rattle.ipfix_session.specs.Meaning.{meaning_of}
 use Rattle.flow_aggregate.specs.declared.addition.Addition.{Addition}
 use Rattle.disclosure_audit.specs.declared.entry.AuditEntry.{AuditEntry}
-use Rattle.disclosure_audit.specs.Queue.{Standing, StandsIn, stamp}
+use Rattle.disclosure_audit.specs.Queue.{AuditStanding, StandsIn, stamp}
 use Rattle.event_journal.specs.Sizes.{history_octets, IsCountOf}
 use Rattle.event_journal.specs.declared.entry.Entry.{Entry}
 use Rattle.event_journal.specs.declared.entry.Entry.TheVariants.{Message, Edit, Subscribe, Cut}
@@ -23,17 +23,17 @@ use Rattle.mediator_history.proofs.HistoryLaws.{audit-push}
 use Rattle.ipfix_session.specs.ReadAhead.{Ahead}
 use Rattle.prepared_message.specs.Preparation.{Preparation}
 use Rattle.mediator_state.specs.declared.engine.Engine.{Engine}
-use Rattle.mediator_state.specs.declared.plan.Plan.{Plan}
+use Rattle.mediator_state.specs.declared.plan.MessagePlan.{MessagePlan}
 use Rattle.mediator_state.specs.declared.receipt.Receipt.{Receipt}
 use Rattle.mediator_state.specs.declared.fault.Fault.{Fault}
 use Rattle.mediator_state.specs.declared.fault.Fault.TheVariants as fault
 use Rattle.mediator_state.specs.declared.state.State.{State}
 use Rattle.mediator_state.specs.Standing.{Stands, StandsSomewhere}
 use Rattle.mediator_state.specs.Seen.{waiting_of, IsUntouched, IsSameEngine}
-use Rattle.mediator_shares.specs.Noting.{Kept}
+use Rattle.mediator_shares.specs.Noting.{KeptNotes}
 use Rattle.mediator_state.specs.Planning.{IsPlan, IsNext, IsNextReading, RefusesMessage}
 use Rattle.mediator_state.specs.Accepting.{LacksAudit, HasRoomForPlan, IsPlannedFor, receipt_of}
-use Rattle.mediator_state.specs.Calls.{StandsFor, StandsForSome, StaysSame, AuditHolds, Accepts, LacksRoom, LacksRoomAfter, with_cuts, HasMeaning, RefusesReceive, RefusesReceivePrepared, Receives, IsFree, RefusesEdit, RefusesSubscribe}
+use Rattle.mediator_state.specs.Calls.{StateStandsFor, StandsForSome, StaysSame, AuditHoldsAfter, Accepts, LacksRoom, LacksRoomAfter, with_cuts_after, HasMeaning, RefusesReceiveAfter, RefusesReceivePreparedAfter, ReceivesAfter, IsFree, RefusesEdit, RefusesSubscribe}
 use Rattle.mediator_state.proofs.SameLaws.{stands_same, untouched_same, plan_same}
 use Rattle.event_journal.specs.declared.limits.TheConstants.{MOST_ENTRIES}
 
@@ -74,26 +74,29 @@ lacks_after (fault.Policy why) limits count octets h more c lacks = absurd lacks
 lacks_after fault.BadName limits count octets h more c lacks = absurd lacks
 lacks_after (fault.AlreadySubscribed sub) limits count octets h more c lacks = absurd lacks
 lacks_after fault.UnknownSub limits count octets h more c lacks = absurd lacks
+lacks_after fault.NoHandle limits count octets h more c lacks = absurd lacks
+lacks_after fault.HandedFull limits count octets h more c lacks = absurd lacks
+lacks_after fault.BadLimits limits count octets h more c lacks = absurd lacks
 lacks_after (fault.ClockBack last) limits count octets h more c lacks = absurd lacks
 lacks_after (fault.AuditFull need room) limits count octets h more c lacks = absurd lacks
 
 -- ---- a message and its cuts
 
-pub next_of : (e : Engine) (h : List Entry) (session number : ℕ) (octets : List ℕ) (p : Plan) → p.session ≡ session → IsPlan e h number octets p → IsNext h session number
+pub next_of : (e : Engine) (h : List Entry) (session number : ℕ) (octets : List ℕ) (p : MessagePlan) → p.session.0 ≡ session → IsPlan e h number octets p → IsNext h session number
 next_of e h session number octets p is plan = record {
   opened = subst (λ (s : ℕ). is_open s h ≡ true) is plan.opened;
   turn = subst (λ (s : ℕ). number ≡ length (messages_of s h)) is plan.turn;
 }
 
-means_of : (e : Engine) (h : List Entry) (session number : ℕ) (octets : List ℕ) (p : Plan) → p.session ≡ session → IsPlan e h number octets p → meaning_of (messages_of session h) octets ≡ Ok p.reading.meaning
+means_of : (e : Engine) (h : List Entry) (session number : ℕ) (octets : List ℕ) (p : MessagePlan) → p.session.0 ≡ session → IsPlan e h number octets p → meaning_of (messages_of session h) octets ≡ Ok p.reading.meaning
 means_of e h session number octets p is plan = ap (λ (s : ℕ). meaning_of (messages_of s h) octets) (sym is) ∙ plan.read.means
 
-cuts_of : (e : Engine) (h : List Entry) (session number : ℕ) (octets : List ℕ) (p : Plan) → p.session ≡ session → IsPlan e h number octets p → map Cut p.cuts.items ≡ cuts_before e.limits h (Message session number octets) (waiting_of e)
+cuts_of : (e : Engine) (h : List Entry) (session number : ℕ) (octets : List ℕ) (p : MessagePlan) → p.session.0 ≡ session → IsPlan e h number octets p → map Cut p.cuts.items ≡ cuts_before e.limits h (Message session number octets) (waiting_of e)
 cuts_of e h session number octets p is plan =
     ap (λ (cuts : List ℕ). map Cut cuts) plan.judged.cuts_are ∙ ap (λ (s : ℕ). cuts_before e.limits h (Message s number octets) (waiting_of e)) is
 
 -- the entries that are appended
-pub entries_are : (e : Engine) (h : List Entry) (session number : ℕ) (octets : List ℕ) (p : Plan) (entries : List Entry) → p.session ≡ session → entries ≡ map Cut p.cuts.items ++ Message session number octets ∷ [] → IsPlan e h number octets p → entries ≡ with_cuts e h (Message session number octets)
+pub entries_are : (e : Engine) (h : List Entry) (session number : ℕ) (octets : List ℕ) (p : MessagePlan) (entries : List Entry) → p.session.0 ≡ session → entries ≡ map Cut p.cuts.items ++ Message session number octets ∷ [] → IsPlan e h number octets p → entries ≡ with_cuts_after e h (Message session number octets)
 entries_are e h session number octets p entries is made plan =
     made ∙ ap (λ (cuts : List Entry). cuts ++ Message session number octets ∷ []) (cuts_of e h session number octets p is plan)
 
@@ -104,16 +107,16 @@ length-cut_entries n [] = refl
 length-cut_entries n (sub ∷ subs) = ap (λ (k : ℕ). suc k) (length-cut_entries (n + 1) subs)
 
 -- the entries of what the audit names of a message
-abbrev entries_of : (e : Engine) (h : List Entry) (number : ℕ) (octets : List ℕ) (p : Plan) → IsPlan e h number octets p → List AuditEntry
+abbrev entries_of : (e : Engine) (h : List Entry) (number : ℕ) (octets : List ℕ) (p : MessagePlan) → IsPlan e h number octets p → List AuditEntry
 entries_of e h number octets p plan = map (stamp p.position) plan.named
 
-length-named : (e : Engine) (h : List Entry) (number : ℕ) (octets : List ℕ) (p : Plan) (plan : IsPlan e h number octets p)
+length-named : (e : Engine) (h : List Entry) (number : ℕ) (octets : List ℕ) (p : MessagePlan) (plan : IsPlan e h number octets p)
     → length (cut_entries (length h) p.cuts.items ++ entries_of e h number octets p plan) ≡ length p.cuts.items + p.notes.count
 length-named e h number octets p plan =
-    omega (arith, length-append (cut_entries (length h) p.cuts.items) (entries_of e h number octets p plan), length-cut_entries (length h) p.cuts.items, length-map plan.named (stamp p.position), ap (λ (k : Kept). k.count) plan.kept)
+    omega (arith, length-append (cut_entries (length h) p.cuts.items) (entries_of e h number octets p plan), length-cut_entries (length h) p.cuts.items, length-map plan.named (stamp p.position), ap (λ (k : KeptNotes). k.count) plan.kept)
 
-noted_of : (e : Engine) (h : List Entry) (session number : ℕ) (octets : List ℕ) (p : Plan) → p.session ≡ session → (plan : IsPlan e h number octets p)
-    → audit_list (h ++ with_cuts e h (Message session number octets)) ≡ audit_list h ++ (cut_entries (length h) p.cuts.items ++ entries_of e h number octets p plan)
+noted_of : (e : Engine) (h : List Entry) (session number : ℕ) (octets : List ℕ) (p : MessagePlan) → p.session.0 ≡ session → (plan : IsPlan e h number octets p)
+    → audit_list (h ++ with_cuts_after e h (Message session number octets)) ≡ audit_list h ++ (cut_entries (length h) p.cuts.items ++ entries_of e h number octets p plan)
 noted_of e h session number octets p is plan =
     let message : Entry = Message session number octets in
     let cuts : List ℕ = p.cuts.items in
@@ -126,7 +129,7 @@ noted_of e h session number octets p is plan =
 
 -- ---- why a message is refused
 
-pub refused_message : (why : Fault) (limits : Journaled) (e : Engine) (h : List Entry) (session number : ℕ) (octets : List ℕ) → RefusesMessage why h session number octets → RefusesReceive why limits e h session number octets
+pub refused_message : (why : Fault) (limits : Journaled) (e : Engine) (h : List Entry) (session number : ℕ) (octets : List ℕ) → RefusesMessage why h session number octets → RefusesReceiveAfter why limits e h session number octets
 refused_message fault.JournalFull limits e h session number octets r = absurd r
 refused_message fault.OutOfMemory limits e h session number octets r = r
 refused_message fault.UnknownSession limits e h session number octets r = r
@@ -137,12 +140,15 @@ refused_message (fault.Policy why) limits e h session number octets r = r
 refused_message fault.BadName limits e h session number octets r = r
 refused_message (fault.AlreadySubscribed sub) limits e h session number octets r = r
 refused_message fault.UnknownSub limits e h session number octets r = r
+refused_message fault.NoHandle limits e h session number octets r = r
+refused_message fault.HandedFull limits e h session number octets r = r
+refused_message fault.BadLimits limits e h session number octets r = r
 refused_message (fault.ClockBack last) limits e h session number octets r = r
 refused_message (fault.AuditFull need room) limits e h session number octets r = absurd r
 
 -- so it is where the message was prepared, which then has a meaning
-pub refused_as_prepared : (why : Fault) (limits : Journaled) (e : Engine) (h : List Entry) (session number : ℕ) (p : Preparation) (reading : Ahead) → IsNextReading h session number p.message reading → RefusesReceive why limits e h session number p.message
-    → RefusesReceivePrepared why limits e h session number p
+pub refused_as_prepared : (why : Fault) (limits : Journaled) (e : Engine) (h : List Entry) (session number : ℕ) (p : Preparation) (reading : Ahead) → IsNextReading h session number p.message reading → RefusesReceiveAfter why limits e h session number p.message
+    → RefusesReceivePreparedAfter why limits e h session number p
 refused_as_prepared fault.JournalFull limits e h session number p reading read r = r
 refused_as_prepared fault.OutOfMemory limits e h session number p reading read r = r
 refused_as_prepared fault.UnknownSession limits e h session number p reading read r = r
@@ -153,26 +159,29 @@ refused_as_prepared (fault.Policy why) limits e h session number p reading read 
 refused_as_prepared fault.BadName limits e h session number p reading read r = r
 refused_as_prepared (fault.AlreadySubscribed sub) limits e h session number p reading read r = r
 refused_as_prepared fault.UnknownSub limits e h session number p reading read r = r
+refused_as_prepared fault.NoHandle limits e h session number p reading read r = r
+refused_as_prepared fault.HandedFull limits e h session number p reading read r = r
+refused_as_prepared fault.BadLimits limits e h session number p reading read r = r
 refused_as_prepared (fault.ClockBack last) limits e h session number p reading read r = r
 refused_as_prepared (fault.AuditFull need room) limits e h session number p reading read r = r
 
 -- what was found out of a message before it is accepted
-pub record IsFound (e : Engine) (h : List Entry) (session number : ℕ) (octets : List ℕ) (p : Plan) (entries : List Entry) : Type 0 where
+pub record IsFound (e : Engine) (h : List Entry) (session number : ℕ) (octets : List ℕ) (p : MessagePlan) (entries : List Entry) : Type 0 where
   pub plan : IsPlan e h number octets p
-  pub session_is : p.session ≡ session
+  pub session_is : p.session.0 ≡ session
   pub entries_made : entries ≡ map Cut p.cuts.items ++ Message session number octets ∷ []
 
-has_meaning : (e : Engine) (h : List Entry) (session number : ℕ) (octets : List ℕ) (p : Plan) → p.session ≡ session → IsPlan e h number octets p → HasMeaning h session octets
+has_meaning : (e : Engine) (h : List Entry) (session number : ℕ) (octets : List ℕ) (p : MessagePlan) → p.session.0 ≡ session → IsPlan e h number octets p → HasMeaning h session octets
 has_meaning e h session number octets p is plan = record { meaning = p.reading.meaning; means = means_of e h session number octets p is plan }
 
-pub refused_full : (limits : Journaled) (count sizes : ℕ) (e : Engine) (h : List Entry) (session number : ℕ) (octets : List ℕ) (p : Plan) (entries : List Entry) → IsCountOf h count sizes → IsFound e h session number octets p entries → (HasRoom limits count sizes entries → ⊥) → RefusesReceive fault.JournalFull limits e h session number octets
+pub refused_full : (limits : Journaled) (count sizes : ℕ) (e : Engine) (h : List Entry) (session number : ℕ) (octets : List ℕ) (p : MessagePlan) (entries : List Entry) → IsCountOf h count sizes → IsFound e h session number octets p entries → (HasRoom limits count sizes entries → ⊥) → RefusesReceiveAfter fault.JournalFull limits e h session number octets
 refused_full limits count sizes e h session number octets p entries c f full = (
   next_of e h session number octets p f.session_is f.plan,
   has_meaning e h session number octets p f.session_is f.plan,
   λ r. full (room_before limits count sizes h entries c (subst (λ (more : List Entry). HasRoomAfter limits h more) (sym (entries_are e h session number octets p entries f.session_is f.entries_made f.plan)) r)),
 )
 
-pub refused_audit : (why : Fault) (limits : Journaled) (count sizes : ℕ) (e : Engine) (h : List Entry) (session number : ℕ) (octets : List ℕ) (p : Plan) (entries : List Entry) → IsCountOf h count sizes → IsFound e h session number octets p entries → HasRoom limits count sizes entries → LacksAudit why e.audit (length p.cuts.items + p.notes.count) → RefusesReceive why limits e h session number octets
+pub refused_audit : (why : Fault) (limits : Journaled) (count sizes : ℕ) (e : Engine) (h : List Entry) (session number : ℕ) (octets : List ℕ) (p : MessagePlan) (entries : List Entry) → IsCountOf h count sizes → IsFound e h session number octets p entries → HasRoom limits count sizes entries → LacksAudit why e.audit (length p.cuts.items + p.notes.count) → RefusesReceiveAfter why limits e h session number octets
 refused_audit (fault.AuditFull need room) limits count sizes e h session number octets p entries c f r lacks = (
   next_of e h session number octets p f.session_is f.plan,
   has_meaning e h session number octets p f.session_is f.plan,
@@ -195,16 +204,19 @@ refused_audit (fault.Policy why) limits count sizes e h session number octets p 
 refused_audit fault.BadName limits count sizes e h session number octets p entries c f r lacks = absurd lacks
 refused_audit (fault.AlreadySubscribed sub) limits count sizes e h session number octets p entries c f r lacks = absurd lacks
 refused_audit fault.UnknownSub limits count sizes e h session number octets p entries c f r lacks = absurd lacks
+refused_audit fault.NoHandle limits count sizes e h session number octets p entries c f r lacks = absurd lacks
+refused_audit fault.HandedFull limits count sizes e h session number octets p entries c f r lacks = absurd lacks
+refused_audit fault.BadLimits limits count sizes e h session number octets p entries c f r lacks = absurd lacks
 refused_audit (fault.ClockBack last) limits count sizes e h session number octets p entries c f r lacks = absurd lacks
 
 -- memory ran out behind what was found out of a message
-pub next_memory : (why : Fault) (limits : Journaled) (e : Engine) (h : List Entry) (session number : ℕ) (octets : List ℕ) → why ≡ fault.OutOfMemory → IsNext h session number → RefusesReceive why limits e h session number octets
+pub next_memory : (why : Fault) (limits : Journaled) (e : Engine) (h : List Entry) (session number : ℕ) (octets : List ℕ) → why ≡ fault.OutOfMemory → IsNext h session number → RefusesReceiveAfter why limits e h session number octets
 next_memory why limits e h session number octets is next = rw is next
 
 -- ---- that the audit holds what is named
 
 pub audit_holds : (e : Engine) (h more : List Entry) (noted : List AuditEntry) → StandsIn e.audit.standing (audit_list h) → audit_list (h ++ more) ≡ audit_list h ++ noted
-    → length e.audit.standing.entries + length noted ≤ e.audit.limit → AuditHolds e h more
+    → length e.audit.standing.entries + length noted ≤ e.audit.limit → AuditHoldsAfter e h more
 audit_holds e h more noted stands is room = record {
   before = omega (arith, room);
   after = subst (λ (n : ℕ). n ≤ e.audit.limit) (sym waiting) room;
@@ -218,16 +230,16 @@ audit_holds e h more noted stands is room = record {
         ∙ ap (λ (l : List AuditEntry). length l + length noted) (sym stands.waiting)
 
 -- the room that was made for a message holds what is named of it and its cuts
-pub message_held : (d e : Engine) (h : List Entry) (session number : ℕ) (octets : List ℕ) (p : Plan) (entries : List Entry) (added : List (ℕ × List Addition)) → IsSameEngine d e → Stands d h → IsFound d h session number octets p entries → HasRoomForPlan e p added
-    → AuditHolds d h (with_cuts d h (Message session number octets))
+pub message_held : (d e : Engine) (h : List Entry) (session number : ℕ) (octets : List ℕ) (p : MessagePlan) (entries : List Entry) (added : List (ℕ × List Addition)) → IsSameEngine d e → Stands d h → IsFound d h session number octets p entries → HasRoomForPlan e p added
+    → AuditHoldsAfter d h (with_cuts_after d h (Message session number octets))
 message_held d e h session number octets p entries added same so f room =
-    audit_holds d h (with_cuts d h (Message session number octets)) (cut_entries (length h) p.cuts.items ++ entries_of d h number octets p f.plan) so.audit (noted_of d h session number octets p f.session_is f.plan)
-    (omega (arith, room.audit, same.audit_limit, ap (λ (s : Standing). length s.entries) same.audit, length-named d h number octets p f.plan))
+    audit_holds d h (with_cuts_after d h (Message session number octets)) (cut_entries (length h) p.cuts.items ++ entries_of d h number octets p f.plan) so.audit (noted_of d h session number octets p f.session_is f.plan)
+    (omega (arith, room.audit, same.audit_limit, ap (λ (s : AuditStanding). length s.entries) same.audit, length-named d h number octets p f.plan))
 
 -- ---- what an accepted message leaves
 
 -- room was made for it, which the engine shows in nothing else
-pub planned_for : (d e : Engine) (h : List Entry) (number : ℕ) (octets : List ℕ) (position : ℕ) (p : Plan) → IsSameEngine d e → Stands d h → length h ≡ position → position ≤ MOST_ENTRIES → IsPlan d h number octets p → IsPlannedFor e position p
+pub planned_for : (d e : Engine) (h : List Entry) (number : ℕ) (octets : List ℕ) (position : ℕ) (p : MessagePlan) → IsSameEngine d e → Stands d h → length h ≡ position → position ≤ MOST_ENTRIES → IsPlan d h number octets p → IsPlannedFor e position p
 planned_for d e h number octets position p same stands counted short plan = record {
   history = h;
   number = number;
@@ -239,18 +251,18 @@ planned_for d e h number octets position p same stands counted short plan = reco
 }
 
 -- what accept says of the engine
-abbrev pub AcceptsPlan : Engine → ℕ → Plan → Engine → Type 0
-AcceptsPlan e position p new = (h : List Entry) (number : ℕ) (octets : List ℕ) → Stands e h → length h ≡ position → IsPlan e h number octets p → Stands new (after_cuts h p.cuts.items ++ Message p.session number octets ∷ [])
+abbrev pub AcceptsPlan : Engine → ℕ → MessagePlan → Engine → Type 0
+AcceptsPlan e position p new = (h : List Entry) (number : ℕ) (octets : List ℕ) → Stands e h → length h ≡ position → IsPlan e h number octets p → Stands new (after_cuts h p.cuts.items ++ Message p.session.0 number octets ∷ [])
 
-pub received : {C : Type 0} (tells : C → List Entry → Type 0) (limits : C → Journaled) (old new : State C) (e : Engine) (count sizes : ℕ) (h : List Entry) (session number : ℕ) (octets : List ℕ) (p : Plan) (entries : List Entry) (r : Receipt) (position : ℕ)
-    → StandsFor tells old h → IsCountOf h count sizes → position ≡ count → IsFound old.engine h session number octets p entries → HasRoom (limits old.chronicle) count sizes entries → IsSameEngine old.engine e → AuditHolds old.engine h (with_cuts old.engine h (Message session number octets))
-    → tells new.chronicle (h ++ entries) → AcceptsPlan e position p new.engine → r ≡ receipt_of position (length p.cuts.items) p.reading.meaning → Receives old.engine session number octets r h (Accepts tells limits old new h)
+pub received : {C : Type 0} (tells : C → List Entry → Type 0) (limits : C → Journaled) (old new : State C) (e : Engine) (count sizes : ℕ) (h : List Entry) (session number : ℕ) (octets : List ℕ) (p : MessagePlan) (entries : List Entry) (r : Receipt) (position : ℕ)
+    → StateStandsFor tells old h → IsCountOf h count sizes → position ≡ count → IsFound old.engine h session number octets p entries → HasRoom (limits old.chronicle) count sizes entries → IsSameEngine old.engine e → AuditHoldsAfter old.engine h (with_cuts_after old.engine h (Message session number octets))
+    → tells new.chronicle (h ++ entries) → AcceptsPlan e position p new.engine → r ≡ receipt_of position (length p.cuts.items) p.reading.meaning → ReceivesAfter old.engine session number octets r h (Accepts tells limits old new h)
 received tells limits old new e count sizes h session number octets p entries r position stands c at f room same held told accepts receipt =
     let counted : length h ≡ position = sym (at ∙ c.entries) in
-    let same_entries : entries ≡ with_cuts old.engine h (Message session number octets) = entries_are old.engine h session number octets p entries f.session_is f.entries_made f.plan in
-    let after : Stands new.engine (after_cuts h p.cuts.items ++ Message p.session number octets ∷ []) = accepts h number octets (stands_same old.engine e h same stands.stands) counted (plan_same old.engine e h number octets p same f.plan) in
-    let history : after_cuts h p.cuts.items ++ Message p.session number octets ∷ [] ≡ h ++ entries =
-    append_assoc h (map Cut p.cuts.items) (Message p.session number octets ∷ []) ∙ ap (λ (s : ℕ). h ++ (map Cut p.cuts.items ++ Message s number octets ∷ [])) f.session_is ∙ ap (λ (more : List Entry). h ++ more) (sym f.entries_made) in
+    let same_entries : entries ≡ with_cuts_after old.engine h (Message session number octets) = entries_are old.engine h session number octets p entries f.session_is f.entries_made f.plan in
+    let after : Stands new.engine (after_cuts h p.cuts.items ++ Message p.session.0 number octets ∷ []) = accepts h number octets (stands_same old.engine e h same stands.stands) counted (plan_same old.engine e h number octets p same f.plan) in
+    let history : after_cuts h p.cuts.items ++ Message p.session.0 number octets ∷ [] ≡ h ++ entries =
+    append_assoc h (map Cut p.cuts.items) (Message p.session.0 number octets ∷ []) ∙ ap (λ (s : ℕ). h ++ (map Cut p.cuts.items ++ Message s number octets ∷ [])) f.session_is ∙ ap (λ (more : List Entry). h ++ more) (sym f.entries_made) in
     record {
       next = next_of old.engine h session number octets p f.session_is f.plan;
       meaning = p.reading.meaning;
@@ -271,7 +283,7 @@ received tells limits old new e count sizes h session number octets p entries r 
 
 -- room was made for the entry, it was appended, and the engine goes on with it
 pub accepts_one : {C : Type 0} (tells : C → List Entry → Type 0) (limits : C → Journaled) (count sizes : C → ℕ) (old mid : State C) (chronicle : C) (engine : Engine) (h : List Entry) (written entry : Entry)
-    → StandsFor tells old h → IsCountOf h (count old.chronicle) (sizes old.chronicle)
+    → StateStandsFor tells old h → IsCountOf h (count old.chronicle) (sizes old.chronicle)
     → limits mid.chronicle ≡ limits old.chronicle → count mid.chronicle ≡ count old.chronicle → sizes mid.chronicle ≡ sizes old.chronicle
     → HasRoom (limits mid.chronicle) (count mid.chronicle) (sizes mid.chronicle) (written ∷ []) → written ≡ entry
     → ((g : List Entry) → tells old.chronicle g → tells mid.chronicle g) → ((g : List Entry) → tells mid.chronicle g → tells chronicle (g ++ written ∷ []))
@@ -303,6 +315,9 @@ refused_subscribe (fault.Policy why) limits count sizes h name n written next is
 refused_subscribe fault.BadName limits count sizes h name n written next is c named free lacks = absurd lacks
 refused_subscribe (fault.AlreadySubscribed sub) limits count sizes h name n written next is c named free lacks = absurd lacks
 refused_subscribe fault.UnknownSub limits count sizes h name n written next is c named free lacks = absurd lacks
+refused_subscribe fault.NoHandle limits count sizes h name n written next is c named free lacks = absurd lacks
+refused_subscribe fault.HandedFull limits count sizes h name n written next is c named free lacks = absurd lacks
+refused_subscribe fault.BadLimits limits count sizes h name n written next is c named free lacks = absurd lacks
 refused_subscribe (fault.ClockBack last) limits count sizes h name n written next is c named free lacks = absurd lacks
 refused_subscribe (fault.AuditFull need room) limits count sizes h name n written next is c named free lacks = absurd lacks
 
@@ -320,6 +335,9 @@ refused_edit (fault.Policy why) limits count sizes h text written policy is c sp
 refused_edit fault.BadName limits count sizes h text written policy is c spelled lacks = absurd lacks
 refused_edit (fault.AlreadySubscribed sub) limits count sizes h text written policy is c spelled lacks = absurd lacks
 refused_edit fault.UnknownSub limits count sizes h text written policy is c spelled lacks = absurd lacks
+refused_edit fault.NoHandle limits count sizes h text written policy is c spelled lacks = absurd lacks
+refused_edit fault.HandedFull limits count sizes h text written policy is c spelled lacks = absurd lacks
+refused_edit fault.BadLimits limits count sizes h text written policy is c spelled lacks = absurd lacks
 refused_edit (fault.ClockBack last) limits count sizes h text written policy is c spelled lacks = absurd lacks
 refused_edit (fault.AuditFull need room) limits count sizes h text written policy is c spelled lacks = absurd lacks
 
@@ -387,7 +405,7 @@ pub room_where : (b : Bool) (limits : Journaled) (count sizes : ℕ) (seen entri
 room_where b limits count sizes seen entries exact is has = subst (λ (more : List Entry). HasRoom limits count sizes more) is (exact.0 has)
 
 -- what was found out, where the cuts were lent as a slice
-pub found : (e : Engine) (h : List Entry) (session number : ℕ) (octets : List ℕ) (p : Plan) (entries : List Entry) (seen : List ℕ) → IsPlan e h number octets p → p.session ≡ session → entries ≡ map Cut seen ++ Message session number octets ∷ [] → seen ≡ p.cuts.items → IsFound e h session number octets p entries
+pub found : (e : Engine) (h : List Entry) (session number : ℕ) (octets : List ℕ) (p : MessagePlan) (entries : List Entry) (seen : List ℕ) → IsPlan e h number octets p → p.session.0 ≡ session → entries ≡ map Cut seen ++ Message session number octets ∷ [] → seen ≡ p.cuts.items → IsFound e h session number octets p entries
 found e h session number octets p entries seen plan is made lent = record {
   plan = plan;
   session_is = is;

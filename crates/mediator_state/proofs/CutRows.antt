@@ -10,7 +10,7 @@ use Rattle.mediator_history.specs.Numbers.{is_in}
 use Rattle.mediator_history.specs.Cuts.{after_cuts}
 use Rattle.mediator_history.proofs.ListFilters.{is_in-append}
 use Rattle.mediator_history.proofs.CutLaws.{after_cuts-push, length-cuts}
-use Rattle.flow_aggregate.specs.Running.{Held, nothing_held}
+use Rattle.flow_aggregate.specs.Running.{HeldGroups, nothing_held}
 use Rattle.mediator_tables.specs.GroupTable.{held_at}
 use Rattle.mediator_tables.specs.declared.subscription.Subscription.{Subscription}
 use Rattle.mediator_tables.specs.SubscriptionTable.{at, cut_off}
@@ -71,7 +71,7 @@ cut_again q number numbers s = by_tests (is_in q numbers) (q == number) refl ∙
     by_tests false true is = ap (λ (b : Bool). cond (b || false) (option_map cut_off s) s) (sym (flipped true is))
     by_tests false false is = ap (λ (b : Bool). cond (b || false) (option_map cut_off s) s) (sym (flipped false is))
 
-gone_again : (q number : ℕ) (numbers : List ℕ) (s : Held) → (if q == number then nothing_held else (if is_in q numbers then nothing_held else s)) ≡ (if is_in q (numbers ++ number ∷ []) then nothing_held else s)
+gone_again : (q number : ℕ) (numbers : List ℕ) (s : HeldGroups) → (if q == number then nothing_held else (if is_in q numbers then nothing_held else s)) ≡ (if is_in q (numbers ++ number ∷ []) then nothing_held else s)
 gone_again q number numbers s = by_tests (is_in q numbers) (q == number) refl ∙ ap (λ (b : Bool). cond b nothing_held s) (sym (is_in-append q numbers (number ∷ [])))
   where
     by_tests : (in' same : Bool) → (q == number) ≡ same → cond same nothing_held (cond in' nothing_held s) ≡ cond (in' || (number == q || false)) nothing_held s
@@ -93,7 +93,7 @@ one_cut old now new position done number numbers so within is stands once =
       row = subst (λ ns. CutsInARow ns old new) (sym more) (record {
         rest = rest_once old now new so.row.rest once.rest;
         table = λ q. once.table q ∙ ap (λ (s : Option Subscription). if q == number then option_map cut_off s else s) (so.row.table q) ∙ cut_again q number (take done numbers) (at old.subscriptions q);
-        groups = λ q. once.groups q ∙ ap (λ (s : Held). if q == number then nothing_held else s) (so.row.groups q) ∙ gone_again q number (take done numbers) (held_at old.groups q);
+        groups = λ q. once.groups q ∙ ap (λ (s : HeldGroups). if q == number then nothing_held else s) (so.row.groups q) ∙ gone_again q number (take done numbers) (held_at old.groups q);
         places = once.places ∙ so.row.places;
         entries = omega (arith, once.entries, so.row.entries, length-append (take done numbers) (number ∷ []));
         spare = omega (arith, once.spare, so.row.spare, length-append (take done numbers) (number ∷ []));

@@ -8,10 +8,10 @@ use Rattle.sequences.proofs.BeforeLaws.{last_of-push}
 use Rattle.ipfix_session.specs.Keeping.{at_key}
 use Rattle.ipfix_session.specs.Standing.{StandsFor}
 use Rattle.policy_text.specs.Policies.{nothing as no_policy}
-use Rattle.subscriber_stream.specs.declared.limits.Limits.{Limits}
+use Rattle.subscriber_stream.specs.declared.limits.StreamLimits.{StreamLimits}
 use Rattle.subscriber_stream.specs.Standing.{StandsAt}
 use Rattle.stream_meaning.specs.Served.{AreStreamable}
-use Rattle.disclosure_audit.specs.Queue.{StandsIn, Takes}
+use Rattle.disclosure_audit.specs.Queue.{StandsIn, TakesEntries}
 use Rattle.ipfix_template.specs.DataRecord.{DataRecord}
 use Rattle.disclosure_audit.specs.declared.entry.AuditEntry.{AuditEntry}
 use Rattle.disclosure_audit.specs.declared.entry.What.TheVariants.{Cut as CutOff}
@@ -19,7 +19,7 @@ use Rattle.event_journal.specs.declared.entry.Entry.{Entry}
 use Rattle.event_journal.specs.declared.entry.Entry.TheVariants.{Cut}
 use Rattle.mediator_history.specs.Numbers.{AreDistinct}
 use Rattle.mediator_history.specs.Sessions.{opens, is_open, opened_in, sessions_opened, messages_of}
-use Rattle.mediator_history.specs.Subscriptions.{edited, texts_in, named, name_of, begins, is_live, switched, is_served, subscribed_in, subscriptions_begun, served}
+use Rattle.mediator_history.specs.Subscriptions.{policy_from, texts_in, named, name_of, begins, is_live, switched, is_served, subscribed_in, subscriptions_begun, served}
 use Rattle.mediator_history.specs.Counting.{counted}
 use Rattle.mediator_history.specs.Disclosed.{disclosed}
 use Rattle.mediator_history.specs.Auditing.{audit_at, audit_list, audit_entry}
@@ -33,7 +33,7 @@ use Rattle.mediator_shares.specs.InForce.{InForce}
 use Rattle.mediator_tables.specs.GroupTable.{groups_at}
 use Rattle.mediator_state.specs.declared.engine.Engine.{Engine}
 use Rattle.mediator_state.specs.Ascending.{Ascend}
-use Rattle.mediator_state.specs.Standing.{Stands, place, IsSession, IsLiveAs, IsUnopened, IsUnbegun, AreNumbered, IsSmall, AreInRange}
+use Rattle.mediator_state.specs.Standing.{Stands, place, IsSession, IsLiveAs, IsUnopened, IsUnbegun, AreNumbered, IsSmall, AreEngineLimits}
 use Rattle.mediator_state.specs.Steps.{KeepsRest}
 use Rattle.mediator_state.proofs.GroupLaws.{clock_kept, groups_ended}
 
@@ -87,7 +87,7 @@ unserved_cut sub h number off = by_number (sub == number) refl where
   by_number false is = served_there sub h number is ∙ off
 
 -- what a cut leaves of a subscription in the table
-live_cut : (h : List Entry) (limits : Limits) (number sub : ℕ) (same : Bool) → (sub == number) ≡ same → (s : Option Subscription) → IsLiveAs h limits sub s
+live_cut : (h : List Entry) (limits : StreamLimits) (number sub : ℕ) (same : Bool) → (sub == number) ≡ same → (s : Option Subscription) → IsLiveAs h limits sub s
     → IsLiveAs (h ++ Cut number ∷ []) limits sub (cond same (option_map cut_off s) s)
 live_cut h limits number sub true is None so = is_live-cut sub h number ∙ so
 live_cut h limits number sub false is None so = is_live-cut sub h number ∙ so
@@ -135,10 +135,10 @@ pub cut_step : (d e : Engine) (h : List Entry) (number : ℕ) → Stands d h →
     → ((q : ℕ) → at e.subscriptions q ≡ (if q == number then option_map cut_off (at d.subscriptions q) else at d.subscriptions q))
     → e.subscriptions.served ≡ filter (λ q. not (q == number)) d.subscriptions.served
     → groups_at e.groups number ≡ [] → ((q : ℕ) → q ≢ number → groups_at e.groups q ≡ groups_at d.groups q)
-    → Takes d.audit.standing (audit_entry (length h) 0 number CutOff ∷ []) e.audit.standing
+    → TakesEntries d.audit.standing (audit_entry (length h) 0 number CutOff ∷ []) e.audit.standing
     → Stands e (h ++ Cut number ∷ [])
 cut_step d e h number so rest table served no_groups other_groups takes = record {
-  policy = ap (λ (f : InForce). f.policy) rest.in_force ∙ so.policy ∙ sym (last_of-push edited no_policy h (Cut number));
+  policy = ap (λ (f : InForce). f.policy) rest.in_force ∙ so.policy ∙ sym (last_of-push policy_from no_policy h (Cut number));
   clock = clock_kept d e h (Cut number) so rest.in_force refl;
   groups = groups_ended d e h (Cut number) number so no_groups other_groups (running_cut number h) (λ q other. running-cut q h number (λ e. other (sym e)));
   edits = rest.edits ∙ so.edits ∙ sym (ap (λ (ts : List (List ℕ)). length ts) (no_entry texts_in h (Cut number) refl));
@@ -149,7 +149,7 @@ cut_step d e h number so rest table served no_groups other_groups takes = record
       (subst (IsLiveAs (h ++ Cut number ∷ []) d.limits sub) (sym (table sub)) (live_cut h d.limits number sub (sub == number) refl (at d.subscriptions sub) (so.subscriptions sub)));
   served_are = served ∙ ap (filter (λ q. not (q == number))) so.served_are ∙ sym (served-cut h number);
   audit = subst (StandsIn e.audit.standing) (sym (audit-push h (Cut number))) (takes (audit_list h) so.audit);
-  limits = subst AreInRange (sym rest.limits) so.limits;
+  limits = subst AreEngineLimits (sym rest.limits) so.limits;
   numbered = numbered_cut h number so.numbered;
   small = small_cut h number so.small;
 }

@@ -8,20 +8,20 @@ use Rattle.std.proofs.lemmas.List.{length_push}
 use Rattle.sequences.specs.Before.{last_of}
 use Rattle.sequences.proofs.BeforeLaws.{last_of-push}
 use Rattle.sequences.proofs.ListLaws.{AllByRecursion-append}
-use Rattle.policy_text.specs.Policies.{Meaning as Policy, nothing as no_policy}
+use Rattle.policy_text.specs.Policies.{PolicyMeaning as Policy, nothing as no_policy}
 use Rattle.policy_text.specs.Parsing.{policy_of}
 use Rattle.ipfix_session.specs.Keeping.{at_key}
 use Rattle.ipfix_session.specs.Standing.{StandsFor}
-use Rattle.subscriber_stream.specs.declared.limits.Limits.{Limits}
+use Rattle.subscriber_stream.specs.declared.limits.StreamLimits.{StreamLimits}
 use Rattle.subscriber_stream.specs.Shapes.{shapes_of}
-use Rattle.subscriber_stream.specs.Standing.{StandsAt, Kept}
+use Rattle.subscriber_stream.specs.Standing.{StandsAt, KeptStream}
 use Rattle.stream_meaning.specs.Served.{AreStreamable}
 use Rattle.disclosure_audit.specs.Queue.{StandsIn}
 use Rattle.event_journal.specs.declared.entry.Entry.{Entry}
 use Rattle.event_journal.specs.declared.entry.Entry.TheVariants.{Open, Close, Edit, Subscribe, Unsubscribe}
 use Rattle.mediator_history.specs.Numbers.{AreDistinct}
 use Rattle.mediator_history.specs.Sessions.{opens, is_open, opened_in, sessions_opened, message_in, messages_of}
-use Rattle.mediator_history.specs.Subscriptions.{policy_or_none, edited, policy_in_force, texts_in, named, name_of, begins, is_live, switched, is_served, subscribed_in, subscriptions_begun}
+use Rattle.mediator_history.specs.Subscriptions.{policy_or_none, policy_from, policy_in_force, texts_in, named, name_of, begins, is_live, switched, is_served, subscribed_in, subscriptions_begun}
 use Rattle.mediator_history.specs.Counting.{counted_at, running}
 use Rattle.mediator_history.specs.Disclosed.{given_at, disclosed}
 use Rattle.mediator_history.specs.Auditing.{audit_at, audit_list}
@@ -32,14 +32,14 @@ use Rattle.mediator_history.proofs.EntryLaws.{edits_few, opened_few, subscribed_
 use Rattle.mediator_tables.specs.declared.open_session.OpenSession.{OpenSession}
 use Rattle.mediator_tables.specs.SessionTable.{IsFresh}
 use Rattle.mediator_tables.specs.declared.subscription.Subscription.{Subscription}
-use Rattle.mediator_tables.specs.SubscriptionTable.{Table, at}
-use Rattle.flow_aggregate.specs.Running.{Entries, StandsFor as StandsForRecords}
+use Rattle.mediator_tables.specs.SubscriptionTable.{SubscriptionRows, at}
+use Rattle.flow_aggregate.specs.Running.{Entries, SumsStand as StandsForRecords}
 use Rattle.mediator_shares.specs.InForce.{InForce, in_force_with}
 use Rattle.mediator_tables.specs.GroupTable.{groups_at}
 use Rattle.mediator_state.specs.declared.engine.Engine.{Engine}
 use Rattle.mediator_state.proofs.GroupLaws.{clock_stays, clock_kept, none_stand, groups_kept, groups_ended}
 use Rattle.mediator_state.specs.Ascending.{Ascend}
-use Rattle.mediator_state.specs.Standing.{place, IsSession, IsSubscription, IsLiveAs, IsUnopened, IsUnbegun, AreNumbered, IsSmall, AreInRange, Stands, StandsSomewhere}
+use Rattle.mediator_state.specs.Standing.{place, IsSession, IsSubscription, IsLiveAs, IsUnopened, IsUnbegun, AreNumbered, IsSmall, AreEngineLimits, Stands, StandsSomewhere}
 use Rattle.mediator_state.proofs.AscendLaws.{ascend_push, all_below}
 
 -- ---- what stays where an entry has no word in it
@@ -75,7 +75,7 @@ fresh_session h session (Some o) on silent fresh = (
 
 -- ---- subscriptions
 
-subscription_stays : (h : List Entry) (x : Entry) (limits : Limits) (sub : ℕ) (o : Option Subscription) → begins sub x ≡ None → switched sub x ≡ None → named sub x ≡ None → given_at sub h x ≡ [] → IsLiveAs h limits sub o → IsLiveAs (h ++ x ∷ []) limits sub o
+subscription_stays : (h : List Entry) (x : Entry) (limits : StreamLimits) (sub : ℕ) (o : Option Subscription) → begins sub x ≡ None → switched sub x ≡ None → named sub x ≡ None → given_at sub h x ≡ [] → IsLiveAs h limits sub o → IsLiveAs (h ++ x ∷ []) limits sub o
 subscription_stays h x limits sub None begun on name given so = last_stays (begins sub) false h x begun ∙ so
 subscription_stays h x limits sub (Some s) begun on name given so = record {
   live = last_stays (begins sub) false h x begun ∙ so.live;
@@ -86,7 +86,7 @@ subscription_stays h x limits sub (Some s) begun on name given so = record {
 }
 
 -- none is live under a number that was not given out
-none_live : (h : List Entry) (limits : Limits) (sub : ℕ) (o : Option Subscription) → is_live sub h ≡ false → IsLiveAs h limits sub o → o ≡ None
+none_live : (h : List Entry) (limits : StreamLimits) (sub : ℕ) (o : Option Subscription) → is_live sub h ≡ false → IsLiveAs h limits sub o → o ≡ None
 none_live h limits sub None gone so = refl
 none_live h limits sub (Some s) gone so = let live : is_live sub h ≡ true = so.live in absurd cc
 
@@ -146,8 +146,8 @@ same_subscriptions : (e d : Engine) (h : List Entry) (x : Entry) → Stands e h 
     → ((sub : ℕ) → begins sub x ≡ None) → ((sub : ℕ) → switched sub x ≡ None) → ((sub : ℕ) → named sub x ≡ None) → ((sub : ℕ) → given_at sub h x ≡ [])
     → (sub : ℕ) → IsLiveAs (h ++ x ∷ []) d.limits sub (at d.subscriptions sub)
 same_subscriptions e d h x so table limits begun on name given sub =
-    subst (λ (l : Limits). IsLiveAs (h ++ x ∷ []) l sub (at d.subscriptions sub)) (sym limits)
-    (subst (λ (t : Table). IsLiveAs (h ++ x ∷ []) e.limits sub (at t sub)) (sym table)
+    subst (λ (l : StreamLimits). IsLiveAs (h ++ x ∷ []) l sub (at d.subscriptions sub)) (sym limits)
+    (subst (λ (t : SubscriptionRows). IsLiveAs (h ++ x ∷ []) e.limits sub (at t sub)) (sym table)
     (subscription_stays h x e.limits sub (at e.subscriptions sub) (begun sub) (on sub) (name sub) (given sub) (so.subscriptions sub)))
 
 same_sessions : (e d : Engine) (h : List Entry) (x : Entry) → Stands e h → d.sessions ≡ e.sessions → ((session : ℕ) → opens session x ≡ None) → ((session : ℕ) → message_in session x ≡ [])
@@ -165,7 +165,7 @@ pub stands-open : (e d : Engine) (h : List Entry) (n : ℕ) → Stands e h → n
     → ((q : ℕ) → q ≢ n → at_key q d.sessions ≡ at_key q e.sessions) → IsSomeAnd (at_key n d.sessions) IsFresh
     → Stands d (h ++ Open n ∷ [])
 stands-open e d h n so next in_force groups edits opened begun table audit limits others fresh = record {
-  policy = ap (λ (f : InForce). f.policy) in_force ∙ so.policy ∙ sym (last_stays edited no_policy h x refl);
+  policy = ap (λ (f : InForce). f.policy) in_force ∙ so.policy ∙ sym (last_stays policy_from no_policy h x refl);
   clock = clock_kept e d h x so in_force refl;
   groups = groups_kept e d h x so groups (λ sub. running-open sub h n);
   edits = edits ∙ so.edits ∙ sym (count_stays texts_in h x refl);
@@ -173,9 +173,9 @@ stands-open e d h n so next in_force groups edits opened begun table audit limit
   begun = begun ∙ so.begun ∙ sym (count_stays subscribed_in h x refl);
   sessions = λ session. by_number session (n == session) refl;
   subscriptions = same_subscriptions e d h x so table limits (λ sub. refl) (λ sub. refl) (λ sub. refl) (λ sub. refl);
-  served_are = ap (λ (t : Table). t.served) table ∙ so.served_are ∙ sym (served_same h x (λ sub. refl) refl);
+  served_are = ap (λ (t : SubscriptionRows). t.served) table ∙ so.served_are ∙ sym (served_same h x (λ sub. refl) refl);
   audit = same_audit e d h x so audit refl;
-  limits = subst AreInRange (sym limits) so.limits;
+  limits = subst AreEngineLimits (sym limits) so.limits;
   numbered = numbered;
   small = small_stays h x (λ sub. refl) refl so.small;
 } where
@@ -220,7 +220,7 @@ pub stands-close : (e d : Engine) (h : List Entry) (n : ℕ) → Stands e h
     → ((q : ℕ) → at_key q d.sessions ≡ (if q == n then None else at_key q e.sessions))
     → Stands d (h ++ Close n ∷ [])
 stands-close e d h n so in_force groups edits opened begun table audit limits left = record {
-  policy = ap (λ (f : InForce). f.policy) in_force ∙ so.policy ∙ sym (last_stays edited no_policy h x refl);
+  policy = ap (λ (f : InForce). f.policy) in_force ∙ so.policy ∙ sym (last_stays policy_from no_policy h x refl);
   clock = clock_kept e d h x so in_force refl;
   groups = groups_kept e d h x so groups (λ sub. running-close sub h n);
   edits = edits ∙ so.edits ∙ sym (count_stays texts_in h x refl);
@@ -228,9 +228,9 @@ stands-close e d h n so in_force groups edits opened begun table audit limits le
   begun = begun ∙ so.begun ∙ sym (count_stays subscribed_in h x refl);
   sessions = λ session. by_number session (n == session) refl;
   subscriptions = same_subscriptions e d h x so table limits (λ sub. refl) (λ sub. refl) (λ sub. refl) (λ sub. refl);
-  served_are = ap (λ (t : Table). t.served) table ∙ so.served_are ∙ sym (served_same h x (λ sub. refl) refl);
+  served_are = ap (λ (t : SubscriptionRows). t.served) table ∙ so.served_are ∙ sym (served_same h x (λ sub. refl) refl);
   audit = same_audit e d h x so audit refl;
-  limits = subst AreInRange (sym limits) so.limits;
+  limits = subst AreEngineLimits (sym limits) so.limits;
   numbered = numbered_stays h x refl refl (λ session. ends (n == session)) (λ session. refl) (λ sub. refl) (λ sub. refl) (λ sub. refl) (λ sub. refl) so.numbered;
   small = small_stays h x (λ sub. refl) refl so.small;
 } where
@@ -262,7 +262,7 @@ pub stands-edit : (e d : Engine) (h : List Entry) (text : List ℕ) (policy : Po
     → d.in_force.policy ≡ policy → d.in_force.clock ≡ e.in_force.clock → d.groups ≡ e.groups → d.edits ≡ e.edits + 1 → d.opened ≡ e.opened → d.begun ≡ e.begun → d.sessions ≡ e.sessions → d.subscriptions ≡ e.subscriptions → d.audit ≡ e.audit → d.limits ≡ e.limits
     → Stands d (h ++ Edit text ∷ [])
 stands-edit e d h text p so spelled policy clock groups edits opened begun sessions table audit limits = record {
-  policy = policy ∙ sym (last_of-push edited no_policy h x ∙ ap (λ r. unwrap_or (policy_or_none r) (policy_in_force h)) spelled);
+  policy = policy ∙ sym (last_of-push policy_from no_policy h x ∙ ap (λ r. unwrap_or (policy_or_none r) (policy_in_force h)) spelled);
   clock = clock ∙ so.clock ∙ sym (clock_stays h x refl);
   groups = groups_kept e d h x so groups (λ sub. running-edit sub h text);
   edits = edits ∙ ap (λ (m : ℕ). m + 1) so.edits ∙ sym (count_more texts_in h x text refl);
@@ -270,9 +270,9 @@ stands-edit e d h text p so spelled policy clock groups edits opened begun sessi
   begun = begun ∙ so.begun ∙ sym (count_stays subscribed_in h x refl);
   sessions = same_sessions e d h x so sessions (λ session. refl) (λ session. refl);
   subscriptions = same_subscriptions e d h x so table limits (λ sub. refl) (λ sub. refl) (λ sub. refl) (λ sub. refl);
-  served_are = ap (λ (t : Table). t.served) table ∙ so.served_are ∙ sym (served_same h x (λ sub. refl) refl);
+  served_are = ap (λ (t : SubscriptionRows). t.served) table ∙ so.served_are ∙ sym (served_same h x (λ sub. refl) refl);
   audit = same_audit e d h x so audit refl;
-  limits = subst AreInRange (sym limits) so.limits;
+  limits = subst AreEngineLimits (sym limits) so.limits;
   numbered = numbered_stays h x refl refl (λ session. refl) (λ session. refl) (λ sub. refl) (λ sub. refl) (λ sub. refl) (λ sub. refl) so.numbered;
   small = small_stays h x (λ sub. refl) refl so.small;
 } where
@@ -286,17 +286,17 @@ pub stands-unsubscribe : (e d : Engine) (h : List Entry) (n : ℕ) → Stands e 
     → groups_at d.groups n ≡ [] → ((q : ℕ) → q ≢ n → groups_at d.groups q ≡ groups_at e.groups q)
     → Stands d (h ++ Unsubscribe n ∷ [])
 stands-unsubscribe e d h n so in_force edits opened begun sessions audit limits left fewer no_groups other_groups = record {
-  policy = ap (λ (f : InForce). f.policy) in_force ∙ so.policy ∙ sym (last_stays edited no_policy h x refl);
+  policy = ap (λ (f : InForce). f.policy) in_force ∙ so.policy ∙ sym (last_stays policy_from no_policy h x refl);
   clock = clock_kept e d h x so in_force refl;
   groups = groups_ended e d h x n so no_groups other_groups (running_ended n h) (λ q other. running-unsubscribe q h n (λ e. other (sym e)));
   edits = edits ∙ so.edits ∙ sym (count_stays texts_in h x refl);
   opened = opened ∙ so.opened ∙ sym (count_stays opened_in h x refl);
   begun = begun ∙ so.begun ∙ sym (count_stays subscribed_in h x refl);
   sessions = same_sessions e d h x so sessions (λ session. refl) (λ session. refl);
-  subscriptions = λ sub. subst (λ (l : Limits). IsLiveAs (h ++ Unsubscribe n ∷ []) l sub (at d.subscriptions sub)) (sym limits) (by_number sub (n == sub) refl);
+  subscriptions = λ sub. subst (λ (l : StreamLimits). IsLiveAs (h ++ Unsubscribe n ∷ []) l sub (at d.subscriptions sub)) (sym limits) (by_number sub (n == sub) refl);
   served_are = fewer ∙ ap (filter (λ q. not (q == n))) so.served_are ∙ sym (served-unsubscribe h n);
   audit = same_audit e d h x so audit refl;
-  limits = subst AreInRange (sym limits) so.limits;
+  limits = subst AreEngineLimits (sym limits) so.limits;
   numbered = numbered_stays h x refl refl (λ session. refl) (λ session. refl) (λ sub. ends (n == sub)) (λ sub. ends (n == sub)) (λ sub. refl) (λ sub. refl) so.numbered;
   small = small_stays h x (λ sub. refl) refl so.small;
 } where
@@ -328,23 +328,23 @@ pub next_is_free : (e : Engine) (h : List Entry) (n : ℕ) → Stands e h → n 
 next_is_free e h n so next = none_live h e.limits n (at e.subscriptions n) (so.numbered.subscriptions n (omega (arith, so.begun))).gone (so.subscriptions n)
 
 -- a subscription begins
-pub stands-subscribe : (e d : Engine) (h : List Entry) (n : ℕ) (name : List ℕ) (stream : Kept) → Stands e h → n ≡ e.begun + 1
+pub stands-subscribe : (e d : Engine) (h : List Entry) (n : ℕ) (name : List ℕ) (stream : KeptStream) → Stands e h → n ≡ e.begun + 1
     → d.in_force ≡ e.in_force → d.groups ≡ e.groups → d.edits ≡ e.edits → d.opened ≡ e.opened → d.begun ≡ n → d.sessions ≡ e.sessions → d.audit ≡ e.audit → d.limits ≡ e.limits
     → StandsAt stream.standing [] 0 → stream.limits ≡ e.limits
     → ((q : ℕ) → at d.subscriptions q ≡ (if q == n then Some (record { name = name; is_cut = false; stream = stream }) else at e.subscriptions q)) → d.subscriptions.served ≡ e.subscriptions.served ++ n ∷ []
     → Stands d (h ++ Subscribe n name ∷ [])
 stands-subscribe e d h n name stream so next in_force groups edits opened begun sessions audit limits start bound left more = record {
-  policy = ap (λ (f : InForce). f.policy) in_force ∙ so.policy ∙ sym (last_stays edited no_policy h x refl);
+  policy = ap (λ (f : InForce). f.policy) in_force ∙ so.policy ∙ sym (last_stays policy_from no_policy h x refl);
   clock = clock_kept e d h x so in_force refl;
   groups = groups_kept e d h x so groups still;
   edits = edits ∙ so.edits ∙ sym (count_stays texts_in h x refl);
   opened = opened ∙ so.opened ∙ sym (count_stays opened_in h x refl);
   begun = begun ∙ next ∙ ap (λ (m : ℕ). m + 1) so.begun ∙ sym (count_more subscribed_in h x n refl);
   sessions = same_sessions e d h x so sessions (λ session. refl) (λ session. refl);
-  subscriptions = λ sub. subst (λ (l : Limits). IsLiveAs (h ++ Subscribe n name ∷ []) l sub (at d.subscriptions sub)) (sym limits) (by_number sub (n == sub) refl);
+  subscriptions = λ sub. subst (λ (l : StreamLimits). IsLiveAs (h ++ Subscribe n name ∷ []) l sub (at d.subscriptions sub)) (sym limits) (by_number sub (n == sub) refl);
   served_are = more ∙ ap (λ (t : List ℕ). t ++ n ∷ []) so.served_are ∙ sym (served-subscribe h n name new);
   audit = same_audit e d h x so audit refl;
-  limits = subst AreInRange (sym limits) so.limits;
+  limits = subst AreEngineLimits (sym limits) so.limits;
   numbered = numbered;
   small = small_stays h x (λ sub. refl) refl so.small;
 } where
@@ -437,7 +437,7 @@ no_shapes = refl
 none_streamable : AreStreamable []
 none_streamable = record { each = tt; shapes = rw no_shapes (omega arith) }
 
-pub stands-new : (d : Engine) → d.in_force ≡ in_force_with no_policy 0 → ((q : ℕ) → groups_at d.groups q ≡ []) → d.edits ≡ 0 → d.opened ≡ 0 → d.begun ≡ 0 → d.sessions ≡ [] → d.subscriptions ≡ record { live = []; served = [] } → StandsIn d.audit.standing [] → AreInRange d.limits → Stands d []
+pub stands-new : (d : Engine) → d.in_force ≡ in_force_with no_policy 0 → ((q : ℕ) → groups_at d.groups q ≡ []) → d.edits ≡ 0 → d.opened ≡ 0 → d.begun ≡ 0 → d.sessions ≡ [] → d.subscriptions ≡ record { live = []; served = [] } → StandsIn d.audit.standing [] → AreEngineLimits d.limits → Stands d []
 stands-new d in_force groups edits opened begun sessions table audit range = record {
   policy = ap (λ (f : InForce). f.policy) in_force;
   clock = ap (λ (f : InForce). f.clock) in_force;
@@ -446,8 +446,8 @@ stands-new d in_force groups edits opened begun sessions table audit range = rec
   opened = opened;
   begun = begun;
   sessions = λ session. subst (λ (t : List (ℕ × OpenSession)). IsSession [] session (at_key session t)) (sym sessions) refl;
-  subscriptions = λ sub. subst (λ (t : Table). IsLiveAs [] d.limits sub (at t sub)) (sym table) refl;
-  served_are = ap (λ (t : Table). t.served) table;
+  subscriptions = λ sub. subst (λ (t : SubscriptionRows). IsLiveAs [] d.limits sub (at t sub)) (sym table) refl;
+  served_are = ap (λ (t : SubscriptionRows). t.served) table;
   audit = audit;
   limits = range;
   numbered = record {
@@ -467,7 +467,7 @@ stands-new d in_force groups edits opened begun sessions table audit range = rec
 -- ---- who has a name
 
 -- where no subscription in the table has the name, none that is live has it
-pub none_named : (h : List Entry) (limits : Limits) (sub : ℕ) (name : List ℕ) (o : Option Subscription) → IsLiveAs h limits sub o → IfSome o (λ s. s.name ≢ name) → is_live sub h ≡ true → name_of sub h ≢ name
+pub none_named : (h : List Entry) (limits : StreamLimits) (sub : ℕ) (name : List ℕ) (o : Option Subscription) → IsLiveAs h limits sub o → IfSome o (λ s. s.name ≢ name) → is_live sub h ≡ true → name_of sub h ≢ name
 none_named h limits sub name None so free live same = let gone : is_live sub h ≡ false = so in absurd cc
 none_named h limits sub name (Some s) so free live same = free (so.name ∙ same)
 

@@ -15,7 +15,7 @@ use Rattle.sequences.specs.Octets.{number_at, AreOctets}
 use Rattle.sequences.specs.Results.{◌>>=◌}
 use Rattle.sequences.proofs.OctetLaws.{be_value-below, AreOctets-drop, AreOctets-take}
 use Rattle.sequences.proofs.ResultLaws.{same_Ok}
-use Rattle.ipfix_message.specs.declared.decode_error.DecodeError.TheVariants.{ShortHeader, BadVersion, BadLength}
+use Rattle.ipfix_message.specs.declared.fault.Fault.TheVariants.{ShortHeader, BadVersion, BadLength}
 use Rattle.ipfix_message.specs.Reading.{header_of, read_header, after_header, items_of}
 use Rattle.ipfix_template.specs.declared.template.Template.{Template}
 use Rattle.ipfix_template.specs.DataRecord.{DataRecord}
@@ -24,11 +24,11 @@ use Rattle.ipfix_session.specs.Keeping.{at_key}
 use Rattle.ipfix_session.specs.Meaning.{Meaning, meaning_of, contents_of, read_items, items_of_domain, domain_of, gap_of}
 use Rattle.ipfix_session.specs.ReadAhead.{Ahead, IsReadingOf}
 use Rattle.ipfix_session.specs.Standing.{StandsFor}
-use Rattle.ipfix_session.specs.declared.read_error.ReadError.{ReadError}
+use Rattle.ipfix_session.specs.declared.fault.Fault.{Fault as ReadError}
 use Rattle.flow_aggregate.specs.Counts.{Count, count_of}
-use Rattle.subscriber_stream.specs.declared.limits.Limits.{Limits}
+use Rattle.subscriber_stream.specs.declared.limits.StreamLimits.{StreamLimits}
 use Rattle.subscriber_stream.specs.Shapes.{shapes_after}
-use Rattle.subscriber_stream.specs.Standing.{Kept, HasRoom, queued}
+use Rattle.subscriber_stream.specs.Standing.{KeptStream, HasStreamRoom, queue_size}
 use Rattle.subscriber_stream.proofs.ShapeLaws.{shapes_on}
 use Rattle.disclosure_audit.specs.declared.entry.AuditEntry.{AuditEntry}
 use Rattle.disclosure_audit.specs.declared.entry.Note.{Note}
@@ -54,17 +54,19 @@ use Rattle.mediator_tables.specs.declared.tally.Tally.{Tally}
 use Rattle.mediator_shares.specs.InForce.{InForce, in_force_with}
 use Rattle.mediator_tables.specs.SubscriptionTable.{shown}
 use Rattle.mediator_tables.specs.Adding.{tallied}
-use Rattle.mediator_shares.specs.Noting.{Kept as KeptNotes, kept_of}
-use Rattle.mediator_shares.specs.Sharing.{given_by, added_by, kept_by, share_of, shares_of, tallies_of, note_of, noted, noted_of_each, notes_of}
+use Rattle.mediator_shares.specs.Noting.{KeptNotes, kept_of}
+use Rattle.mediator_shares.specs.Sharing.{given_by, added_by, kept_by, share_of, shares_of, tallies_of, note_of, notes_on, noted_of_each, notes_of}
 use Rattle.mediator_tables.specs.declared.open_session.OpenSession.{OpenSession}
 use Rattle.mediator_tables.specs.declared.subscription.Subscription.{Subscription}
-use Rattle.mediator_tables.specs.SubscriptionTable.{Table, at, told, told_in, lacks_room, lacks_room_at}
+use Rattle.mediator_tables.specs.SubscriptionTable.{SubscriptionRows, at, told, told_in, lacks_room, lacks_room_at}
+use Rattle.prepared_message.specs.Preparation.{Preparation, AgreesWith}
 use Rattle.mediator_state.specs.declared.engine.Engine.{Engine}
+use Rattle.mediator_state.specs.declared.fault.Fault.TheVariants as fault
 use Rattle.mediator_state.specs.declared.plan.Judged.{Judged}
-use Rattle.mediator_state.specs.declared.plan.Plan.{Plan}
+use Rattle.mediator_state.specs.declared.plan.MessagePlan.{MessagePlan}
 use Rattle.mediator_state.specs.Standing.{Stands, IsSession, IsLiveAs}
 use Rattle.mediator_state.specs.Seen.{waiting_in, waiting_of}
-use Rattle.mediator_state.specs.Planning.{lacks, has, share_at, tally_at, AreTallied, HasRoomIn, AreStreamed, IsJudged, IsJudgedAs, IsJudgedFor, IsInTurn, IsNextReading, IsPlan}
+use Rattle.mediator_state.specs.Planning.{lacks, has, share_at, tally_at, AreTallied, HasRoomIn, AreStreamed, IsJudged, IsJudgedAs, IsJudgedFor, IsInTurn, IsNextReading, IsPlan, RefusesPrepared}
 
 -- ---- lists
 
@@ -227,8 +229,8 @@ audit_told position domain f r p = map (audit_entry position r.0 p.0) (kept_by d
 stamped_one : (position domain : ℕ) (f : InForce) (r : ℕ × DataRecord) (left : List Served)
     → map (stamp position) (noted_of_each domain f left r) ≡ flat_map (audit_told position domain f r) (map told left)
 stamped_one position domain f r left =
-    map-flat_map (stamp position) (noted domain f r) left
-    ∙ flat_map-same (λ who. map (stamp position) (noted domain f r who)) (λ who. audit_told position domain f r (told who)) left (λ who. map-map (stamp position) (note_of r.0 who.sub) (kept_by domain f who.name.now r.1))
+    map-flat_map (stamp position) (notes_on domain f r) left
+    ∙ flat_map-same (λ who. map (stamp position) (notes_on domain f r who)) (λ who. audit_told position domain f r (told who)) left (λ who. map-map (stamp position) (note_of r.0 who.sub) (kept_by domain f who.name.now r.1))
     ∙ sym (flat_map-map (audit_told position domain f r) told left)
 
 notes_told : (position domain : ℕ) (f : InForce) (records : List DataRecord) (left : List Served)
@@ -269,12 +271,12 @@ lacks_over e h so sub on more = there (at e.subscriptions sub) (so.subscriptions
   there : (o : Option Subscription) → IsLiveAs h e.limits sub o → option_map_or (λ s. lacks_room s.stream more) o false ≡ overflows e.limits (disclosed sub h) (waiting_in o) more
   there None gone = let live : is_live sub h ≡ true = served_is_live sub h on in absurd cc
   there (Some s) is =
-      ap (λ (l : Limits). nat_lt 0 (length more) && (nat_lt l.queue (queued s.stream.standing + length more) || nat_lt l.shapes (length (shapes_after s.stream.standing.shapes more)))) is.limits_are
-      ∙ ap (λ (shapes : List Template). nat_lt 0 (length more) && (nat_lt e.limits.queue (queued s.stream.standing + length more) || nat_lt e.limits.shapes (length shapes)))
+      ap (λ (l : StreamLimits). nat_lt 0 (length more) && (nat_lt l.queue (queue_size s.stream.standing + length more) || nat_lt l.shapes (length (shapes_after s.stream.standing.shapes more)))) is.limits_are
+      ∙ ap (λ (shapes : List Template). nat_lt 0 (length more) && (nat_lt e.limits.queue (queue_size s.stream.standing + length more) || nat_lt e.limits.shapes (length shapes)))
       (ap (λ (shapes : List Template). shapes_after shapes more) is.stream.shapes ∙ sym (shapes_on (disclosed sub h) more))
 
 -- whether a subscription of this number and name lacks room
-abbrev pub lacks_told : Table → ℕ → InForce → List DataRecord → ℕ × List ℕ → Bool
+abbrev pub lacks_told : SubscriptionRows → ℕ → InForce → List DataRecord → ℕ × List ℕ → Bool
 lacks_told t domain f records p = lacks_room_at t (share_told domain f records p)
 
 lacks_is : (e : Engine) (h : List Entry) (session number : ℕ) (octets : List ℕ) (domain : ℕ) (f : InForce) (records : List DataRecord)
@@ -321,21 +323,21 @@ left_told e h session number octets domain f records all cuts so is tells are =
 -- ---- room
 
 -- where room isn't lacking, there is room for what there is
-has_room : (k : Kept) (more : List DataRecord) → lacks_room k more ≡ false → 0 < length more → HasRoom k more
+has_room : (k : KeptStream) (more : List DataRecord) → lacks_room k more ≡ false → 0 < length more → HasStreamRoom k more
 has_room k more none some = first (nat_lt 0 (length more)) refl none where
-  last : (b c : Bool) → nat_lt k.limits.queue (queued k.standing + length more) ≡ b → nat_lt k.limits.shapes (length (shapes_after k.standing.shapes more)) ≡ c → (b || c) ≡ false → HasRoom k more
+  last : (b c : Bool) → nat_lt k.limits.queue (queue_size k.standing + length more) ≡ b → nat_lt k.limits.shapes (length (shapes_after k.standing.shapes more)) ≡ c → (b || c) ≡ false → HasStreamRoom k more
   last true c f g over = absurd cc
   last false true f g over = absurd cc
-  last false false f g over = record { queue = ltb-false k.limits.queue (queued k.standing + length more) f; shapes = ltb-false k.limits.shapes (length (shapes_after k.standing.shapes more)) g }
+  last false false f g over = record { queue = ltb-false k.limits.queue (queue_size k.standing + length more) f; shapes = ltb-false k.limits.shapes (length (shapes_after k.standing.shapes more)) g }
 
-  first : (b : Bool) → nat_lt 0 (length more) ≡ b → (b && (nat_lt k.limits.queue (queued k.standing + length more) || nat_lt k.limits.shapes (length (shapes_after k.standing.shapes more)))) ≡ false → HasRoom k more
-  first true f over = last (nat_lt k.limits.queue (queued k.standing + length more)) (nat_lt k.limits.shapes (length (shapes_after k.standing.shapes more))) refl refl over
+  first : (b : Bool) → nat_lt 0 (length more) ≡ b → (b && (nat_lt k.limits.queue (queue_size k.standing + length more) || nat_lt k.limits.shapes (length (shapes_after k.standing.shapes more)))) ≡ false → HasStreamRoom k more
+  first true f over = last (nat_lt k.limits.queue (queue_size k.standing + length more)) (nat_lt k.limits.shapes (length (shapes_after k.standing.shapes more))) refl refl over
   first false f over = absurd (omega (arith, some, ltb-false 0 (length more) f))
 
 pub room_at : (e : Engine) (h : List Entry) → Stands e h → (sub : ℕ) → is_served sub h ≡ true → (more : List DataRecord)
     → lacks_room_at e.subscriptions (sharing sub more) ≡ false → HasRoomIn e.subscriptions (sharing sub more)
 room_at e h so sub on more none some = there (at e.subscriptions sub) (so.subscriptions sub) none where
-  there : (o : Option Subscription) → IsLiveAs h e.limits sub o → option_map_or (λ s. lacks_room s.stream more) o false ≡ false → IsSomeAnd o (λ s. HasRoom s.stream more)
+  there : (o : Option Subscription) → IsLiveAs h e.limits sub o → option_map_or (λ s. lacks_room s.stream more) o false ≡ false → IsSomeAnd o (λ s. HasStreamRoom s.stream more)
   there None gone over = let live : is_live sub h ≡ true = served_is_live sub h on in absurd cc
   there (Some s) is over = has_room s.stream more over some
 
@@ -398,14 +400,14 @@ is_tallied e h session number octets domain f records all cuts tallies so is tel
 -- ---- the split, share by share
 
 -- those before a place are split
-pub record IsSplit (t : Table) (all : List Served) (shares : List (ℕ × List DataRecord)) (cuts : List ℕ) (left : List Served) (place : ℕ) : Type 0 where
+pub record IsSplit (t : SubscriptionRows) (all : List Served) (shares : List (ℕ × List DataRecord)) (cuts : List ℕ) (left : List Served) (place : ℕ) : Type 0 where
   pub cutting : (domain : ℕ) (f : InForce) (records : List DataRecord) → shares ≡ shares_of domain f records all
       → cuts ≡ map (λ who. who.sub) (filter (lacks t domain f records) (take place all))
   pub leaving : (domain : ℕ) (f : InForce) (records : List DataRecord) → shares ≡ shares_of domain f records all
       → left ≡ filter (has t domain f records) (take place all)
 
 -- whether there is no room for the share at a place
-lacks_at : (t : Table) (all : List Served) (shares : List Share) (place : ℕ) (who other : Served) (share : Share) (domain : ℕ) (f : InForce) (records : List DataRecord)
+lacks_at : (t : SubscriptionRows) (all : List Served) (shares : List Share) (place : ℕ) (who other : Served) (share : Share) (domain : ℕ) (f : InForce) (records : List DataRecord)
     → place < length all → place < length shares → who ≡ get_or all place other → share ≡ get_or shares place share → map shown shares ≡ shares_of domain f records all
     → lacks_room_at t (shown share) ≡ lacks t domain f records who
 lacks_at t all shares place who other share domain f records within inside at is so = ap (lacks_room_at t) (
@@ -420,7 +422,7 @@ one_more : (p : Served → Bool) (all : List Served) (place : ℕ) (who other : 
 one_more p all place who other within at = filter_more p all place other within ∙ ap (λ w. filter p (take place all) ++ cond (p w) (w ∷ []) []) (sym at)
 
 -- one that is cut
-pub split_cut : (t : Table) (all : List Served) (shares : List Share) (cuts more : List ℕ) (left : List Served) (place : ℕ) (who other : Served) (share : Share)
+pub split_cut : (t : SubscriptionRows) (all : List Served) (shares : List Share) (cuts more : List ℕ) (left : List Served) (place : ℕ) (who other : Served) (share : Share)
     → IsSplit t all (map shown shares) cuts left place → place < length all → place < length shares → who ≡ get_or all place other → share ≡ get_or shares place share
     → lacks_room_at t (shown share) ≡ true → more ≡ cuts ++ who.sub ∷ [] → IsSplit t all (map shown shares) more left (place + 1)
 split_cut t all shares cuts more left place who other share so within inside at is lacking grown = record {
@@ -439,7 +441,7 @@ split_cut t all shares cuts more left place who other share so within inside at 
   lacked domain f records given = sym (lacks_at t all shares place who other share domain f records within inside at is given) ∙ lacking
 
 -- one that is left
-pub split_left : (t : Table) (all : List Served) (shares : List Share) (cuts : List ℕ) (left more : List Served) (place : ℕ) (who other : Served) (share : Share)
+pub split_left : (t : SubscriptionRows) (all : List Served) (shares : List Share) (cuts : List ℕ) (left more : List Served) (place : ℕ) (who other : Served) (share : Share)
     → IsSplit t all (map shown shares) cuts left place → place < length all → place < length shares → who ≡ get_or all place other → share ≡ get_or shares place share
     → lacks_room_at t (shown share) ≡ false → more ≡ left ++ who ∷ [] → IsSplit t all (map shown shares) cuts more (place + 1)
 split_left t all shares cuts left more place who other share so within inside at is room grown = record {
@@ -458,11 +460,11 @@ split_left t all shares cuts left more place who other share so within inside at
 
 -- ---- what a split answers, said of lists that were lent
 
-pub record IsSplitOf (t : Table) (domain : ℕ) (f : InForce) (records : List DataRecord) (all : List Served) (cuts : List ℕ) (left : List Served) : Type 0 where
+pub record IsSplitOf (t : SubscriptionRows) (domain : ℕ) (f : InForce) (records : List DataRecord) (all : List Served) (cuts : List ℕ) (left : List Served) : Type 0 where
   pub cutting : cuts ≡ map (λ who. who.sub) (filter (lacks t domain f records) all)
   pub leaving : left ≡ filter (has t domain f records) all
 
-pub split_of : (t : Table) (domain : ℕ) (f : InForce) (records : List DataRecord) (all lent lent2 : List Served) (shares lent3 : List Share) (cuts : List ℕ) (left : List Served)
+pub split_of : (t : SubscriptionRows) (domain : ℕ) (f : InForce) (records : List DataRecord) (all lent lent2 : List Served) (shares lent3 : List Share) (cuts : List ℕ) (left : List Served)
     → lent ≡ all → lent2 ≡ all → lent3 ≡ shares → map shown shares ≡ shares_of domain f records lent
     → ((d : ℕ) (fs : InForce) (xs : List DataRecord) → map shown lent3 ≡ shares_of d fs xs lent2 → cuts ≡ map (λ who. who.sub) (filter (lacks t d fs xs) lent2))
     → ((d : ℕ) (fs : InForce) (xs : List DataRecord) → map shown lent3 ≡ shares_of d fs xs lent2 → left ≡ filter (has t d fs xs) lent2)
@@ -475,7 +477,7 @@ split_of t domain f records all lent lent2 shares lent3 cuts left one two three 
   given_so = ap (map shown) three ∙ sharing ∙ ap (shares_of domain f records) (one ∙ sym two)
 
 -- where none is cut, all are left
-pub none_cut : (t : Table) (domain : ℕ) (f : InForce) (records : List DataRecord) (all lent : List Served) (cuts lent2 : List ℕ) (left lent3 : List Served)
+pub none_cut : (t : SubscriptionRows) (domain : ℕ) (f : InForce) (records : List DataRecord) (all lent : List Served) (cuts lent2 : List ℕ) (left lent3 : List Served)
     → IsSplitOf t domain f records all cuts left → lent ≡ all → lent2 ≡ cuts → lent3 ≡ left → lent2 ≡ [] → lent ≡ lent3
 none_cut t domain f records all lent cuts lent2 left lent3 so one two three none =
     one ∙ sym (kept_all (λ who. who.sub) (lacks t domain f records) all (sym so.cutting ∙ sym two ∙ none)) ∙ sym so.leaving ∙ sym three
@@ -564,22 +566,29 @@ next_reading e h session number octets reading o so is reads =
     let turn : IsTurn h session number o = turn_of e h session number o so is in
     record { next = record { opened = turn.opened; turn = turn.turn }; read = reads (messages_of session h) turn.stands }
 
-pub planned : (e : Engine) (h : List Entry) (session number : ℕ) (octets : List ℕ) (p : Plan) (j : Judged) → p.session ≡ session → IsNextReading h session number octets p.reading
+-- it was prepared by other templates than those of the session
+pub is_stale : (e : Engine) (h : List Entry) (session number : ℕ) (p : Preparation) (o : OpenSession) → Stands e h → IsInTurn e session number o
+    → ((older : List (List ℕ)) → StandsFor o.session older → AgreesWith older p → ⊥) → RefusesPrepared fault.Stale h session number p
+is_stale e h session number p o so is refused =
+    let turn : IsTurn h session number o = turn_of e h session number o so is in
+    (record { opened = turn.opened; turn = turn.turn }, refused (messages_of session h) turn.stands)
+
+pub planned : (e : Engine) (h : List Entry) (session number : ℕ) (octets : List ℕ) (p : MessagePlan) (j : Judged) → p.session.0 ≡ session → IsNextReading h session number octets p.reading
     → IsJudgedFor e h p.reading.meaning j → p.cuts ≡ j.cuts → p.shares ≡ j.shares → p.tallies ≡ j.tallies → p.position ≡ j.position → p.notes ≡ j.notes
     → IsPlan e h number octets p
 planned e h session number octets p j is next judged cuts shares tallies at notes =
-    let here : IsNextReading h p.session number octets p.reading = subst (λ (s : ℕ). IsNextReading h s number octets p.reading) (sym is) next in
-    let found : IsJudgedAs e h (Message p.session number octets) j = judged p.session number octets here.read.means in
+    let here : IsNextReading h p.session.0 number octets p.reading = subst (λ (s : ℕ). IsNextReading h s number octets p.reading) (sym is) next in
+    let found : IsJudgedAs e h (Message p.session.0 number octets) j = judged p.session.0 number octets here.read.means in
     record {
       opened = here.next.opened;
       turn = here.next.turn;
       read = here.read;
       named = found.named;
       kept = notes ∙ found.kept;
-      judged = subst (λ v. IsJudged e h (Message p.session number octets) v.items (map shown p.shares.items) (map (stamp p.position) found.named)) (sym cuts)
-          (subst (λ v. IsJudged e h (Message p.session number octets) j.cuts.items (map shown v.items) (map (stamp p.position) found.named)) (sym shares)
-          (subst (λ n. IsJudged e h (Message p.session number octets) j.cuts.items (map shown j.shares.items) (map (stamp n) found.named)) (sym at) found.judged));
-      tallied_are = subst (λ v. AreTallied (after_cuts h v.items) (Message p.session number octets) (map tallied p.tallies.items)) (sym cuts)
-          (subst (λ v. AreTallied (after_cuts h j.cuts.items) (Message p.session number octets) (map tallied v.items)) (sym tallies)
+      judged = subst (λ v. IsJudged e h (Message p.session.0 number octets) v.items (map shown p.shares.items) (map (stamp p.position) found.named)) (sym cuts)
+          (subst (λ v. IsJudged e h (Message p.session.0 number octets) j.cuts.items (map shown v.items) (map (stamp p.position) found.named)) (sym shares)
+          (subst (λ n. IsJudged e h (Message p.session.0 number octets) j.cuts.items (map shown j.shares.items) (map (stamp n) found.named)) (sym at) found.judged));
+      tallied_are = subst (λ v. AreTallied (after_cuts h v.items) (Message p.session.0 number octets) (map tallied p.tallies.items)) (sym cuts)
+          (subst (λ v. AreTallied (after_cuts h j.cuts.items) (Message p.session.0 number octets) (map tallied v.items)) (sym tallies)
           found.tallied_are);
     }

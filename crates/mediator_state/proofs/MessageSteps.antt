@@ -10,13 +10,13 @@ use Rattle.ipfix_template.specs.DataRecord.{DataRecord}
 use Rattle.ipfix_session.specs.Keeping.{at_key}
 use Rattle.ipfix_session.specs.ReadAhead.{Ahead, IsReadingOf}
 use Rattle.ipfix_session.specs.Standing.{StandsFor}
-use Rattle.subscriber_stream.specs.declared.limits.Limits.{Limits}
-use Rattle.subscriber_stream.specs.Standing.{Standing, StandsAt, HasRoom}
+use Rattle.subscriber_stream.specs.declared.limits.StreamLimits.{StreamLimits}
+use Rattle.subscriber_stream.specs.Standing.{StreamStanding, StandsAt, HasStreamRoom}
 use Rattle.subscriber_stream.proofs.Standings.{room_is_limits}
 use Rattle.stream_meaning.specs.Served.{AreStreamable}
 use Rattle.stream_meaning.proofs.Handing.{streamable_more}
 use Rattle.disclosure_audit.specs.declared.entry.AuditEntry.{AuditEntry}
-use Rattle.disclosure_audit.specs.Queue.{StandsIn, Takes}
+use Rattle.disclosure_audit.specs.Queue.{StandsIn, TakesEntries}
 use Rattle.event_journal.specs.declared.entry.Entry.{Entry}
 use Rattle.event_journal.specs.declared.entry.Entry.TheVariants.{Message}
 use Rattle.mediator_history.specs.Numbers.{AreDistinct, is_in}
@@ -35,18 +35,18 @@ use Rattle.mediator_tables.specs.SessionTable.{KeepsOn}
 use Rattle.mediator_tables.specs.declared.subscription.Subscription.{Subscription}
 use Rattle.mediator_tables.specs.SubscriptionTable.{at, Related, TakesGiven, given_to}
 use Rattle.flow_aggregate.specs.Counts.{Count, count_of}
-use Rattle.flow_aggregate.specs.Groups.{Counted}
-use Rattle.flow_aggregate.specs.Running.{StandsFor as StandsForRecords}
+use Rattle.flow_aggregate.specs.Groups.{Sample}
+use Rattle.flow_aggregate.specs.Running.{SumsStand as StandsForRecords}
 use Rattle.mediator_shares.specs.InForce.{InForce}
 use Rattle.mediator_tables.specs.GroupTable.{groups_at}
 use Rattle.mediator_state.specs.declared.engine.Engine.{Engine}
 use Rattle.mediator_state.specs.Ascending.{Ascend}
-use Rattle.mediator_state.specs.Standing.{Stands, place, IsSession, IsLiveAs, AreNumbered, IsSmall, AreInRange}
+use Rattle.mediator_state.specs.Standing.{Stands, place, IsSession, IsLiveAs, AreNumbered, IsSmall, AreEngineLimits}
 use Rattle.mediator_state.specs.Seen.{place_in, place_of}
 use Rattle.mediator_tables.specs.Adding.{added_to}
 use Rattle.mediator_state.specs.Planning.{share_at, tally_at, HasRoomIn, AreStreamed}
 use Rattle.mediator_state.proofs.GroupLaws.{clock_kept}
-use Rattle.mediator_state.specs.Accepting.{IsMessage}
+use Rattle.mediator_state.specs.Accepting.{IsBroughtBy}
 use Rattle.mediator_state.proofs.CutSteps.{no_entry, session_stays, unopened_stays, unbegun_stays}
 use Rattle.subscriber_stream.specs.declared.limits.TheConstants.{MOST_QUEUE}
 use Rattle.disclosure_audit.specs.declared.audit.TheConstants.{MOST_ENTRIES as MOST_AUDITED}
@@ -155,10 +155,10 @@ session_taken h session number octets reading (Some s) (Some t) keeps read so = 
 
 -- ---- subscriptions
 
-pub place_kept : (old new : Standing) (listed more : List DataRecord) → StandsAt new (listed ++ more) (place old) → place new ≡ place old
+pub place_kept : (old new : StreamStanding) (listed more : List DataRecord) → StandsAt new (listed ++ more) (place old) → place new ≡ place old
 place_kept old new listed more so = so.place
 
-pub live_taken : (h : List Entry) (session number : ℕ) (octets : List ℕ) (limits : Limits) (sub : ℕ) (old new : Option Subscription)
+pub live_taken : (h : List Entry) (session number : ℕ) (octets : List ℕ) (limits : StreamLimits) (sub : ℕ) (old new : Option Subscription)
     → Related (TakesGiven (given_at sub h (Message session number octets))) old new → IsLiveAs h limits sub old → IsLiveAs (h ++ Message session number octets ∷ []) limits sub new
 live_taken h session number octets limits sub None None takes so = is_live-message sub h session number octets ∙ so
 live_taken h session number octets limits sub None (Some t) takes so = absurd takes
@@ -202,23 +202,23 @@ numbered_message h session number octets on so =
 
 -- ---- sizes
 
-pub few_given : (share : ℕ × List DataRecord) (limits : Limits) (h : List Entry) (s : Option Subscription) → AreInRange limits → IsLiveAs h limits share.0 s → (0 < length share.1 → IsSomeAnd s (λ x. HasRoom x.stream share.1)) → length share.1 ≤ MOST_QUEUE
+pub few_given : (share : ℕ × List DataRecord) (limits : StreamLimits) (h : List Entry) (s : Option Subscription) → AreEngineLimits limits → IsLiveAs h limits share.0 s → (0 < length share.1 → IsSomeAnd s (λ x. HasStreamRoom x.stream share.1)) → length share.1 ≤ MOST_QUEUE
 few_given share limits h s range so room = by_size (length share.1) refl where
-  with_room : (o : Option Subscription) → IsLiveAs h limits share.0 o → IsSomeAnd o (λ x. HasRoom x.stream share.1) → length share.1 ≤ MOST_QUEUE
+  with_room : (o : Option Subscription) → IsLiveAs h limits share.0 o → IsSomeAnd o (λ x. HasStreamRoom x.stream share.1) → length share.1 ≤ MOST_QUEUE
   with_room None so there = absurd there
-  with_room (Some x) so there = omega (arith, there.queue, range.queue, ap (λ (l : Limits). l.queue) so.limits_are)
+  with_room (Some x) so there = omega (arith, there.queue, range.queue, ap (λ (l : StreamLimits). l.queue) so.limits_are)
 
   by_size : (n : ℕ) → length share.1 ≡ n → length share.1 ≤ MOST_QUEUE
   by_size zero is = omega (arith, is)
   by_size (suc n) is = with_room s so (room (omega (arith, is)))
 
-streamable_given : (share : ℕ × List DataRecord) (limits : Limits) (h : List Entry) (s : Option Subscription) → AreInRange limits → IsLiveAs h limits share.0 s → (0 < length share.1 → IsSomeAnd s (λ x. HasRoom x.stream share.1))
+streamable_given : (share : ℕ × List DataRecord) (limits : StreamLimits) (h : List Entry) (s : Option Subscription) → AreEngineLimits limits → IsLiveAs h limits share.0 s → (0 < length share.1 → IsSomeAnd s (λ x. HasStreamRoom x.stream share.1))
     → AreStreamed share → AreStreamable (disclosed share.0 h) → AreStreamable (disclosed share.0 h ++ share.1)
 streamable_given share limits h s range so room each before = by_size (length share.1) refl where
-  with_room : (o : Option Subscription) → IsLiveAs h limits share.0 o → IsSomeAnd o (λ x. HasRoom x.stream share.1) → AreStreamable (disclosed share.0 h ++ share.1)
+  with_room : (o : Option Subscription) → IsLiveAs h limits share.0 o → IsSomeAnd o (λ x. HasStreamRoom x.stream share.1) → AreStreamable (disclosed share.0 h ++ share.1)
   with_room None so there = absurd there
   with_room (Some x) so there =
-      streamable_more x.stream.limits (disclosed share.0 h) share.1 (place x.stream.standing) before each ((room_is_limits x.stream (disclosed share.0 h) (place x.stream.standing) share.1 so.stream).0 there) (omega (arith, range.shapes, ap (λ (l : Limits). l.shapes) so.limits_are))
+      streamable_more x.stream.limits (disclosed share.0 h) share.1 (place x.stream.standing) before each ((room_is_limits x.stream (disclosed share.0 h) (place x.stream.standing) share.1 so.stream).0 there) (omega (arith, range.shapes, ap (λ (l : StreamLimits). l.shapes) so.limits_are))
 
   by_size : (n : ℕ) → length share.1 ≡ n → AreStreamable (disclosed share.0 h ++ share.1)
   by_size zero is = subst AreStreamable (sym (ap (λ (l : List DataRecord). disclosed share.0 h ++ l) (nil_from_length share.1 is) ∙ append-nil (disclosed share.0 h))) before
@@ -271,11 +271,11 @@ pub record TakesMessage (d e : Engine) (session : ℕ) (reading : Ahead) (shares
   pub keeps : KeepsOn reading (at_key session d.sessions) (at_key session e.sessions)
   pub each : (sub : ℕ) → Related (TakesGiven (given_to sub shares)) (at d.subscriptions sub) (at e.subscriptions sub)
   pub served : e.subscriptions.served ≡ d.subscriptions.served
-  pub adds : (q : ℕ) (before more : List Counted) → StandsForRecords (groups_at d.groups q) before → added_to q tallies ≡ map count_of more → StandsForRecords (groups_at e.groups q) (before ++ more)
-  pub takes : Takes d.audit.standing entries e.audit.standing
+  pub adds : (q : ℕ) (before more : List Sample) → StandsForRecords (groups_at d.groups q) before → added_to q tallies ≡ map count_of more → StandsForRecords (groups_at e.groups q) (before ++ more)
+  pub takes : TakesEntries d.audit.standing entries e.audit.standing
 
 pub message_step : (d e : Engine) (h : List Entry) (session number : ℕ) (octets : List ℕ) (reading : Ahead) (shares : List (ℕ × List DataRecord)) (tallies : List (ℕ × List Count)) (entries : List AuditEntry)
-    → Stands d h → IsMessage d h session number octets (record { reading = reading; shares = shares; tallies = tallies; entries = entries }) → TakesMessage d e session reading shares tallies entries → Stands e (h ++ Message session number octets ∷ [])
+    → Stands d h → IsBroughtBy d h session number octets (record { reading = reading; shares = shares; tallies = tallies; entries = entries }) → TakesMessage d e session reading shares tallies entries → Stands e (h ++ Message session number octets ∷ [])
 message_step d e h session number octets reading shares tallies entries so is did = record {
   policy = ap (λ (f : InForce). f.policy) did.in_force ∙ so.policy ∙ sym (policy-message h session number octets);
   clock = clock_kept d e h (Message session number octets) so did.in_force refl;
@@ -289,7 +289,7 @@ message_step d e h session number octets reading shares tallies entries so is di
       (live_taken h session number octets d.limits sub (at d.subscriptions sub) (at e.subscriptions sub) (subst (λ l. Related (TakesGiven l) (at d.subscriptions sub) (at e.subscriptions sub)) (gives sub) (did.each sub)) (so.subscriptions sub));
   served_are = did.served ∙ so.served_are ∙ sym (served_same h (Message session number octets) (λ sub. refl) refl);
   audit = subst (StandsIn e.audit.standing) (ap (λ (l : List AuditEntry). audit_list h ++ l) is.entries_are ∙ sym (audit-push h (Message session number octets))) (did.takes (audit_list h) so.audit);
-  limits = subst AreInRange (sym did.limits) so.limits;
+  limits = subst AreEngineLimits (sym did.limits) so.limits;
   numbered = numbered_message h session number octets is.opened so.numbered;
   small = small_given d h (Message session number octets) shares so (served_only session number octets h) few_noted is.shares_are is.room is.streamable;
 }

@@ -5,11 +5,11 @@ use Rattle.std.specs.Option.{option_map}
 use Rattle.std.specs.List.{AllByRecursion}
 use Rattle.ipfix_template.specs.DataRecord.{DataRecord}
 use Rattle.ipfix_session.specs.Keeping.{at_key}
-use Rattle.ipfix_session.specs.Standing.{Standing as SessionStanding, Stands as HoldsFor}
-use Rattle.subscriber_stream.specs.declared.limits.Limits.{Limits}
+use Rattle.ipfix_session.specs.Standing.{SessionStanding, SessionStands as HoldsFor}
+use Rattle.subscriber_stream.specs.declared.limits.StreamLimits.{StreamLimits}
 use Rattle.subscriber_stream.specs.Shapes.{shapes_after}
-use Rattle.subscriber_stream.specs.Standing.{Standing, StandsAt, HasRoom, queued}
-use Rattle.disclosure_audit.specs.Queue.{StandsIn, Standing as Audited}
+use Rattle.subscriber_stream.specs.Standing.{StreamStanding, StandsAt, HasStreamRoom, queue_size}
+use Rattle.disclosure_audit.specs.Queue.{StandsIn, AuditStanding as Audited}
 use Rattle.disclosure_audit.specs.declared.entry.AuditEntry.{AuditEntry}
 use Rattle.event_journal.specs.declared.entry.Entry.{Entry}
 use Rattle.event_journal.specs.declared.entry.Entry.TheVariants.{Message}
@@ -21,14 +21,14 @@ use Rattle.mediator_history.specs.Auditing.{audit_list}
 use Rattle.mediator_history.specs.Cuts.{overflows, is_cut_by}
 use Rattle.mediator_history.proofs.ListFilters.{filter_ext}
 use Rattle.mediator_tables.specs.declared.open_session.OpenSession.{OpenSession}
-use Rattle.mediator_tables.specs.SessionTable.{Seen as SeenSession, seen as session_seen}
+use Rattle.mediator_tables.specs.SessionTable.{SeenSession, seen as session_seen}
 use Rattle.mediator_tables.specs.declared.subscription.Subscription.{Subscription}
-use Rattle.mediator_tables.specs.SubscriptionTable.{Seen, seen, at}
+use Rattle.mediator_tables.specs.SubscriptionTable.{SeenSubscription, seen_subscription, at}
 use Rattle.mediator_shares.specs.InForce.{InForce}
-use Rattle.flow_aggregate.specs.Running.{Entries, StandsFor as StandsForRecords}
+use Rattle.flow_aggregate.specs.Running.{Entries, SumsStand as StandsForRecords}
 use Rattle.mediator_state.specs.declared.engine.Engine.{Engine}
-use Rattle.mediator_state.specs.declared.plan.Plan.{Plan}
-use Rattle.mediator_state.specs.Standing.{place, IsSession, IsLiveAs, AreInRange, Stands}
+use Rattle.mediator_state.specs.declared.plan.MessagePlan.{MessagePlan}
+use Rattle.mediator_state.specs.Standing.{place, IsSession, IsLiveAs, AreEngineLimits, Stands}
 use Rattle.mediator_state.specs.Seen.{place_in, waiting_in, waiting_of, IsUntouched, IsSameEngine}
 use Rattle.mediator_shares.specs.Noting.{kept_of}
 use Rattle.mediator_state.specs.Planning.{HasRoomIn, IsJudged, IsPlan}
@@ -46,40 +46,40 @@ session_same h session (Some s) (Some t) e is =
     let same : session_seen t ≡ session_seen s = some_same (session_seen t) (session_seen s) e in
     (is.0, ap (λ (x : SeenSession). x.accepted) same ∙ is.1, subst (λ (x : SessionStanding). HoldsFor x (messages_of session h)) (sym (ap (λ (x : SeenSession). x.standing) same)) is.2)
 
-subscription_same : (h : List Entry) (limits : Limits) (sub : ℕ) (o n : Option Subscription) → option_map seen n ≡ option_map seen o → IsLiveAs h limits sub o → IsLiveAs h limits sub n
+subscription_same : (h : List Entry) (limits : StreamLimits) (sub : ℕ) (o n : Option Subscription) → option_map seen_subscription n ≡ option_map seen_subscription o → IsLiveAs h limits sub o → IsLiveAs h limits sub n
 subscription_same h limits sub None None e is = is
 subscription_same h limits sub None (Some t) e is = absurd cc
 subscription_same h limits sub (Some s) None e is = absurd cc
 subscription_same h limits sub (Some s) (Some t) e is =
-    let same : seen t ≡ seen s = some_same (seen t) (seen s) e in
+    let same : seen_subscription t ≡ seen_subscription s = some_same (seen_subscription t) (seen_subscription s) e in
     record {
       live = is.live;
-      name = ap (λ (x : Seen). x.name) same ∙ is.name;
-      cut = ap (λ (x : Seen). x.is_cut) same ∙ is.cut;
-      stream = subst (λ (x : Standing). StandsAt x (disclosed sub h) (place x)) (sym (ap (λ (x : Seen). x.standing) same)) is.stream;
-      limits_are = ap (λ (x : Seen). x.limits) same ∙ is.limits_are;
+      name = ap (λ (x : SeenSubscription). x.name) same ∙ is.name;
+      cut = ap (λ (x : SeenSubscription). x.is_cut) same ∙ is.cut;
+      stream = subst (λ (x : StreamStanding). StandsAt x (disclosed sub h) (place x)) (sym (ap (λ (x : SeenSubscription). x.standing) same)) is.stream;
+      limits_are = ap (λ (x : SeenSubscription). x.limits) same ∙ is.limits_are;
     }
 
-place_same : (o n : Option Subscription) → option_map seen n ≡ option_map seen o → place_in n ≡ place_in o
+place_same : (o n : Option Subscription) → option_map seen_subscription n ≡ option_map seen_subscription o → place_in n ≡ place_in o
 place_same None None e = refl
 place_same None (Some t) e = absurd cc
 place_same (Some s) None e = absurd cc
-place_same (Some s) (Some t) e = ap (λ (x : Seen). place x.standing) (some_same (seen t) (seen s) e)
+place_same (Some s) (Some t) e = ap (λ (x : SeenSubscription). place x.standing) (some_same (seen_subscription t) (seen_subscription s) e)
 
-waiting_same : (o n : Option Subscription) → option_map seen n ≡ option_map seen o → waiting_in n ≡ waiting_in o
+waiting_same : (o n : Option Subscription) → option_map seen_subscription n ≡ option_map seen_subscription o → waiting_in n ≡ waiting_in o
 waiting_same None None e = refl
 waiting_same None (Some t) e = absurd cc
 waiting_same (Some s) None e = absurd cc
-waiting_same (Some s) (Some t) e = ap (λ (x : Seen). queued x.standing) (some_same (seen t) (seen s) e)
+waiting_same (Some s) (Some t) e = ap (λ (x : SeenSubscription). queue_size x.standing) (some_same (seen_subscription t) (seen_subscription s) e)
 
-room_same : (more : List DataRecord) (o n : Option Subscription) → option_map seen n ≡ option_map seen o → IsSomeAnd o (λ s. HasRoom s.stream more) → IsSomeAnd n (λ s. HasRoom s.stream more)
+room_same : (more : List DataRecord) (o n : Option Subscription) → option_map seen_subscription n ≡ option_map seen_subscription o → IsSomeAnd o (λ s. HasStreamRoom s.stream more) → IsSomeAnd n (λ s. HasStreamRoom s.stream more)
 room_same more None n e is = absurd is
 room_same more (Some s) None e is = absurd cc
 room_same more (Some s) (Some t) e is =
-    let same : seen t ≡ seen s = some_same (seen t) (seen s) e in
+    let same : seen_subscription t ≡ seen_subscription s = some_same (seen_subscription t) (seen_subscription s) e in
     record {
-      queue = subst (λ (x : Seen). queued x.standing + length more ≤ x.limits.queue) (sym same) is.queue;
-      shapes = subst (λ (x : Seen). length (shapes_after x.standing.shapes more) ≤ x.limits.shapes) (sym same) is.shapes;
+      queue = subst (λ (x : SeenSubscription). queue_size x.standing + length more ≤ x.limits.queue) (sym same) is.queue;
+      shapes = subst (λ (x : SeenSubscription). length (shapes_after x.standing.shapes more) ≤ x.limits.shapes) (sym same) is.shapes;
     }
 
 -- ---- the engine
@@ -93,10 +93,10 @@ stands_same d e h same s = record {
   opened = same.opened ∙ s.opened;
   begun = same.begun ∙ s.begun;
   sessions = λ n. session_same h n (at_key n d.sessions) (at_key n e.sessions) (same.sessions n) (s.sessions n);
-  subscriptions = λ n. subst (λ (l : Limits). IsLiveAs h l n (at e.subscriptions n)) (sym same.limits) (subscription_same h d.limits n (at d.subscriptions n) (at e.subscriptions n) (same.subscriptions.each n) (s.subscriptions n));
+  subscriptions = λ n. subst (λ (l : StreamLimits). IsLiveAs h l n (at e.subscriptions n)) (sym same.limits) (subscription_same h d.limits n (at d.subscriptions n) (at e.subscriptions n) (same.subscriptions.each n) (s.subscriptions n));
   served_are = same.subscriptions.served ∙ s.served_are;
   audit = subst (λ (a : Audited). StandsIn a (audit_list h)) (sym same.audit) s.audit;
-  limits = subst (λ (l : Limits). AreInRange l) (sym same.limits) s.limits;
+  limits = subst (λ (l : StreamLimits). AreEngineLimits l) (sym same.limits) s.limits;
   numbered = s.numbered;
   small = s.small;
 }
@@ -120,7 +120,7 @@ untouched_after a b c first then = record {
 cut_by_same : (d e : Engine) (h : List Entry) (entry : Entry) → IsSameEngine d e → (sub : ℕ) → is_cut_by d.limits h entry (waiting_of d) sub ≡ is_cut_by e.limits h entry (waiting_of e) sub
 cut_by_same d e h entry same sub =
     ap (λ (n : ℕ). overflows d.limits (disclosed sub h) n (given_at sub h entry)) (sym (waiting_same (at d.subscriptions sub) (at e.subscriptions sub) (same.subscriptions.each sub)))
-    ∙ ap (λ (l : Limits). overflows l (disclosed sub h) (waiting_of e sub) (given_at sub h entry)) (sym same.limits)
+    ∙ ap (λ (l : StreamLimits). overflows l (disclosed sub h) (waiting_of e sub) (given_at sub h entry)) (sym same.limits)
 
 rooms_same : (d e : Engine) → IsSameEngine d e → (shares : List (ℕ × List DataRecord)) → AllByRecursion (HasRoomIn d.subscriptions) shares → AllByRecursion (HasRoomIn e.subscriptions) shares
 rooms_same d e same [] all = tt
@@ -135,13 +135,13 @@ judged_same d e h entry cuts shares entries same j = record {
   streamable = j.streamable;
 }
 
-pub plan_same : (d e : Engine) (h : List Entry) (number : ℕ) (octets : List ℕ) (p : Plan) → IsSameEngine d e → IsPlan d h number octets p → IsPlan e h number octets p
+pub plan_same : (d e : Engine) (h : List Entry) (number : ℕ) (octets : List ℕ) (p : MessagePlan) → IsSameEngine d e → IsPlan d h number octets p → IsPlan e h number octets p
 plan_same d e h number octets p same plan = record {
   opened = plan.opened;
   turn = plan.turn;
   read = plan.read;
   named = plan.named;
   kept = plan.kept ∙ ap (λ n. kept_of n plan.named) (sym same.audit_limit);
-  judged = judged_same d e h (Message p.session number octets) p.cuts.items _ _ same plan.judged;
+  judged = judged_same d e h (Message p.session.0 number octets) p.cuts.items _ _ same plan.judged;
   tallied_are = plan.tallied_are;
 }

@@ -7,7 +7,7 @@ use Rattle.ipfix_session.specs.Meaning.{Meaning}
 use Rattle.ipfix_session.specs.ReadAhead.{Ahead, IsReadingOf, HasRoomFor}
 use Rattle.disclosure_audit.specs.declared.entry.AuditEntry.{AuditEntry}
 use Rattle.disclosure_audit.specs.declared.audit.TheConstants.{MOST_ENTRIES as MOST_AUDITED}
-use Rattle.disclosure_audit.specs.Queue.{Kept}
+use Rattle.disclosure_audit.specs.Queue.{KeptAudit}
 use Rattle.event_journal.specs.declared.limits.TheConstants.{MOST_ENTRIES}
 use Rattle.event_journal.specs.declared.entry.Entry.{Entry}
 use Rattle.event_journal.specs.declared.entry.Entry.TheVariants.{Message}
@@ -22,35 +22,35 @@ use Rattle.mediator_tables.specs.SubscriptionTable.{HasSpare, AreReady}
 use Rattle.mediator_state.specs.declared.engine.Engine.{Engine}
 use Rattle.mediator_state.specs.declared.fault.Fault.{Fault}
 use Rattle.mediator_state.specs.declared.fault.Fault.TheVariants as fault
-use Rattle.mediator_state.specs.declared.plan.Plan.{Plan}
+use Rattle.mediator_state.specs.declared.plan.MessagePlan.{MessagePlan}
 use Rattle.mediator_state.specs.declared.receipt.Receipt.{Receipt}
 use Rattle.mediator_state.specs.Standing.{Stands}
-use Rattle.mediator_tables.specs.Adding.{AllReady, AreApart, AreCountable}
+use Rattle.mediator_tables.specs.Adding.{AllReady, NoneTwice, AreCountable}
 use Rattle.mediator_state.specs.Planning.{share_at, AreTallied, HasRoomIn, AreStreamed, IsPlan}
 
 -- the audit has no room for so many entries, and this is its room; or it has, and memory ran out
-abbrev pub LacksAudit : Fault → Kept → ℕ → Type 0
+abbrev pub LacksAudit : Fault → KeptAudit → ℕ → Type 0
 LacksAudit (fault.AuditFull need room) audit noted = (need ≡ noted) × (room < need) × (room + length audit.standing.entries ≡ audit.limit)
 LacksAudit fault.OutOfMemory audit noted = length audit.standing.entries + noted ≤ audit.limit
 LacksAudit _ audit noted = ⊥
 
 -- the audit has room for so many entries, and in memory so many places
-pub record HasAuditFor (audit : Kept) (more places : ℕ) : Type 0 where
+pub record HasAuditFor (audit : KeptAudit) (more places : ℕ) : Type 0 where
   pub room : length audit.standing.entries + more ≤ audit.limit
   pub limit : audit.limit ≤ MOST_AUDITED
   pub reserved : places ≤ audit.spare
 
 -- room was made for what a plan does, a place for each cut and one for all notes, and what it counts is ready so
-pub record HasRoomForPlan (e : Engine) (p : Plan) (added : List (ℕ × List Addition)) : Type 0 where
+pub record HasRoomForPlan (e : Engine) (p : MessagePlan) (added : List (ℕ × List Addition)) : Type 0 where
   pub audit : length e.audit.standing.entries + (length p.cuts.items + p.notes.count) ≤ e.audit.limit
   pub limit : e.audit.limit ≤ MOST_AUDITED
   pub reserved : length p.cuts.items + 1 ≤ e.audit.spare
-  pub session : IfSome (at_key p.session e.sessions) (λ o. HasRoomFor o.session p.reading)
+  pub session : IfSome (at_key p.session.0 e.sessions) (λ o. HasRoomFor o.session p.reading)
   pub streams : AllByRecursion (HasSpare e.subscriptions.live) (map shown p.shares.items)
-  pub groups : AreApart (map tallied p.tallies.items) → AllReady e.groups added (map tallied p.tallies.items)
+  pub groups : NoneTwice (map tallied p.tallies.items) → AllReady e.groups added (map tallied p.tallies.items)
 
 -- it is the plan for a message behind some history of so many entries
-pub record IsPlannedFor (e : Engine) (position : ℕ) (p : Plan) : Type 0 where
+pub record IsPlannedFor (e : Engine) (position : ℕ) (p : MessagePlan) : Type 0 where
   pub history : List Entry
   pub number : ℕ
   pub octets : List ℕ
@@ -83,7 +83,7 @@ pub record Brought : Type 0 where
   pub entries : List AuditEntry
 
 -- this is what a message brings behind a history
-pub record IsMessage (e : Engine) (h : List Entry) (session number : ℕ) (octets : List ℕ) (b : Brought) : Type 0 where
+pub record IsBroughtBy (e : Engine) (h : List Entry) (session number : ℕ) (octets : List ℕ) (b : Brought) : Type 0 where
   pub opened : is_open session h ≡ true
   pub read : IsReadingOf (messages_of session h) octets b.reading
   pub shares_are : b.shares ≡ map (share_at h (Message session number octets)) (served h)

@@ -8,7 +8,7 @@ use Rattle.event_journal.specs.declared.entry.Entry.TheVariants.{Advance}
 use Rattle.mediator_history.specs.Subscriptions.{served}
 use Rattle.mediator_history.specs.Disclosed.{given_at}
 use Rattle.mediator_tables.specs.SubscriptionTable.{shown}
-use Rattle.mediator_tables.specs.SubscriptionTable.{Table, lacks_room_at, HasSpare, AreReady}
+use Rattle.mediator_tables.specs.SubscriptionTable.{SubscriptionRows, lacks_room_at, HasSpare, AreReady}
 use Rattle.mediator_state.specs.declared.engine.Engine.{Engine}
 use Rattle.mediator_state.specs.declared.closing.Closing.{Closing}
 use Rattle.mediator_state.specs.Standing.{Stands}
@@ -20,7 +20,7 @@ abbrev pub closing_share : List Entry → ℕ → ℕ × List ℕ → ℕ × Lis
 closing_share h t who = (who.0, given_at who.0 h (Advance t))
 
 -- shares are parted into the numbers of those for which there is no room, and the others
-pub record AreParted (t : Table) (all : List (ℕ × List DataRecord)) (cuts : List ℕ) (left : List (ℕ × List DataRecord)) : Type 0 where
+pub record AreParted (t : SubscriptionRows) (all : List (ℕ × List DataRecord)) (cuts : List ℕ) (left : List (ℕ × List DataRecord)) : Type 0 where
   pub cutting : cuts ≡ map (λ s. s.0) (filter (lacks_room_at t) all)
   pub leaving : left ≡ filter (λ s. not (lacks_room_at t s)) all
 

@@ -4,10 +4,11 @@ use Rattle.ipfix_template.specs.declared.template.Template.{Template}
 use Rattle.ipfix_session.specs.Meaning.{Meaning, meaning_of}
 use Rattle.ipfix_session.specs.Standing.{Knows}
 use Rattle.prepared_message.specs.Preparation.{Preparation, AgreesWith}
-use Rattle.policy_text.specs.Policies.{Meaning as Policy}
+use Rattle.policy_text.specs.Policies.{PolicyMeaning as Policy}
 use Rattle.policy_text.specs.Parsing.{policy_of}
 use Rattle.policy_text.specs.Naming.{is_name}
 use Rattle.subscriber_stream.specs.declared.limits.TheConstants.{MOST_QUEUE, MOST_SHAPES}
+use Rattle.subscriber_stream.specs.declared.limits.StreamLimits.{StreamLimits}
 use Rattle.subscriber_stream.specs.Shapes.{shapes_of}
 use Rattle.subscriber_stream.specs.Parts.{parts, records_in}
 use Rattle.subscriber_stream.specs.Message.{built, place_after}
@@ -28,40 +29,40 @@ use Rattle.mediator_state.specs.declared.receipt.Receipt.{Receipt}
 use Rattle.mediator_state.specs.declared.receipt.Status.{Status}
 use Rattle.mediator_state.specs.declared.fault.Fault.{Fault}
 use Rattle.mediator_state.specs.declared.fault.Fault.TheVariants as fault
-use Rattle.mediator_state.specs.declared.state.Limits.{Limits}
 use Rattle.mediator_state.specs.declared.state.State.{State}
 use Rattle.mediator_state.specs.Standing.{Stands}
 use Rattle.mediator_state.specs.Seen.{place_of, waiting_of, IsUntouched}
 use Rattle.mediator_state.specs.Planning.{IsNext, RefusesMessage}
 use Rattle.mediator_state.specs.Accepting.{receipt_of}
 
-pub record AreLimits (limits : Limits) : Type 0 where
-  pub queue : limits.queue ≤ MOST_QUEUE
-  pub shapes : limits.shapes ≤ MOST_SHAPES
-  pub some_audit : 1 ≤ limits.audit
-  pub audit : limits.audit ≤ MOST_AUDITED
+-- what the stream of each subscription may hold, and how many audit entries may wait
+pub record AreStateLimits (streams : StreamLimits) (audit : ℕ) : Type 0 where
+  pub queue : streams.queue ≤ MOST_QUEUE
+  pub shapes : streams.shapes ≤ MOST_SHAPES
+  pub least : 1 ≤ audit
+  pub most : audit ≤ MOST_AUDITED
 
 -- the state stands for the history, which what keeps it tells
-pub record StandsFor {C : Type 0} (tells : C → List Entry → Type 0) (s : State C) (h : List Entry) : Type 0 where
+pub record StateStandsFor {C : Type 0} (tells : C → List Entry → Type 0) (s : State C) (h : List Entry) : Type 0 where
   pub told : tells s.chronicle h
   pub stands : Stands s.engine h
 
 pub record StandsForSome {C : Type 0} (tells : C → List Entry → Type 0) (s : State C) : Type 0 where
   pub history : List Entry
-  pub stands : StandsFor tells s history
+  pub stands : StateStandsFor tells s history
 
 -- whichever history the state stands for, this holds of it
 abbrev pub ForEachHistory : {C : Type 0} → (C → List Entry → Type 0) → State C → (List Entry → Type 0) → Type 0
-ForEachHistory tells s P = (h : List Entry) → StandsFor tells s h → P h
+ForEachHistory tells s P = (h : List Entry) → StateStandsFor tells s h → P h
 
 -- the new state stands for each history that the old one stood for
 abbrev pub KeepsHistories : {C : Type 0} → (C → List Entry → Type 0) → State C → State C → Type 0
-KeepsHistories tells old new = ForEachHistory tells old (StandsFor tells new)
+KeepsHistories tells old new = ForEachHistory tells old (StateStandsFor tells new)
 
 -- a step: behind the history there was room for these entries, and the new state stands for it with them
 pub record Accepts {C : Type 0} (tells : C → List Entry → Type 0) (limits : C → Journaled) (old new : State C) (h more : List Entry) : Type 0 where
   pub room : HasRoomAfter (limits old.chronicle) h more
-  pub stands : StandsFor tells new (h ++ more)
+  pub stands : StateStandsFor tells new (h ++ more)
 
 -- whichever history the state stood for, this holds of it, and of the entries that were accepted behind it
 abbrev pub GoesOnBy : {C : Type 0} → (C → List Entry → Type 0) → (C → Journaled) → State C → State C → (List Entry → (List Entry → Type 0) → Type 0) → Type 0
@@ -80,7 +81,7 @@ pub record StaysSame {C : Type 0} (tells : C → List Entry → Type 0) (limits 
   pub journaled : limits new.chronicle ≡ limits old.chronicle
 
 -- what waits to be drained is no more than the audit's limit, before these entries behind a history and with what it names of them
-pub record AuditHolds (e : Engine) (h more : List Entry) : Type 0 where
+pub record AuditHoldsAfter (e : Engine) (h more : List Entry) : Type 0 where
   pub before : length e.audit.standing.entries ≤ e.audit.limit
   pub after : length (drop e.audit.standing.drained (audit_list (h ++ more))) ≤ e.audit.limit
 
@@ -100,14 +101,14 @@ LacksRoomAfter e limits h more = LacksRoom e limits (length h) (history_octets h
 -- ---- sessions
 
 -- the next number, from 1 on
-pub record Opens (n : ℕ) (h : List Entry) (accepted : List Entry → Type 0) : Type 0 where
+pub record OpensAfter (n : ℕ) (h : List Entry) (accepted : List Entry → Type 0) : Type 0 where
   pub number : n ≡ sessions_opened h + 1
   pub accepts : accepted (Open n ∷ [])
 
-abbrev pub RefusesOpen : Fault → Journaled → List Entry → Type 0
-RefusesOpen e limits h = LacksRoomAfter e limits h (Open (sessions_opened h + 1) ∷ [])
+abbrev pub RefusesOpenAfter : Fault → Journaled → List Entry → Type 0
+RefusesOpenAfter e limits h = LacksRoomAfter e limits h (Open (sessions_opened h + 1) ∷ [])
 
-pub record Closes (session : ℕ) (h : List Entry) (accepted : List Entry → Type 0) : Type 0 where
+pub record ClosesAfter (session : ℕ) (h : List Entry) (accepted : List Entry → Type 0) : Type 0 where
   pub opened : is_open session h ≡ true
   pub accepts : accepted (Close session ∷ [])
 
@@ -118,16 +119,16 @@ RefusesClose e limits h session = (is_open session h ≡ true) × LacksRoomAfter
 -- ---- messages
 
 -- the cuts that a message or an advance of the clock makes, and the entry itself
-abbrev pub with_cuts : Engine → List Entry → Entry → List Entry
-with_cuts e h entry = cuts_before e.limits h entry (waiting_of e) ++ entry ∷ []
+abbrev pub with_cuts_after : Engine → List Entry → Entry → List Entry
+with_cuts_after e h entry = cuts_before e.limits h entry (waiting_of e) ++ entry ∷ []
 
 -- the message is the next of its session, the audit holds it, it and its cuts are accepted, and this is its receipt
-pub record Receives (e : Engine) (session number : ℕ) (octets : List ℕ) (r : Receipt) (h : List Entry) (accepted : List Entry → Type 0) : Type 0 where
+pub record ReceivesAfter (e : Engine) (session number : ℕ) (octets : List ℕ) (r : Receipt) (h : List Entry) (accepted : List Entry → Type 0) : Type 0 where
   pub next : IsNext h session number
   pub meaning : Meaning
   pub means : meaning_of (messages_of session h) octets ≡ Ok meaning
-  pub audit : AuditHolds e h (with_cuts e h (Message session number octets))
-  pub accepts : accepted (with_cuts e h (Message session number octets))
+  pub audit : AuditHoldsAfter e h (with_cuts_after e h (Message session number octets))
+  pub accepts : accepted (with_cuts_after e h (Message session number octets))
   pub receipt : r ≡ receipt_of (length h) (length (cuts_before e.limits h (Message session number octets) (waiting_of e))) meaning
 
 -- the octets are a message of the session
@@ -136,21 +137,21 @@ pub record HasMeaning (h : List Entry) (session : ℕ) (octets : List ℕ) : Typ
   pub means : meaning_of (messages_of session h) octets ≡ Ok meaning
 
 -- first its own refusals, then the journal is judged, and then the audit, whose need and room are told
-abbrev pub RefusesReceive : Fault → Journaled → Engine → List Entry → ℕ → ℕ → List ℕ → Type 0
-RefusesReceive fault.JournalFull limits e h session number octets =
-    IsNext h session number × HasMeaning h session octets × (HasRoomAfter limits h (with_cuts e h (Message session number octets)) → ⊥)
-RefusesReceive (fault.AuditFull need room) limits e h session number octets =
-    IsNext h session number × HasMeaning h session octets × HasRoomAfter limits h (with_cuts e h (Message session number octets))
-    × ((noted : List AuditEntry) × (audit_list (h ++ with_cuts e h (Message session number octets)) ≡ audit_list h ++ noted) × (need ≡ length noted))
+abbrev pub RefusesReceiveAfter : Fault → Journaled → Engine → List Entry → ℕ → ℕ → List ℕ → Type 0
+RefusesReceiveAfter fault.JournalFull limits e h session number octets =
+    IsNext h session number × HasMeaning h session octets × (HasRoomAfter limits h (with_cuts_after e h (Message session number octets)) → ⊥)
+RefusesReceiveAfter (fault.AuditFull need room) limits e h session number octets =
+    IsNext h session number × HasMeaning h session octets × HasRoomAfter limits h (with_cuts_after e h (Message session number octets))
+    × ((noted : List AuditEntry) × (audit_list (h ++ with_cuts_after e h (Message session number octets)) ≡ audit_list h ++ noted) × (need ≡ length noted))
     × (room + length e.audit.standing.entries ≡ e.audit.limit) × (room < need)
-RefusesReceive why limits e h session number octets = RefusesMessage why h session number octets
+RefusesReceiveAfter why limits e h session number octets = RefusesMessage why h session number octets
 
 -- what is received of a message that was prepared elsewhere: refused as the message itself is, but never for its octets, and
 -- where the session has other templates than those by which it was prepared
-abbrev pub RefusesReceivePrepared : Fault → Journaled → Engine → List Entry → ℕ → ℕ → Preparation → Type 0
-RefusesReceivePrepared fault.Stale limits e h session number p = IsNext h session number × (AgreesWith (messages_of session h) p → ⊥)
-RefusesReceivePrepared (fault.Malformed why) limits e h session number p = ⊥
-RefusesReceivePrepared why limits e h session number p = RefusesReceive why limits e h session number p.message
+abbrev pub RefusesReceivePreparedAfter : Fault → Journaled → Engine → List Entry → ℕ → ℕ → Preparation → Type 0
+RefusesReceivePreparedAfter fault.Stale limits e h session number p = IsNext h session number × (AgreesWith (messages_of session h) p → ⊥)
+RefusesReceivePreparedAfter (fault.Malformed why) limits e h session number p = ⊥
+RefusesReceivePreparedAfter why limits e h session number p = RefusesReceiveAfter why limits e h session number p.message
 
 -- the session is open, and these templates are in force after its messages
 pub record IsSnapshot (h : List Entry) (session : ℕ) (snapshot : List (ℕ × List (ℕ × Template))) : Type 0 where
@@ -165,27 +166,27 @@ RefusesSnapshot _ h session = ⊥
 -- ---- the clock
 
 -- the time isn't before that of the last advance, the audit holds the advance's cuts, and both are accepted
-pub record Advances (e : Engine) (t : ℕ) (h : List Entry) (accepted : List Entry → Type 0) : Type 0 where
+pub record AdvancesAfter (e : Engine) (t : ℕ) (h : List Entry) (accepted : List Entry → Type 0) : Type 0 where
   pub ahead : clock_of h ≤ t
-  pub audit : AuditHolds e h (with_cuts e h (Advance t))
-  pub accepts : accepted (with_cuts e h (Advance t))
+  pub audit : AuditHoldsAfter e h (with_cuts_after e h (Advance t))
+  pub accepts : accepted (with_cuts_after e h (Advance t))
 
 -- the clock stands later; else the journal is judged, and then the audit, whose need and room are told; memory runs out only where
 -- the clock doesn't stand later
-abbrev pub RefusesAdvance : Fault → Journaled → Engine → List Entry → ℕ → Type 0
-RefusesAdvance (fault.ClockBack last) limits e h t = (last ≡ clock_of h) × (t < last)
-RefusesAdvance fault.JournalFull limits e h t = (clock_of h ≤ t) × (HasRoomAfter limits h (with_cuts e h (Advance t)) → ⊥)
-RefusesAdvance (fault.AuditFull need room) limits e h t =
-    (clock_of h ≤ t) × HasRoomAfter limits h (with_cuts e h (Advance t))
-    × ((noted : List AuditEntry) × (audit_list (h ++ with_cuts e h (Advance t)) ≡ audit_list h ++ noted) × (need ≡ length noted))
+abbrev pub RefusesAdvanceAfter : Fault → Journaled → Engine → List Entry → ℕ → Type 0
+RefusesAdvanceAfter (fault.ClockBack last) limits e h t = (last ≡ clock_of h) × (t < last)
+RefusesAdvanceAfter fault.JournalFull limits e h t = (clock_of h ≤ t) × (HasRoomAfter limits h (with_cuts_after e h (Advance t)) → ⊥)
+RefusesAdvanceAfter (fault.AuditFull need room) limits e h t =
+    (clock_of h ≤ t) × HasRoomAfter limits h (with_cuts_after e h (Advance t))
+    × ((noted : List AuditEntry) × (audit_list (h ++ with_cuts_after e h (Advance t)) ≡ audit_list h ++ noted) × (need ≡ length noted))
     × (room + length e.audit.standing.entries ≡ e.audit.limit) × (room < need)
-RefusesAdvance fault.OutOfMemory limits e h t = clock_of h ≤ t
-RefusesAdvance _ limits e h t = ⊥
+RefusesAdvanceAfter fault.OutOfMemory limits e h t = clock_of h ≤ t
+RefusesAdvanceAfter _ limits e h t = ⊥
 
 -- ---- policies
 
 -- the number of edits so far
-pub record Edits (text : List ℕ) (n : ℕ) (h : List Entry) (accepted : List Entry → Type 0) : Type 0 where
+pub record EditsAfter (text : List ℕ) (n : ℕ) (h : List Entry) (accepted : List Entry → Type 0) : Type 0 where
   pub policy : Policy
   pub spelled : policy_of text ≡ Ok policy
   pub number : n ≡ edits_made h + 1
@@ -212,7 +213,7 @@ abbrev pub IsFree : List Entry → List ℕ → Type 0
 IsFree h name = (sub : ℕ) → is_live sub h ≡ true → name_of sub h ≢ name
 
 -- the next number, from 1 on
-pub record Subscribes (name : List ℕ) (n : ℕ) (h : List Entry) (accepted : List Entry → Type 0) : Type 0 where
+pub record SubscribesAfter (name : List ℕ) (n : ℕ) (h : List Entry) (accepted : List Entry → Type 0) : Type 0 where
   pub named : is_name name ≡ true
   pub free : IsFree h name
   pub number : n ≡ subscriptions_begun h + 1
@@ -224,7 +225,7 @@ RefusesSubscribe (fault.AlreadySubscribed sub) limits h name = (is_name name ≡
 RefusesSubscribe fault.OutOfMemory limits h name = (is_name name ≡ true) × IsFree h name
 RefusesSubscribe e limits h name = (is_name name ≡ true) × IsFree h name × LacksRoomAfter e limits h (Subscribe (subscriptions_begun h + 1) name ∷ [])
 
-pub record Unsubscribes (sub : ℕ) (h : List Entry) (accepted : List Entry → Type 0) : Type 0 where
+pub record UnsubscribesAfter (sub : ℕ) (h : List Entry) (accepted : List Entry → Type 0) : Type 0 where
   pub live : is_live sub h ≡ true
   pub accepts : accepted (Unsubscribe sub ∷ [])
 
@@ -235,7 +236,7 @@ RefusesUnsubscribe e limits h sub = (is_live sub h ≡ true) × LacksRoomAfter e
 -- ---- what is handed out
 
 -- the message built at the place up to which the parts of what is disclosed were handed out, which then moves past it
-pub record Pulls (old new : Engine) (sub now target : ℕ) (answer : Option (List ℕ)) (h : List Entry) : Type 0 where
+pub record PullsAfter (old new : Engine) (sub now target : ℕ) (answer : Option (List ℕ)) (h : List Entry) : Type 0 where
   pub live : is_live sub h ≡ true
   pub message : answer ≡ built (disclosed sub h) (place_of old sub) now target
   pub moved : place_of new sub ≡ place_after (disclosed sub h) (place_of old sub) target

@@ -1,6 +1,6 @@
 -- In which order an entry cuts.
 use Rattle.std.specs.Prelude.{◌≡◌, ℕ, List, map}
-use Rattle.subscriber_stream.specs.declared.limits.Limits.{Limits}
+use Rattle.subscriber_stream.specs.declared.limits.StreamLimits.{StreamLimits}
 use Rattle.event_journal.specs.declared.entry.Entry.{Entry}
 use Rattle.event_journal.specs.declared.entry.Entry.TheVariants.{Cut}
 use Rattle.mediator_history.specs.Cuts.{cuts_before}
@@ -15,4 +15,4 @@ pub record CutsAscend (cuts : List Entry) : Type 0 where
 
 -- the cuts that stand before an entry ascend by number, whatever waits
 abbrev pub CutsBeforeAscend : Type 0
-CutsBeforeAscend = (limits : Limits) (h : List Entry) (entry : Entry) (waiting : ℕ → ℕ) → AreNumbered h → CutsAscend (cuts_before limits h entry waiting)
+CutsBeforeAscend = (limits : StreamLimits) (h : List Entry) (entry : Entry) (waiting : ℕ → ℕ) → AreNumbered h → CutsAscend (cuts_before limits h entry waiting)

@@ -6,7 +6,7 @@ use Rattle.ipfix_session.specs.Keeping.{at_key}
 use Rattle.ipfix_session.specs.Meaning.{Meaning, meaning_of}
 use Rattle.ipfix_session.specs.ReadAhead.{Ahead, IsReadingOf}
 use Rattle.flow_aggregate.specs.Counts.{Count, count_of}
-use Rattle.subscriber_stream.specs.Standing.{HasRoom}
+use Rattle.subscriber_stream.specs.Standing.{HasStreamRoom}
 use Rattle.stream_meaning.specs.Served.{IsStreamable}
 use Rattle.disclosure_audit.specs.declared.entry.AuditEntry.{AuditEntry}
 use Rattle.disclosure_audit.specs.declared.entry.Note.{Note}
@@ -26,20 +26,20 @@ use Rattle.mediator_tables.specs.Adding.{tallied}
 use Rattle.mediator_shares.specs.Sharing.{share_of}
 use Rattle.mediator_shares.specs.Noting.{kept_of}
 use Rattle.mediator_tables.specs.declared.open_session.OpenSession.{OpenSession}
-use Rattle.mediator_tables.specs.SubscriptionTable.{Table, at, lacks_room_at}
+use Rattle.mediator_tables.specs.SubscriptionTable.{SubscriptionRows, at, lacks_room_at}
 use Rattle.prepared_message.specs.Preparation.{Preparation, AgreesWith}
 use Rattle.mediator_state.specs.declared.engine.Engine.{Engine}
 use Rattle.mediator_state.specs.declared.fault.Fault.{Fault}
 use Rattle.mediator_state.specs.declared.fault.Fault.TheVariants as fault
 use Rattle.mediator_state.specs.declared.plan.Judged.{Judged}
-use Rattle.mediator_state.specs.declared.plan.Plan.{Plan}
+use Rattle.mediator_state.specs.declared.plan.MessagePlan.{MessagePlan}
 use Rattle.mediator_state.specs.Seen.{waiting_of}
 
 -- whether there is no room for the share of one that is served
-abbrev pub lacks : Table → ℕ → InForce → List DataRecord → Served → Bool
+abbrev pub lacks : SubscriptionRows → ℕ → InForce → List DataRecord → Served → Bool
 lacks t domain f records who = lacks_room_at t (share_of domain f records who)
 
-abbrev pub has : Table → ℕ → InForce → List DataRecord → Served → Bool
+abbrev pub has : SubscriptionRows → ℕ → InForce → List DataRecord → Served → Bool
 has t domain f records who = not (lacks t domain f records who)
 
 -- what an entry gives to a subscription
@@ -55,8 +55,8 @@ abbrev pub AreTallied : List Entry → Entry → List (ℕ × List Count) → Ty
 AreTallied h entry tallies = tallies ≡ map (tally_at h entry) (served h)
 
 -- the subscription's stream has room for its share, if the share has a record
-abbrev pub HasRoomIn : Table → ℕ × List DataRecord → Type 0
-HasRoomIn t share = 0 < length share.1 → IsSomeAnd (at t share.0) (λ s. HasRoom s.stream share.1)
+abbrev pub HasRoomIn : SubscriptionRows → ℕ × List DataRecord → Type 0
+HasRoomIn t share = 0 < length share.1 → IsSomeAnd (at t share.0) (λ s. HasStreamRoom s.stream share.1)
 
 -- each record of a share may be streamed
 abbrev pub AreStreamed : ℕ × List DataRecord → Type 0
@@ -81,14 +81,14 @@ abbrev pub IsJudgedFor : Engine → List Entry → Meaning → Judged → Type 0
 IsJudgedFor e h m j = (session number : ℕ) (octets : List ℕ) → meaning_of (messages_of session h) octets ≡ Ok m → IsJudgedAs e h (Message session number octets) j
 
 -- what a message would do behind a history
-pub record IsPlan (e : Engine) (h : List Entry) (number : ℕ) (octets : List ℕ) (p : Plan) : Type 0 where
-  pub opened : is_open p.session h ≡ true
-  pub turn : number ≡ length (messages_of p.session h)
-  pub read : IsReadingOf (messages_of p.session h) octets p.reading
+pub record IsPlan (e : Engine) (h : List Entry) (number : ℕ) (octets : List ℕ) (p : MessagePlan) : Type 0 where
+  pub opened : is_open p.session.0 h ≡ true
+  pub turn : number ≡ length (messages_of p.session.0 h)
+  pub read : IsReadingOf (messages_of p.session.0 h) octets p.reading
   pub named : List Note
   pub kept : p.notes ≡ kept_of e.audit.limit named
-  pub judged : IsJudged e h (Message p.session number octets) p.cuts.items (map shown p.shares.items) (map (stamp p.position) named)
-  pub tallied_are : AreTallied (after_cuts h p.cuts.items) (Message p.session number octets) (map tallied p.tallies.items)
+  pub judged : IsJudged e h (Message p.session.0 number octets) p.cuts.items (map shown p.shares.items) (map (stamp p.position) named)
+  pub tallied_are : AreTallied (after_cuts h p.cuts.items) (Message p.session.0 number octets) (map tallied p.tallies.items)
 
 -- the session is open, and this is the number of its next message
 pub record IsInTurn (e : Engine) (session number : ℕ) (o : OpenSession) : Type 0 where

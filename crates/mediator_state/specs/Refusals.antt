@@ -1,22 +1,16 @@
 -- How a mediator names what its parts refuse.
 use Rattle.std.specs.Prelude.{if◌then◌else◌}
-use Rattle.ipfix_session.specs.declared.read_error.ReadError.{ReadError}
-use Rattle.ipfix_session.specs.declared.read_error.ReadError.TheVariants as read
-use Rattle.prepared_message.specs.declared.fault.ApplyFault.{ApplyFault}
-use Rattle.prepared_message.specs.declared.fault.ApplyFault.TheVariants as apply
-use Rattle.policy_text.specs.declared.fault.PolicyFault.{PolicyFault}
+use Rattle.ipfix_session.specs.declared.fault.Fault.{Fault as ReadError}
+use Rattle.ipfix_session.specs.declared.fault.Fault.TheVariants as read
+use Rattle.policy_text.specs.declared.fault.Fault.{Fault as PolicyFault}
 use Rattle.policy_text.specs.Results.{is_memory}
 use Rattle.mediator_state.specs.declared.fault.Fault.{Fault}
-use Rattle.mediator_state.specs.declared.fault.Fault.TheVariants.{Malformed, Stale, Policy, OutOfMemory}
+use Rattle.mediator_state.specs.declared.fault.Fault.TheVariants.{Malformed, Policy, OutOfMemory}
 
 abbrev pub refusal_of : ReadError → Fault
 refusal_of read.OutOfMemory = OutOfMemory
 refusal_of (read.Malformed why) = Malformed (read.Malformed why)
 refusal_of read.RecordOverrun = Malformed read.RecordOverrun
-
-abbrev pub stale_refusal : ApplyFault → Fault
-stale_refusal apply.Stale = Stale
-stale_refusal apply.OutOfMemory = OutOfMemory
 
 -- want of memory is no fault of a policy
 abbrev pub policy_refusal : PolicyFault → Fault

@@ -2,7 +2,7 @@
 use Rattle.std.specs.Prelude.{◌≡◌, ℕ, Option, Some, None}
 use Rattle.std.specs.Option.{option_map}
 use Rattle.ipfix_session.specs.Keeping.{at_key}
-use Rattle.subscriber_stream.specs.Standing.{queued}
+use Rattle.subscriber_stream.specs.Standing.{queue_size}
 use Rattle.mediator_tables.specs.GroupTable.{groups_at}
 use Rattle.mediator_tables.specs.SessionTable.{seen}
 use Rattle.mediator_tables.specs.declared.subscription.Subscription.{Subscription}
@@ -20,7 +20,7 @@ place_of e sub = place_in (at e.subscriptions sub)
 
 abbrev pub waiting_in : Option Subscription → ℕ
 waiting_in None = 0
-waiting_in (Some s) = queued s.stream.standing
+waiting_in (Some s) = queue_size s.stream.standing
 
 -- how many records wait for a live subscription
 abbrev pub waiting_of : Engine → ℕ → ℕ

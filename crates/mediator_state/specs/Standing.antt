@@ -3,11 +3,11 @@ use Rattle.std.specs.Prelude.{◌≡◌, ℕ, ◌+◌, ◌*◌, ◌≤◌, ◌<�
 use Rattle.std.specs.List.{flat_map, AllByRecursion}
 use Rattle.ipfix_session.specs.Keeping.{at_key}
 use Rattle.ipfix_session.specs.Standing.{StandsFor}
-use Rattle.subscriber_stream.specs.declared.limits.Limits.{Limits}
+use Rattle.subscriber_stream.specs.declared.limits.StreamLimits.{StreamLimits}
 use Rattle.subscriber_stream.specs.declared.limits.TheConstants.{MOST_QUEUE, MOST_SHAPES}
-use Rattle.subscriber_stream.specs.Standing.{Standing, StandsAt}
+use Rattle.subscriber_stream.specs.Standing.{StreamStanding, StandsAt}
 use Rattle.stream_meaning.specs.Served.{AreStreamable}
-use Rattle.flow_aggregate.specs.Running.{StandsFor as StandsForRecords}
+use Rattle.flow_aggregate.specs.Running.{SumsStand as StandsForRecords}
 use Rattle.disclosure_audit.specs.declared.audit.TheConstants.{MOST_ENTRIES as MOST_AUDITED}
 use Rattle.disclosure_audit.specs.Queue.{StandsIn}
 use Rattle.event_journal.specs.declared.entry.Entry.{Entry}
@@ -25,7 +25,7 @@ use Rattle.mediator_state.specs.declared.engine.Engine.{Engine}
 use Rattle.mediator_state.specs.Ascending.{Ascend}
 
 -- the place up to which a stream's parts were handed out
-abbrev pub place : Standing → ℕ
+abbrev pub place : StreamStanding → ℕ
 place s = s.handed + s.announced
 
 -- the session is open, and stands for its messages; or it isn't
@@ -34,7 +34,7 @@ IsSession h session None = is_open session h ≡ false
 IsSession h session (Some o) = (is_open session h ≡ true) × (o.accepted ≡ length (messages_of session h)) × StandsFor o.session (messages_of session h)
 
 -- the subscription is live, and its stream stands in what is disclosed to it
-pub record IsSubscription (h : List Entry) (limits : Limits) (sub : ℕ) (s : Subscription) : Type 0 where
+pub record IsSubscription (h : List Entry) (limits : StreamLimits) (sub : ℕ) (s : Subscription) : Type 0 where
   pub live : is_live sub h ≡ true
   pub name : s.name ≡ name_of sub h
   pub cut : s.is_cut ≡ not (is_served sub h)
@@ -42,7 +42,7 @@ pub record IsSubscription (h : List Entry) (limits : Limits) (sub : ℕ) (s : Su
   pub limits_are : s.stream.limits ≡ limits
 
 -- so it is; or the subscription isn't live
-abbrev pub IsLiveAs : List Entry → Limits → ℕ → Option Subscription → Type 0
+abbrev pub IsLiveAs : List Entry → StreamLimits → ℕ → Option Subscription → Type 0
 IsLiveAs h limits sub None = is_live sub h ≡ false
 IsLiveAs h limits sub (Some s) = IsSubscription h limits sub s
 
@@ -73,7 +73,7 @@ pub record IsSmall (h : List Entry) : Type 0 where
   pub streamable : (sub : ℕ) → AreStreamable (disclosed sub h)
 
 -- the limits are ones that a mediator may have
-pub record AreInRange (limits : Limits) : Type 0 where
+pub record AreEngineLimits (limits : StreamLimits) : Type 0 where
   pub queue : limits.queue ≤ MOST_QUEUE
   pub shapes : limits.shapes ≤ MOST_SHAPES
 
@@ -88,7 +88,7 @@ pub record Stands (e : Engine) (h : List Entry) : Type 0 where
   pub served_are : e.subscriptions.served ≡ served h
   pub groups : (sub : ℕ) → StandsForRecords (groups_at e.groups sub) (running sub h)
   pub audit : StandsIn e.audit.standing (audit_list h)
-  pub limits : AreInRange e.limits
+  pub limits : AreEngineLimits e.limits
   pub numbered : AreNumbered h
   pub small : IsSmall h
 

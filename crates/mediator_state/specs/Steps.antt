@@ -2,7 +2,7 @@
 use Rattle.std.specs.Prelude.{◌≡◌, ℕ, ◌+◌, ◌≤◌, ◌<◌, ◌^◌, List, length, if◌then◌else◌, ◌==◌}
 use Rattle.std.specs.Option.{option_map}
 use Rattle.std.specs.Map.{keys_of}
-use Rattle.disclosure_audit.specs.Queue.{Kept}
+use Rattle.disclosure_audit.specs.Queue.{KeptAudit}
 use Rattle.mediator_history.specs.Numbers.{is_in}
 use Rattle.flow_aggregate.specs.Running.{nothing_held}
 use Rattle.mediator_tables.specs.GroupTable.{held_at}
@@ -10,7 +10,7 @@ use Rattle.mediator_tables.specs.SubscriptionTable.{at, cut_off}
 use Rattle.mediator_state.specs.declared.engine.Engine.{Engine}
 
 -- the audit has room for so many entries, in memory too
-pub record HasAuditRoom (audit : Kept) (more : ℕ) : Type 0 where
+pub record HasAuditRoom (audit : KeptAudit) (more : ℕ) : Type 0 where
   pub room : length audit.standing.entries + more ≤ audit.limit
   pub reserved : more ≤ audit.spare
   pub count : audit.standing.drained + length audit.standing.entries + more < 2 ^ 64

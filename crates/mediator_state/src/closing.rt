@@ -6,7 +6,7 @@ ghost use Rattle.mediator_tables.specs.SubscriptionTable.{shown};
 
 use crate::engine::Engine;
 use crate::plan::see_shares;
-use mediator_tables::{Served, Share};
+use mediator_tables::{Served, Share, SubId};
 use std::alloc::{AllocError, Global};
 
 /// What an advance of the clock would do.
@@ -44,7 +44,9 @@ impl Engine {
     /// is no memory to find that out.
     pub(crate) fn is_advance_held_up(&self, t: u64) -> bool {
         match self.subscriptions.served() {
-            Ok(served) => served.iter().any(|who| self.is_closing_held_up(who.sub, t)),
+            Ok(served) => served
+                .iter()
+                .any(|who| self.is_closing_held_up(SubId(who.sub), t)),
             Err(_) => false,
         }
     }
@@ -52,9 +54,9 @@ impl Engine {
     /// Whether what an advance of the clock to `t` would close for the subscription with the number `sub` has no room
     /// in its queue until some of what waits is pulled, and has room then. It is false where there is no memory to find
     /// that out.
-    fn is_closing_held_up(&self, sub: u64, t: u64) -> bool {
+    fn is_closing_held_up(&self, sub: SubId, t: u64) -> bool {
         match self.groups.closing(sub, t) {
-            Ok(given) => self.subscriptions.is_held_up(&Share { sub, given }),
+            Ok(given) => self.subscriptions.is_held_up(&Share { sub: sub.0, given }),
             Err(_) => false,
         }
     }
@@ -72,7 +74,7 @@ impl Engine {
         let mut cuts = Vec::new(self.alloc);
         let mut shares = Vec::new(self.alloc);
         'served: for who in served {
-            let given = self.groups.closing(who.sub, t)?;
+            let given = self.groups.closing(SubId(who.sub), t)?;
             let share = Share {
                 sub: who.sub,
                 given,

@@ -15,18 +15,18 @@ ghost use Rattle.mediator_history.specs.Cuts.{after_cuts};
 
 use crate::closing::Closing;
 use crate::fault::Fault;
-use crate::plan::Plan;
+use crate::plan::MessagePlan;
 use crate::receipt::Receipt;
 use disclosure_audit::{Audit, AuditEntry, Note, What};
 use hash_keys::HashKeys;
 use ipfix_session::Reading;
 use mediator_shares::{InForce, Terms};
-use mediator_tables::{Reserved, RunningGroups, Sessions, Share, Subscriptions};
+use mediator_tables::{Reserved, RunningGroups, SessionId, Sessions, Share, SubId, Subscriptions};
 use policy_text::Policy;
 use prepared_message::Snapshot;
 use std::alloc::{AllocError, Global};
 use std::sync::Arc;
-use subscriber_stream::{Limits, Stream};
+use subscriber_stream::{Stream, StreamLimits};
 
 /// What a mediator keeps beside its history. Contracts say by `Stands` for which histories it stands. Its calls change
 /// it by one entry, or by none.
@@ -35,7 +35,7 @@ pub(crate) struct Engine {
     /// By what tables are hashed whose entries exporters choose.
     keys: HashKeys,
     /// How much each subscription's stream may hold.
-    pub(crate) limits: Limits,
+    pub(crate) limits: StreamLimits,
     /// The policy in force, and the time of the clock.
     pub(crate) in_force: InForce,
     /// How many edits there were.
@@ -78,7 +78,7 @@ impl Drop for Engine {
 
 impl Engine {
     ghost use Rattle.mediator_tables.specs.SubscriptionTable.{at};
-    ghost use Rattle.mediator_state.specs.Standing.{Stands, GoesOnWith, StandsSomewhere, HasHistory, AreInRange};
+    ghost use Rattle.mediator_state.specs.Standing.{Stands, GoesOnWith, StandsSomewhere, HasHistory, AreEngineLimits};
     ghost use Rattle.mediator_state.specs.Seen.{IsSameEngine, IsUntouched, place_of};
     ghost use Rattle.mediator_state.specs.Calls.{IsSnapshot, RefusesSnapshot};
     ghost use Rattle.std.specs.Prelude.{IfErr};
@@ -89,8 +89,8 @@ impl Engine {
     ///
     /// # Errors
     /// Want of memory.
-    pub(crate) fn new(alloc: Global, limits: Limits, audit: u32) -> Result<Engine, AllocError>
-        requires range { AreInRange limits }
+    pub(crate) fn new(alloc: Global, limits: StreamLimits, audit: u32) -> Result<Engine, AllocError>
+        requires range { AreEngineLimits limits }
         requires least { 1 ≤ audit }
         requires most { audit ≤ MOST_AUDITED }
         // It stands for the history without an entry, within these limits.
@@ -124,48 +124,49 @@ impl Engine {
     }
 
     /// The number of the next session, behind a history of `position` entries: how many were opened, and one more.
-    pub(crate) fn next_session(&self, position: u64) -> u64
+    pub(crate) fn next_session(&self, position: u64) -> SessionId
         requires somewhere { StandsSomewhere self.now position }
         requires short { position ≤ MOST_ENTRIES }
-        ensures value { result ≡ self.now.opened + 1 }
-        ensures next { (h : List Entry) → Stands self.now h → result ≡ sessions_opened h + 1 }
+        ensures value { result.0 ≡ self.now.opened + 1 }
+        ensures next { (h : List Entry) → Stands self.now h → result.0 ≡ sessions_opened h + 1 }
     {
-        self.opened + 1
+        let number = self.opened + 1;
+        SessionId(number)
     }
 
-    /// Opens the next session, whose number is `number`.
+    /// Opens the next session, whose number is `session`.
     ///
     /// # Errors
     /// Want of memory, and then nothing has changed.
-    pub(crate) fn open(&mut self, number: u64) -> Result<(), AllocError>
-        requires next { number ≡ self.old.opened + 1 }
-        ensures ok { OnOk result (GoesOnWith (Open number ∷ []) self.old self.new) }
+    pub(crate) fn open(&mut self, session: SessionId) -> Result<(), AllocError>
+        requires next { session.0 ≡ self.old.opened + 1 }
+        ensures ok { OnOk result (GoesOnWith (Open session.0 ∷ []) self.old self.new) }
         ensures untouched { IsUntouched self.old self.new }
         ensures err { OnErr result (IsSameEngine self.old self.new) }
     {
-        self.sessions.open(number)?;
-        self.opened = number;
+        self.sessions.open(session)?;
+        self.opened = session.0;
         Ok(())
     }
 
-    /// The templates of the open session with the number `number` as they stand, which the session shares then, with
+    /// The templates of the open session with the number `session` as they stand, which the session shares then, with
     /// the terms on which records are shared now.
     ///
     /// # Errors
     /// [`Fault::UnknownSession`] where the session isn't open; or [`Fault::OutOfMemory`].
-    pub(crate) fn snapshot(&mut self, number: u64) -> Result<Snapshot, Fault>
+    pub(crate) fn snapshot(&mut self, session: SessionId) -> Result<Snapshot, Fault>
         ensures ok { IfOk result (λ snapshot. (h : List Entry) → Stands self.old h
-            → IsSnapshot h number snapshot) }
+            → IsSnapshot h session.0 snapshot) }
         ensures unchanged { IsSameEngine self.old self.new }
         ensures err { IfErr result (λ e. (h : List Entry) → Stands self.old h
-            → RefusesSnapshot e h number) }
+            → RefusesSnapshot e h session.0) }
     {
-        if !self.is_open(number) {
+        if !self.is_open(session) {
             return Err(Fault::UnknownSession);
         }
         let terms = self.terms()?;
-        self.sessions.share(number)?;
-        match self.sessions.get(number) {
+        self.sessions.share(session)?;
+        match self.sessions.get(session) {
             Some(open) => Ok(Snapshot::of(&open.session)?.with_terms(terms)),
             None => Err(Fault::UnknownSession),
         }
@@ -192,27 +193,27 @@ impl Engine {
         Ok(terms)
     }
 
-    /// Whether the session with the number `number` is open.
-    pub(crate) fn is_open(&self, number: u64) -> bool
-        ensures { (h : List Entry) → Stands self.now h → result ≡ is_open number h }
+    /// Whether the session with the number `session` is open.
+    pub(crate) fn is_open(&self, session: SessionId) -> bool
+        ensures { (h : List Entry) → Stands self.now h → result ≡ is_open session.0 h }
     {
-        self.sessions.get(number).is_some()
+        self.sessions.get(session).is_some()
     }
 
-    /// Whether the subscription with the number `number` is live.
-    pub(crate) fn is_live(&self, number: u64) -> bool
-        ensures live { (h : List Entry) → Stands self.now h → result ≡ is_live number h }
-        ensures there { result ≡ is_some (at self.now.subscriptions number) }
+    /// Whether the subscription with the number `sub` is live.
+    pub(crate) fn is_live(&self, sub: SubId) -> bool
+        ensures live { (h : List Entry) → Stands self.now h → result ≡ is_live sub.0 h }
+        ensures there { result ≡ is_some (at self.now.subscriptions sub.0) }
     {
-        self.subscriptions.get(number).is_some()
+        self.subscriptions.get(sub).is_some()
     }
 
-    /// Closes the session with the number `number`. It takes no memory.
-    pub(crate) fn close(&mut self, number: u64)
-        ensures stands { GoesOnWith (Close number ∷ []) self.old self.new }
+    /// Closes the session with the number `session`. It takes no memory.
+    pub(crate) fn close(&mut self, session: SessionId)
+        ensures stands { GoesOnWith (Close session.0 ∷ []) self.old self.new }
         ensures untouched { IsUntouched self.old self.new }
     {
-        self.sessions.close(number);
+        self.sessions.close(session);
     }
 
     /// The policy `policy` as it would be in force now, with the clock as it stands.
@@ -243,19 +244,20 @@ impl Engine {
     }
 
     /// The number of the next subscription, behind a history of `position` entries: how many began, and one more.
-    pub(crate) fn next_subscription(&self, position: u64) -> u64
+    pub(crate) fn next_subscription(&self, position: u64) -> SubId
         requires somewhere { StandsSomewhere self.now position }
         requires short { position ≤ MOST_ENTRIES }
-        ensures value { result ≡ self.now.begun + 1 }
-        ensures next { (h : List Entry) → Stands self.now h → result ≡ subscriptions_begun h + 1 }
+        ensures value { result.0 ≡ self.now.begun + 1 }
+        ensures next { (h : List Entry) → Stands self.now h → result.0 ≡ subscriptions_begun h + 1 }
     {
-        self.begun + 1
+        let number = self.begun + 1;
+        SubId(number)
     }
 
     /// The number of the live subscription whose subscriber has this `name`, or `None`.
-    pub(crate) fn named(&self, name: &str) -> Option<u64>
+    pub(crate) fn named(&self, name: &str) -> Option<SubId>
         ensures found { IfSome result (λ sub. (h : List Entry) → Stands self.now h
-            → (is_live sub h ≡ true) × (name_of sub h ≡ name.now)) }
+            → (is_live sub.0 h ≡ true) × (name_of sub.0 h ≡ name.now)) }
         ensures none { IfNone result ((h : List Entry) → Stands self.now h
             → (sub : ℕ) → is_live sub h ≡ true → name_of sub h ≢ name.now) }
         ensures free { IfNone result ((q : ℕ)
@@ -264,25 +266,25 @@ impl Engine {
         self.subscriptions.named(name)
     }
 
-    /// Begins the next subscription, whose number is `number`, for a subscriber of this `name`, which no live
+    /// Begins the next subscription, whose number is `sub`, for a subscriber of this `name`, which no live
     /// subscription has.
     ///
     /// # Errors
     /// Want of memory, and then nothing has changed.
-    pub(crate) fn subscribe(&mut self, number: u64, name: &str) -> Result<(), AllocError>
+    pub(crate) fn subscribe(&mut self, sub: SubId, name: &str) -> Result<(), AllocError>
         requires somewhere { HasHistory self.old }
-        requires next { number ≡ self.old.begun + 1 }
+        requires next { sub.0 ≡ self.old.begun + 1 }
         requires name { is_name name.now ≡ true }
         requires free { (q : ℕ) → IfSome (at self.old.subscriptions q) (λ s. s.name ≢ name.now) }
         // The beginning stands as the next entry.
-        ensures ok { OnOk result (GoesOnWith (Subscribe number name.now ∷ []) self.old self.new) }
+        ensures ok { OnOk result (GoesOnWith (Subscribe sub.0 name.now ∷ []) self.old self.new) }
         ensures untouched { IsUntouched self.old self.new }
         // Want of memory changes nothing.
         ensures err { OnErr result (IsSameEngine self.old self.new) }
     {
         let stream = Stream::hashed(self.alloc, self.limits, self.keys);
-        self.subscriptions.insert(number, name, stream)?;
-        self.begun = number;
+        self.subscriptions.insert(sub, name, stream)?;
+        self.begun = sub.0;
         Ok(())
     }
 }
@@ -295,34 +297,34 @@ impl Engine {
     ghost use Rattle.std.specs.Option.{option_map};
     ghost use Rattle.mediator_state.specs.Steps.{IsCutOnce, HasAuditRoom, CutsInARow};
 
-    /// Ends the subscription with the number `number`, with what waits for it and its running groups. It takes no
+    /// Ends the subscription with the number `sub`, with what waits for it and its running groups. It takes no
     /// memory.
-    pub(crate) fn unsubscribe(&mut self, number: u64)
-        ensures stands { GoesOnWith (Unsubscribe number ∷ []) self.old self.new }
+    pub(crate) fn unsubscribe(&mut self, sub: SubId)
+        ensures stands { GoesOnWith (Unsubscribe sub.0 ∷ []) self.old self.new }
         // Other subscriptions keep their places, and the audit and the limits stay.
-        ensures others { (q : ℕ) → q ≢ number → place_of self.new q ≡ place_of self.old q }
+        ensures others { (q : ℕ) → q ≢ sub.0 → place_of self.new q ≡ place_of self.old q }
         ensures drained { self.new.audit.standing.drained ≡ self.old.audit.standing.drained }
         ensures limits { self.new.limits ≡ self.old.limits }
         ensures audit_limit { self.new.audit.limit ≡ self.old.audit.limit }
     {
-        self.subscriptions.remove(number);
-        self.groups.remove(number);
+        self.subscriptions.remove(sub);
+        self.groups.remove(sub);
     }
 
-    /// Cuts the subscription with the number `number`, by an entry at `position`: it is served no more, and its running
+    /// Cuts the subscription with the number `sub`, by an entry at `position`: it is served no more, and its running
     /// groups are gone. The audit has room for the entry that names this. It takes no memory.
-    fn cut(&mut self, position: u64, number: u64)
+    fn cut(&mut self, position: u64, sub: SubId)
         requires room { HasAuditRoom self.old.audit 1 }
         ensures stands { (h : List Entry) → Stands self.old h → length h ≡ position
-            → Stands self.new (h ++ Cut number ∷ []) }
-        ensures once { IsCutOnce number self.old self.new }
+            → Stands self.new (h ++ Cut sub.0 ∷ []) }
+        ensures once { IsCutOnce sub.0 self.old self.new }
     {
-        self.subscriptions.cut(number);
-        self.groups.remove(number);
+        self.subscriptions.cut(sub);
+        self.groups.remove(sub);
         self.audit.push_reserved(AuditEntry {
             position,
             index: 0,
-            sub: number,
+            sub: sub.0,
             what: What::Cut,
         });
     }
@@ -337,7 +339,7 @@ impl Engine {
         ensures row { CutsInARow numbers.now self.old self.new }
     {
         'cuts: for (place, number) in numbers.iter().enumerate() {
-            self.cut(position + place as u64, *number);
+            self.cut(position + place as u64, SubId(*number));
         }
     }
 }
@@ -350,9 +352,9 @@ impl Engine {
     ghost use Rattle.mediator_tables.specs.SubscriptionTable.{HasSpare};
     ghost use Rattle.mediator_tables.specs.SubscriptionTable.{shown};
     ghost use Rattle.flow_aggregate.specs.Counts.{Count};
-    ghost use Rattle.mediator_tables.specs.Adding.{reserved_for, AllReady, AreApart};
+    ghost use Rattle.mediator_tables.specs.Adding.{reserved_for, AllReady, NoneTwice};
     ghost use Rattle.mediator_state.specs.Planning.{IsPlan};
-    ghost use Rattle.mediator_state.specs.Accepting.{HasRoomForPlan, HasAuditFor, IsPlannedFor, LacksAudit, IsReadyToTake, IsMessage, receipt_of};
+    ghost use Rattle.mediator_state.specs.Accepting.{HasRoomForPlan, HasAuditFor, IsPlannedFor, LacksAudit, IsReadyToTake, IsBroughtBy, receipt_of};
     ghost use Rattle.std.specs.Prelude.{map, IfErr};
 
     /// Finds out whether `need` more entries have room in the audit, and makes room in memory for `places` of them.
@@ -383,7 +385,7 @@ impl Engine {
     /// # Errors
     /// [`Fault::AuditFull`] where the audit has no room for its cuts and notes; or [`Fault::OutOfMemory`]. Only
     /// reserved room has changed then.
-    pub(crate) fn make_room(&mut self, plan: &Plan) -> Result<Vec<Reserved>, Fault>
+    pub(crate) fn make_room(&mut self, plan: &MessagePlan) -> Result<Vec<Reserved>, Fault>
         ensures unchanged { IsSameEngine self.old self.new }
         ensures ok { IfOk result (λ reserved.
             HasRoomForPlan self.new plan.now (map reserved_for reserved.items)) }
@@ -400,14 +402,19 @@ impl Engine {
     /// Does what `plan` says, in the room that [`make_room`](Engine::make_room) made for it, behind a history of
     /// `position` entries. `reserved` is what that call made ready. The answer is the receipt of the message. It takes
     /// no memory and can't fail.
-    pub(crate) fn accept(&mut self, position: u64, plan: Plan, reserved: Vec<Reserved>) -> Receipt
+    pub(crate) fn accept(
+        &mut self,
+        position: u64,
+        plan: MessagePlan,
+        reserved: Vec<Reserved>,
+    ) -> Receipt
         requires room { HasRoomForPlan self.old plan (map reserved_for reserved.items) }
         requires planned { IsPlannedFor self.old position plan }
         // The message stands as the next entry, behind its cuts, and the receipt tells of it.
         ensures stands { (h : List Entry) (number : ℕ) (octets : List ℕ) → Stands self.old h
             → length h ≡ position → IsPlan self.old h number octets plan
             → Stands self.new (after_cuts h plan.cuts.items
-            ++ Message plan.session number octets ∷ []) }
+            ++ Message plan.session.0 number octets ∷ []) }
         ensures receipt { result
             ≡ receipt_of position (length plan.cuts.items) plan.reading.meaning }
         // Nothing is handed out.
@@ -436,25 +443,25 @@ impl Engine {
     /// the number `session`, `shares` what it gives, `reserved` what it counts, and `notes` what the audit names of it.
     fn take(
         &mut self,
-        session: u64,
+        session: SessionId,
         reading: Reading,
         shares: Vec<Share>,
         reserved: Vec<Reserved>,
         position: u64,
         notes: Vec<Note>,
     )
-        requires room { IsReadyToTake self.old session reading (map shown shares.items)
+        requires room { IsReadyToTake self.old session.0 reading (map shown shares.items)
             (map reserved_for reserved.items) (length notes.items) }
         ensures stands { (h : List Entry) (number : ℕ) (octets : List ℕ)
             (tallies : List (ℕ × List Count)) → Stands self.old h
             → AllReady self.old.groups (map reserved_for reserved.items) tallies
-            → AreApart tallies → IsMessage self.old h session number octets (record {
+            → NoneTwice tallies → IsBroughtBy self.old h session.0 number octets (record {
               reading = reading;
               shares = map shown shares.items;
               tallies = tallies;
               entries = map (stamp position) notes.items;
             })
-            → Stands self.new (h ++ Message session number octets ∷ []) }
+            → Stands self.new (h ++ Message session.0 number octets ∷ []) }
         ensures untouched { IsUntouched self.old self.new }
     {
         self.sessions.keep(session, reading);

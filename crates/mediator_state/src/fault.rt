@@ -1,16 +1,18 @@
 //! Why a mediator refuses a call.
 
-use ipfix_session::ReadError;
-use policy_text::PolicyFault;
-use prepared_message::ApplyFault;
+use ipfix_session::Fault as ReadError;
+use policy_text::Fault as PolicyFault;
 use std::alloc::AllocError;
 use std::error::Error;
 use std::fmt::{self, Display, Formatter, Write};
 
-/// Why a call is refused. Of several reasons the first of this list is told, but for those that belong to other calls.
-/// A fault's text is its name. A refused call has changed nothing.
+/// Why a call is refused, or why a mediator, a run or a handle isn't made. Of several reasons the first of this list is
+/// told, but for those that belong to other calls. A fault's text is its name. A refused call has changed nothing.
 #[derive(Clone, Copy, Debug, PartialEq, Eq)]
 pub enum Fault {
+    /// A limit is out of its range. Only making a mediator (`Mediator::new`), or a run of calls on one (`run`), answers
+    /// it.
+    BadLimits,
     /// No session with this number is open.
     UnknownSession,
     /// The message's number isn't `expected`, which is how many messages the session had.
@@ -28,6 +30,12 @@ pub enum Fault {
     AlreadySubscribed { sub: u64 },
     /// No subscription with this number is live.
     UnknownSub,
+    /// As many handles of this kind were made as there may be. Only a shared mediator answers it, where it is asked for
+    /// a handle.
+    NoHandle,
+    /// The count of the records that were handed out, with those that wait, would come to 2^64. Only a shared mediator
+    /// answers it, to a pull.
+    HandedFull,
     /// The clock stands later already: at `last`, in milliseconds since 1970.
     ClockBack { last: u64 },
     /// The journal has no room for the entries that the call would add.
@@ -48,6 +56,7 @@ impl Display for Fault {
 
     fn fmt<W: Write>(&self, f: &mut Formatter<W>) -> fmt::Result {
         f.write_str(match self {
+            Fault::BadLimits => "BadLimits",
             Fault::UnknownSession => "UnknownSession",
             Fault::OutOfTurn { .. } => "OutOfTurn",
             Fault::Malformed(_) => "Malformed",
@@ -56,6 +65,8 @@ impl Display for Fault {
             Fault::BadName => "BadName",
             Fault::AlreadySubscribed { .. } => "AlreadySubscribed",
             Fault::UnknownSub => "UnknownSub",
+            Fault::NoHandle => "NoHandle",
+            Fault::HandedFull => "HandedFull",
             Fault::ClockBack { .. } => "ClockBack",
             Fault::JournalFull => "JournalFull",
             Fault::AuditFull { .. } => "AuditFull",
@@ -85,20 +96,6 @@ impl From<ReadError> for Fault {
         match fault {
             ReadError::OutOfMemory => Fault::OutOfMemory,
             ReadError::Malformed(_) | ReadError::RecordOverrun => Fault::Malformed(fault),
-        }
-    }
-}
-
-impl From<ApplyFault> for Fault {
-    ghost use Rattle.mediator_state.specs.Refusals.{stale_refusal};
-    ghost use Rattle.std.specs.Prelude.{◌≡◌};
-
-    ghost from_gives = { λ a e. e ≡ stale_refusal a };
-
-    fn from(fault: ApplyFault) -> Fault {
-        match fault {
-            ApplyFault::Stale => Fault::Stale,
-            ApplyFault::OutOfMemory => Fault::OutOfMemory,
         }
     }
 }

@@ -32,4 +32,4 @@ mod state;
 pub use fault::Fault;
 pub use laws::cuts_ascend;
 pub use receipt::{Receipt, Status};
-pub use state::{DEFAULT_AUDIT, DEFAULT_QUEUE, Limits, State};
+pub use state::{DEFAULT_AUDIT, DEFAULT_QUEUE, State};

@@ -20,16 +20,16 @@ use bytes::Bytes;
 use ipfix_records::Records;
 use ipfix_session::Reading;
 use mediator_shares::{InForce, Judgement, Notes, Shares};
-use mediator_tables::{OpenSession, Served, Share, Subscriptions, Tally};
+use mediator_tables::{OpenSession, Served, SessionId, Share, Subscriptions, Tally};
 use prepared_message::Prepared;
 use std::alloc::{AllocError, Global};
 use stream_meaning::see_records;
 
 /// What a message would do.
 #[derive(Drop)]
-pub(crate) struct Plan {
+pub(crate) struct MessagePlan {
     /// The number of its session.
-    pub(crate) session: u64,
+    pub(crate) session: SessionId,
     /// What it means, and what it changes of its session.
     pub(crate) reading: Reading,
     /// The numbers of the subscriptions that it cuts, ascending.
@@ -54,11 +54,16 @@ impl Engine {
     /// # Errors
     /// [`Fault::UnknownSession`], [`Fault::OutOfTurn`] or [`Fault::Malformed`], the first that stands; or
     /// [`Fault::OutOfMemory`].
-    pub(crate) fn read(&self, session: u64, number: u64, message: &Bytes) -> Result<Reading, Fault>
+    pub(crate) fn read(
+        &self,
+        session: SessionId,
+        number: u64,
+        message: &Bytes,
+    ) -> Result<Reading, Fault>
         ensures ok { IfOk result (λ reading. (h : List Entry) → Stands self.now h
-            → IsNextReading h session number message.now reading) }
+            → IsNextReading h session.0 number message.now reading) }
         ensures err { IfErr result (λ e. (h : List Entry) → Stands self.now h
-            → RefusesMessage e h session number message.now) }
+            → RefusesMessage e h session.0 number message.now) }
     {
         let open = self.in_turn(session, number)?;
         Ok(open.session.read(message)?)
@@ -72,21 +77,24 @@ impl Engine {
     /// than the session's, the first that stands; or [`Fault::OutOfMemory`].
     pub(crate) fn read_prepared(
         &self,
-        session: u64,
+        session: SessionId,
         number: u64,
         prepared: &Prepared,
     ) -> Result<Reading, Fault>
         ensures ok { IfOk result (λ reading. (h : List Entry) → Stands self.now h
-            → IsNextReading h session number prepared.now.message reading) }
+            → IsNextReading h session.0 number prepared.now.message reading) }
         ensures domain { IfOk result (λ reading.
             reading.meaning.header.domain ≡ domain_of prepared.now.message) }
         ensures records { IfOk result (λ reading.
             reading.meaning.records ≡ prepared.now.contents.records) }
         ensures err { IfErr result (λ e. (h : List Entry) → Stands self.now h
-            → RefusesPrepared e h session number prepared.now) }
+            → RefusesPrepared e h session.0 number prepared.now) }
     {
         let open = self.in_turn(session, number)?;
-        Ok(prepared.reading_in(&open.session)?)
+        match prepared.reading_in(&open.session)? {
+            Some(reading) => Ok(reading),
+            None => Err(Fault::Stale),
+        }
     }
 
     /// What a message of the session with the number `session` would do as the next entry behind a history of
@@ -98,10 +106,10 @@ impl Engine {
     pub(crate) fn plan(
         &mut self,
         position: u64,
-        session: u64,
+        session: SessionId,
         reading: Reading,
         judgement: Option<Judgement>,
-    ) -> Result<Plan, AllocError>
+    ) -> Result<MessagePlan, AllocError>
         requires few { length reading.meaning.records ≤ 2 ^ 32 }
         requires short { position ≤ MOST_ENTRIES }
         requires judgement { IfSome judgement
@@ -109,13 +117,13 @@ impl Engine {
         // What the message would do, by the definitions.
         ensures ok { IfOk result (λ p. (h : List Entry) (number : ℕ) (octets : List ℕ)
             → Stands self.old h → length h ≡ position
-            → IsNextReading h session number octets reading → IsPlan self.old h number octets p) }
-        ensures session { IfOk result (λ p. p.session ≡ session) }
+            → IsNextReading h session.0 number octets reading → IsPlan self.old h number octets p) }
+        ensures session { IfOk result (λ p. p.session.0 ≡ session.0) }
         // Nothing changes.
         ensures unchanged { self.new ≡ self.old }
     {
         let judged = self.judge(position, &reading, judgement)?;
-        Ok(Plan {
+        Ok(MessagePlan {
             session,
             reading,
             cuts: judged.cuts,
@@ -130,10 +138,10 @@ impl Engine {
     ///
     /// # Errors
     /// [`Fault::UnknownSession`] or [`Fault::OutOfTurn`].
-    fn in_turn(&self, session: u64, number: u64) -> Result<&OpenSession, Fault>
-        ensures ok { IfOk result (λ o. IsInTurn self.now session number o.now) }
+    fn in_turn(&self, session: SessionId, number: u64) -> Result<&OpenSession, Fault>
+        ensures ok { IfOk result (λ o. IsInTurn self.now session.0 number o.now) }
         ensures err { IfErr result (λ e. (h : List Entry) → Stands self.now h
-            → RefusesTurn e h session number) }
+            → RefusesTurn e h session.0 number) }
     {
         let Some(open) = self.sessions.get(session) else {
             return Err(Fault::UnknownSession);

@@ -18,12 +18,12 @@ use event_journal::{Chronicle, Entry, PolicyText};
 use hash_keys::HashKeys;
 use ipfix_session::Reading;
 use mediator_shares::Judgement;
-use mediator_tables::Share;
-use policy_text::{FaultKind, Name, Policy, PolicyFault, is_name};
+use mediator_tables::{SessionId, Share, SubId};
+use policy_text::{Fault as PolicyFault, FaultKind, Name, Policy, is_name};
 use prepared_message::{JudgedAhead, Prepared, Snapshot};
 use std::alloc::{AllocError, Global};
 use std::slice::from_ref;
-use subscriber_stream::PullError;
+use subscriber_stream::StreamLimits;
 
 /// How many records may wait for a subscription where nobody sets a limit: 65,536.
 pub const DEFAULT_QUEUE: u32 = 65_536;
@@ -31,19 +31,8 @@ pub const DEFAULT_QUEUE: u32 = 65_536;
 /// How many entries may wait in the audit where nobody sets a limit: 131,072.
 pub const DEFAULT_AUDIT: u32 = 131_072;
 
-/// How much a mediator may hold beside its history.
-#[derive(Clone, Copy, Debug, PartialEq, Eq)]
-pub struct Limits {
-    /// The most records that may wait for a subscription, 1 to 1,000,000.
-    pub queue: u32,
-    /// The most distinct templates of a subscription's records, 1 to 65,280.
-    pub shapes: u32,
-    /// The most audit entries that may wait, 1 to 10,000,000.
-    pub audit: u32,
-}
-
-/// A mediator's state: what keeps its history, and what it keeps beside that. Contracts say by `StandsFor` for which
-/// histories it stands. A call that is refused changes none of it.
+/// A mediator's state: what keeps its history, and what it keeps beside that. Contracts say by `StateStandsFor`
+/// for which histories it stands. A call that is refused changes none of it.
 #[derive(Drop)]
 pub struct State<C> {
     pub(crate) chronicle: C,
@@ -51,30 +40,31 @@ pub struct State<C> {
 }
 
 impl<C: Chronicle + Drop> State<C> {
-    ghost use Rattle.mediator_state.specs.Calls.{StandsFor, StandsForSome, ForEachHistory, Proceeds, StaysSame, AreLimits, LacksRoom, Opens, RefusesOpen, Closes, RefusesClose};
+    ghost use Rattle.mediator_state.specs.Calls.{StateStandsFor, StandsForSome, ForEachHistory, Proceeds, StaysSame, AreStateLimits, LacksRoom, OpensAfter, RefusesOpenAfter, ClosesAfter, RefusesClose};
 
-    /// A state before any entry: no session is open, nobody is subscribed, and the policy has no rules. It holds no
-    /// more than `limits` allow, each in its range, and its history is kept by `chronicle`, which has no entry. All of
+    /// A state before any entry: no session is open, nobody is subscribed, and the policy has no rules. The stream of
+    /// each subscription may hold what `streams` say, at most 1,000,000 records and 65,280 templates, and at most
+    /// `audit` audit entries may wait, 1 to 10,000,000. The history is kept by `chronicle`, which has no entry. All of
     /// it is in memory from `alloc`.
     ///
     /// # Errors
     /// Want of memory.
-    pub fn new(alloc: Global, limits: Limits, chronicle: C) -> Result<State<C>, AllocError>
-        requires range { AreLimits limits }
+    pub fn new(
+        alloc: Global,
+        streams: StreamLimits,
+        audit: u32,
+        chronicle: C,
+    ) -> Result<State<C>, AllocError>
+        requires range { AreStateLimits streams audit }
         // It stands for the history without an entry, which the chronicle keeps.
-        ensures stands { IfOk result (λ s. C.tells chronicle [] → StandsFor C.tells s []) }
+        ensures stands { IfOk result (λ s. C.tells chronicle [] → StateStandsFor C.tells s []) }
         ensures kept { IfOk result (λ s. s.chronicle ≡ chronicle) }
         // It holds what the limits say, and nothing was drained.
-        ensures limits { IfOk result (λ s.
-            s.engine.limits ≡ record { queue = limits.queue; shapes = limits.shapes }) }
-        ensures audit_limit { IfOk result (λ s. s.engine.audit.limit ≡ limits.audit) }
+        ensures limits { IfOk result (λ s. s.engine.limits ≡ streams) }
+        ensures audit_limit { IfOk result (λ s. s.engine.audit.limit ≡ audit) }
         ensures drained { IfOk result (λ s. s.engine.audit.standing.drained ≡ 0) }
     {
-        let streams = subscriber_stream::Limits {
-            queue: limits.queue,
-            shapes: limits.shapes,
-        };
-        let engine = Engine::new(alloc, streams, limits.audit)?;
+        let engine = Engine::new(alloc, streams, audit)?;
         Ok(State { chronicle, engine })
     }
 
@@ -124,7 +114,7 @@ impl<C: Chronicle + Drop> State<C> {
         if !self.chronicle.room(from_ref(entry)) {
             return Err(Fault::JournalFull);
         }
-        let _length = self.chronicle.len();
+        let _for_proof = self.chronicle.len();
         self.chronicle.reserve(1)?;
         Ok(())
     }
@@ -133,17 +123,18 @@ impl<C: Chronicle + Drop> State<C> {
     ///
     /// # Errors
     /// [`Fault::JournalFull`] or [`Fault::OutOfMemory`]. Nothing has changed then.
-    pub fn open(&mut self) -> Result<u64, Fault>
+    pub fn open(&mut self) -> Result<SessionId, Fault>
         requires stands { StandsForSome C.tells self.old }
         // The entry of the call stands as the next one, and nothing is handed out.
-        ensures ok { IfOk result (λ n. Proceeds C.tells C.limits self.old self.new (Opens n)) }
+        ensures ok { IfOk result (λ session. Proceeds C.tells C.limits self.old self.new
+            (OpensAfter session.0)) }
         // A refused call changes nothing, and names the first cause.
         ensures unchanged { OnErr result (StaysSame C.tells C.limits self.old self.new) }
         ensures err { IfErr result (λ e. ForEachHistory C.tells self.old
-            (RefusesOpen e (C.limits self.old.chronicle))) }
+            (RefusesOpenAfter e (C.limits self.old.chronicle))) }
     {
         let session = self.engine.next_session(self.chronicle.len());
-        let entry = Entry::Open { session };
+        let entry = Entry::Open { session: session.0 };
         self.make_room(&entry)?;
         self.engine.open(session)?;
         self.chronicle.push_reserved(entry);
@@ -155,19 +146,20 @@ impl<C: Chronicle + Drop> State<C> {
     /// # Errors
     /// [`Fault::UnknownSession`] where it isn't open, [`Fault::JournalFull`] or [`Fault::OutOfMemory`]: the first that
     /// stands. Nothing has changed then.
-    pub fn close(&mut self, session: u64) -> Result<(), Fault>
+    pub fn close(&mut self, session: SessionId) -> Result<(), Fault>
         requires stands { StandsForSome C.tells self.old }
         // The entry of the call stands as the next one, and nothing is handed out.
-        ensures ok { OnOk result (Proceeds C.tells C.limits self.old self.new (Closes session)) }
+        ensures ok { OnOk result (Proceeds C.tells C.limits self.old self.new
+            (ClosesAfter session.0)) }
         // A refused call changes nothing, and names the first cause.
         ensures unchanged { OnErr result (StaysSame C.tells C.limits self.old self.new) }
         ensures err { IfErr result (λ e. ForEachHistory C.tells self.old
-            (λ h. RefusesClose e (C.limits self.old.chronicle) h session)) }
+            (λ h. RefusesClose e (C.limits self.old.chronicle) h session.0)) }
     {
         if !self.engine.is_open(session) {
             return Err(Fault::UnknownSession);
         }
-        let entry = Entry::Close { session };
+        let entry = Entry::Close { session: session.0 };
         self.make_room(&entry)?;
         self.engine.close(session);
         self.chronicle.push_reserved(entry);
@@ -176,7 +168,7 @@ impl<C: Chronicle + Drop> State<C> {
 }
 
 impl<C: Chronicle + Drop> State<C> {
-    ghost use Rattle.mediator_state.specs.Calls.{StandsForSome, ForEachHistory, GoesOnBy, Proceeds, StaysSame, Receives, RefusesReceive, RefusesReceivePrepared, IsSnapshot, RefusesSnapshot, Edits, RefusesEdit, Subscribes, RefusesSubscribe, Unsubscribes, RefusesUnsubscribe, Advances, RefusesAdvance};
+    ghost use Rattle.mediator_state.specs.Calls.{StandsForSome, ForEachHistory, GoesOnBy, Proceeds, StaysSame, ReceivesAfter, RefusesReceiveAfter, RefusesReceivePreparedAfter, IsSnapshot, RefusesSnapshot, EditsAfter, RefusesEdit, SubscribesAfter, RefusesSubscribe, UnsubscribesAfter, RefusesUnsubscribe, AdvancesAfter, RefusesAdvanceAfter};
     ghost use Rattle.mediator_state.specs.Seen.{place_of};
     ghost use Rattle.mediator_state.specs.Planning.{IsNextReading};
 
@@ -188,16 +180,21 @@ impl<C: Chronicle + Drop> State<C> {
     /// # Errors
     /// [`Fault::UnknownSession`], [`Fault::OutOfTurn`], [`Fault::Malformed`], [`Fault::JournalFull`] or
     /// [`Fault::AuditFull`]: the first that stands; or [`Fault::OutOfMemory`]. Nothing has changed then.
-    pub fn receive(&mut self, session: u64, number: u64, message: Bytes) -> Result<Receipt, Fault>
+    pub fn receive(
+        &mut self,
+        session: SessionId,
+        number: u64,
+        message: Bytes,
+    ) -> Result<Receipt, Fault>
         requires stands { StandsForSome C.tells self.old }
         // The message stands as the next entry, behind the cuts that it makes, and nothing is handed out.
         ensures ok { IfOk result (λ r. Proceeds C.tells C.limits self.old self.new
-            (Receives self.old.engine session number message r)) }
+            (ReceivesAfter self.old.engine session.0 number message r)) }
         // A refused call changes nothing, and names the first cause.
         ensures unchanged { OnErr result (StaysSame C.tells C.limits self.old self.new) }
         ensures err { IfErr result (λ e. ForEachHistory C.tells self.old
-            (λ h. RefusesReceive e (C.limits self.old.chronicle) self.old.engine h
-            session number message)) }
+            (λ h. RefusesReceiveAfter e (C.limits self.old.chronicle) self.old.engine h
+            session.0 number message)) }
     {
         self.receive_judged(session, number, message, None)
     }
@@ -210,7 +207,7 @@ impl<C: Chronicle + Drop> State<C> {
     /// Those of [`receive`](State::receive).
     pub fn receive_judged(
         &mut self,
-        session: u64,
+        session: SessionId,
         number: u64,
         message: Bytes,
         ahead: Option<JudgedAhead>,
@@ -218,12 +215,12 @@ impl<C: Chronicle + Drop> State<C> {
         requires stands { StandsForSome C.tells self.old }
         // The message stands as the next entry, behind the cuts that it makes, and nothing is handed out.
         ensures ok { IfOk result (λ r. Proceeds C.tells C.limits self.old self.new
-            (Receives self.old.engine session number message r)) }
+            (ReceivesAfter self.old.engine session.0 number message r)) }
         // A refused call changes nothing, and names the first cause.
         ensures unchanged { OnErr result (StaysSame C.tells C.limits self.old self.new) }
         ensures err { IfErr result (λ e. ForEachHistory C.tells self.old
-            (λ h. RefusesReceive e (C.limits self.old.chronicle) self.old.engine h
-            session number message)) }
+            (λ h. RefusesReceiveAfter e (C.limits self.old.chronicle) self.old.engine h
+            session.0 number message)) }
     {
         let reading = self.engine.read(session, number, &message)?;
         let judgement = judgement_of(ahead, &reading);
@@ -236,14 +233,14 @@ impl<C: Chronicle + Drop> State<C> {
     ///
     /// # Errors
     /// [`Fault::UnknownSession`] where the session isn't open; or [`Fault::OutOfMemory`].
-    pub fn snapshot(&mut self, session: u64) -> Result<Snapshot, Fault>
+    pub fn snapshot(&mut self, session: SessionId) -> Result<Snapshot, Fault>
         ensures ok { IfOk result (λ snapshot. ForEachHistory C.tells self.old
-            (λ h. IsSnapshot h session snapshot)) }
+            (λ h. IsSnapshot h session.0 snapshot)) }
         // Nothing changes.
         ensures unchanged { StaysSame C.tells C.limits self.old self.new }
         // A refusal names the first cause.
         ensures err { IfErr result (λ e. ForEachHistory C.tells self.old
-            (λ h. RefusesSnapshot e h session)) }
+            (λ h. RefusesSnapshot e h session.0)) }
     {
         self.engine.snapshot(session)
     }
@@ -258,19 +255,19 @@ impl<C: Chronicle + Drop> State<C> {
     /// one. The message is handed back beside the fault, and nothing has changed.
     pub fn receive_prepared(
         &mut self,
-        session: u64,
+        session: SessionId,
         number: u64,
         mut prepared: Prepared,
     ) -> Result<Receipt, (Fault, Prepared)>
         requires stands { StandsForSome C.tells self.old }
         // The message stands as the next entry, behind the cuts that it makes, and nothing is handed out.
         ensures ok { IfOk result (λ r. Proceeds C.tells C.limits self.old self.new
-            (Receives self.old.engine session number prepared.message r)) }
+            (ReceivesAfter self.old.engine session.0 number prepared.message r)) }
         // A refused call changes nothing, and names the first cause.
         ensures unchanged { OnErr result (StaysSame C.tells C.limits self.old self.new) }
         ensures err { IfErr result (λ e. ForEachHistory C.tells self.old
-            (λ h. RefusesReceivePrepared e.0 (C.limits self.old.chronicle) self.old.engine h
-            session number prepared)) }
+            (λ h. RefusesReceivePreparedAfter e.0 (C.limits self.old.chronicle) self.old.engine h
+            session.0 number prepared)) }
         // The message is handed back, to be prepared anew or offered again.
         ensures handed_back { IfErr result (λ e. e.1 ≡ prepared) }
     {
@@ -288,19 +285,19 @@ impl<C: Chronicle + Drop> State<C> {
     /// Those of [`receive_prepared`](State::receive_prepared), without the message.
     fn take_prepared(
         &mut self,
-        session: u64,
+        session: SessionId,
         number: u64,
         prepared: &mut Prepared,
     ) -> Result<Receipt, Fault>
         requires stands { StandsForSome C.tells self.old }
         // The message stands as the next entry, behind the cuts that it makes, and nothing is handed out.
         ensures ok { IfOk result (λ r. Proceeds C.tells C.limits self.old self.new
-            (Receives self.old.engine session number prepared.old.message r)) }
+            (ReceivesAfter self.old.engine session.0 number prepared.old.message r)) }
         // A refused call changes nothing, and names the first cause.
         ensures unchanged { OnErr result (StaysSame C.tells C.limits self.old self.new) }
         ensures err { IfErr result (λ e. ForEachHistory C.tells self.old
-            (λ h. RefusesReceivePrepared e (C.limits self.old.chronicle) self.old.engine h
-            session number prepared.old)) }
+            (λ h. RefusesReceivePreparedAfter e (C.limits self.old.chronicle) self.old.engine h
+            session.0 number prepared.old)) }
         // What was read of the message stays.
         ensures lent { prepared.new ≡ prepared.old }
     {
@@ -318,7 +315,7 @@ impl<C: Chronicle + Drop> State<C> {
     /// [`Fault::JournalFull`], [`Fault::AuditFull`] or [`Fault::OutOfMemory`]. Nothing has changed then.
     fn take_in(
         &mut self,
-        session: u64,
+        session: SessionId,
         number: u64,
         message: Bytes,
         reading: Reading,
@@ -328,21 +325,21 @@ impl<C: Chronicle + Drop> State<C> {
         requires judgement { IfSome judgement
             (IsJudgementOf reading.meaning.header.domain reading.meaning.records) }
         requires read { ForEachHistory C.tells self.old
-            (λ h. IsNextReading h session number message reading) }
+            (λ h. IsNextReading h session.0 number message reading) }
         // The message stands as the next entry, behind the cuts that it makes, and nothing is handed out.
         ensures ok { IfOk result (λ r. Proceeds C.tells C.limits self.old self.new
-            (Receives self.old.engine session number message r)) }
+            (ReceivesAfter self.old.engine session.0 number message r)) }
         // A refused call changes nothing, and names the first cause.
         ensures unchanged { OnErr result (StaysSame C.tells C.limits self.old self.new) }
         ensures err { IfErr result (λ e. ForEachHistory C.tells self.old
-            (λ h. RefusesReceive e (C.limits self.old.chronicle) self.old.engine h
-            session number message)) }
+            (λ h. RefusesReceiveAfter e (C.limits self.old.chronicle) self.old.engine h
+            session.0 number message)) }
     {
         see_octets(&message);
         let position = self.chronicle.len();
         let plan = self.engine.plan(position, session, reading, judgement)?;
         let message = Entry::Message {
-            session,
+            session: session.0,
             number,
             octets: message,
         };
@@ -365,7 +362,8 @@ impl<C: Chronicle + Drop> State<C> {
     pub fn edit(&mut self, text: &str) -> Result<u64, Fault>
         requires stands { StandsForSome C.tells self.old }
         // The entry of the call stands as the next one, and nothing is handed out.
-        ensures ok { IfOk result (λ n. Proceeds C.tells C.limits self.old self.new (Edits text.now n)) }
+        ensures ok { IfOk result (λ n. Proceeds C.tells C.limits self.old self.new
+            (EditsAfter text.now n)) }
         // A refused call changes nothing, and names the first cause.
         ensures unchanged { OnErr result (StaysSame C.tells C.limits self.old self.new) }
         ensures err { IfErr result (λ e. ForEachHistory C.tells self.old
@@ -387,11 +385,11 @@ impl<C: Chronicle + Drop> State<C> {
     /// # Errors
     /// [`Fault::BadName`] where the text is no name, [`Fault::AlreadySubscribed`] where a live subscription has it,
     /// [`Fault::JournalFull`] or [`Fault::OutOfMemory`]. Nothing has changed then.
-    pub fn subscribe(&mut self, name: &str) -> Result<u64, Fault>
+    pub fn subscribe(&mut self, name: &str) -> Result<SubId, Fault>
         requires stands { StandsForSome C.tells self.old }
         // The entry of the call stands as the next one, and nothing is handed out.
-        ensures ok { IfOk result (λ n. Proceeds C.tells C.limits self.old self.new
-            (Subscribes name.now n)) }
+        ensures ok { IfOk result (λ sub. Proceeds C.tells C.limits self.old self.new
+            (SubscribesAfter name.now sub.0)) }
         // A refused call changes nothing, and names the first cause.
         ensures unchanged { OnErr result (StaysSame C.tells C.limits self.old self.new) }
         ensures err { IfErr result (λ e. ForEachHistory C.tells self.old
@@ -401,11 +399,14 @@ impl<C: Chronicle + Drop> State<C> {
             return Err(Fault::BadName);
         }
         if let Some(sub) = self.engine.named(name) {
-            return Err(Fault::AlreadySubscribed { sub });
+            return Err(Fault::AlreadySubscribed { sub: sub.0 });
         }
         let sub = self.engine.next_subscription(self.chronicle.len());
         let copy = Name::new(self.engine.alloc, name.as_bytes())?;
-        let entry = Entry::Subscribe { sub, name: copy };
+        let entry = Entry::Subscribe {
+            sub: sub.0,
+            name: copy,
+        };
         self.make_room(&entry)?;
         self.engine.subscribe(sub, name)?;
         self.chronicle.push_reserved(entry);
@@ -418,14 +419,15 @@ impl<C: Chronicle + Drop> State<C> {
     /// # Errors
     /// [`Fault::UnknownSub`] where it isn't live, [`Fault::JournalFull`] or [`Fault::OutOfMemory`]. Nothing has changed
     /// then.
-    pub fn unsubscribe(&mut self, sub: u64) -> Result<(), Fault>
+    pub fn unsubscribe(&mut self, sub: SubId) -> Result<(), Fault>
         requires stands { StandsForSome C.tells self.old }
         // The limits stay.
         ensures limits { self.new.engine.limits ≡ self.old.engine.limits }
         ensures audit_limit { self.new.engine.audit.limit ≡ self.old.engine.audit.limit }
         // The end stands as the next entry. Other subscriptions keep their places, and nothing is drained.
-        ensures ok { OnOk result (GoesOnBy C.tells C.limits self.old self.new (Unsubscribes sub)) }
-        ensures others { (q : ℕ) → q ≢ sub
+        ensures ok { OnOk result (GoesOnBy C.tells C.limits self.old self.new
+            (UnsubscribesAfter sub.0)) }
+        ensures others { (q : ℕ) → q ≢ sub.0
             → place_of self.new.engine q ≡ place_of self.old.engine q }
         ensures drained { self.new.engine.audit.standing.drained
             ≡ self.old.engine.audit.standing.drained }
@@ -433,12 +435,12 @@ impl<C: Chronicle + Drop> State<C> {
         // A refused call changes nothing, and names the first cause.
         ensures unchanged { OnErr result (StaysSame C.tells C.limits self.old self.new) }
         ensures err { IfErr result (λ e. ForEachHistory C.tells self.old
-            (λ h. RefusesUnsubscribe e (C.limits self.old.chronicle) h sub)) }
+            (λ h. RefusesUnsubscribe e (C.limits self.old.chronicle) h sub.0)) }
     {
         if !self.engine.is_live(sub) {
             return Err(Fault::UnknownSub);
         }
-        let entry = Entry::Unsubscribe { sub };
+        let entry = Entry::Unsubscribe { sub: sub.0 };
         self.make_room(&entry)?;
         self.engine.unsubscribe(sub);
         self.chronicle.push_reserved(entry);
@@ -456,11 +458,11 @@ impl<C: Chronicle + Drop> State<C> {
         requires stands { StandsForSome C.tells self.old }
         // The advance stands as the next entry, behind the cuts that it makes, and nothing is handed out.
         ensures ok { OnOk result (Proceeds C.tells C.limits self.old self.new
-            (Advances self.old.engine t)) }
+            (AdvancesAfter self.old.engine t)) }
         // A refused call changes nothing, and names the first cause.
         ensures unchanged { OnErr result (StaysSame C.tells C.limits self.old self.new) }
         ensures err { IfErr result (λ e. ForEachHistory C.tells self.old
-            (λ h. RefusesAdvance e (C.limits self.old.chronicle) self.old.engine h t)) }
+            (λ h. RefusesAdvanceAfter e (C.limits self.old.chronicle) self.old.engine h t)) }
     {
         let last = self.engine.in_force.clock();
         if t < last {
@@ -497,9 +499,9 @@ impl<C: Chronicle + Drop> State<C> {
 }
 
 impl<C: Chronicle + Drop> State<C> {
-    ghost use Rattle.mediator_state.specs.Calls.{StandsFor, ForEachHistory, KeepsHistories, StaysSame, Pulls, RefusesPull, IsStatus};
+    ghost use Rattle.mediator_state.specs.Calls.{StateStandsFor, ForEachHistory, KeepsHistories, StaysSame, PullsAfter, RefusesPull, IsStatus};
     ghost use Rattle.mediator_state.specs.Seen.{place_of};
-    ghost use Rattle.disclosure_audit.specs.Queue.{Drains};
+    ghost use Rattle.disclosure_audit.specs.Queue.{DrainsOldest};
 
     /// Builds the next message of the live subscription with the number `sub`, out of what waits for it; or answers
     /// `None` where nothing waits. `now` is its Export Time, in seconds since 1970 (RFC 7011, section 3.1), and
@@ -507,14 +509,14 @@ impl<C: Chronicle + Drop> State<C> {
     ///
     /// # Errors
     /// [`Fault::UnknownSub`] where the subscription isn't live; or [`Fault::OutOfMemory`]. Nothing has changed then.
-    pub fn pull(&mut self, sub: u64, now: u32, target: u16) -> Result<Option<Bytes>, Fault>
+    pub fn pull(&mut self, sub: SubId, now: u32, target: u16) -> Result<Option<Bytes>, Fault>
         // The limits stay.
         ensures limits { self.new.engine.limits ≡ self.old.engine.limits }
         ensures audit_limit { self.new.engine.audit.limit ≡ self.old.engine.audit.limit }
         // The message is that at the place of the subscription, which moves past it. No other place moves.
         ensures ok { IfOk result (λ m. ForEachHistory C.tells self.old
-            (Pulls self.old.engine self.new.engine sub now target m)) }
-        ensures others { (q : ℕ) → q ≢ sub
+            (PullsAfter self.old.engine self.new.engine sub.0 now target m)) }
+        ensures others { (q : ℕ) → q ≢ sub.0
             → place_of self.new.engine q ≡ place_of self.old.engine q }
         ensures drained { self.new.engine.audit.standing.drained
             ≡ self.old.engine.audit.standing.drained }
@@ -524,23 +526,24 @@ impl<C: Chronicle + Drop> State<C> {
         // A refused call changes nothing, and names the first cause.
         ensures unchanged { OnErr result (StaysSame C.tells C.limits self.old self.new) }
         ensures err { IfErr result (λ e. ForEachHistory C.tells self.old
-            (λ h. RefusesPull e h sub)) }
+            (λ h. RefusesPull e h sub.0)) }
     {
         if !self.engine.is_live(sub) {
             return Err(Fault::UnknownSub);
         }
         match self.engine.subscriptions.pull(sub, now, target) {
             Ok(message) => Ok(message),
-            Err(PullError::OutOfMemory) => Err(Fault::OutOfMemory),
+            Err(AllocError) => Err(Fault::OutOfMemory),
         }
     }
 
     /// How the live subscription with the number `sub` stands, or `None` where none with this number is live. It takes
     /// no memory.
-    pub fn status(&self, sub: u64) -> Option<Status>
+    pub fn status(&self, sub: SubId) -> Option<Status>
         ensures some { IfSome result (λ s. ForEachHistory C.tells self.now
-            (λ h. IsStatus h sub (place_of self.now.engine sub) s)) }
-        ensures none { IfNone result (ForEachHistory C.tells self.now (λ h. is_live sub h ≡ false)) }
+            (λ h. IsStatus h sub.0 (place_of self.now.engine sub.0) s)) }
+        ensures none { IfNone result (ForEachHistory C.tells self.now
+            (λ h. is_live sub.0 h ≡ false)) }
     {
         let kept = self.engine.subscriptions.get(sub)?;
         Some(Status {
@@ -596,7 +599,7 @@ impl<C: Chronicle + Drop> State<C> {
         // The oldest entries are handed out, and count as drained. No place moves.
         ensures ok { IfOk result (λ out. ForEachHistory C.tells self.old (λ h.
             (out.items ≡ take most (drop self.old.engine.audit.standing.drained (audit_list h)))
-            × StandsFor C.tells self.new h)) }
+            × StateStandsFor C.tells self.new h)) }
         ensures places { (q : ℕ) → place_of self.new.engine q ≡ place_of self.old.engine q }
         ensures drained { IfOk result (λ out. self.new.engine.audit.standing.drained
             ≡ self.old.engine.audit.standing.drained + length out.items) }

@@ -1,26 +1,40 @@
 -- The table after what is held of one subscription, or of each, was written.
-use Rattle.std.proofs.Common.{◌≡◌, ◌≢◌, ◌≤◌, ◌+◌, ◌<◌, ℕ, zero, suc, Bool, true, false, cond, eqb, ltb, List, [], ◌∷◌, ◌++◌, map, length, get_or, position, slice_get, Result, Ok, Err, IfOk, Option, Some, None, refl, sym, ap, ◌∙◌, subst, append-nil, is_some, true≢false, arith, length-append}
+use Rattle.std.proofs.Common.{◌≡◌, ◌≢◌, ◌≤◌, ◌+◌, ◌<◌, ℕ, zero, suc, Bool, true, false, cond, eqb, ltb, List, [], ◌∷◌, ◌++◌, map, length, get_or, position, slice_get, Result, Ok, Err, IfOk, Option, Some, None, refl, sym, ap, ◌∙◌, subst, append_assoc, append-nil, is_some, true≢false, arith, length-append}
 use Rattle.std.specs.Prelude.{unwrap_or, nat_lt}
 use Rattle.std.specs.List.{AllByRecursion, IsDistinct}
 use Rattle.std.specs.Map.{lookup, keys_of, values_of, set_value}
 use Rattle.std.specs.Map.Calls.{RetainsPairs}
 use Rattle.std.proofs.lemmas.Bool.{eqb-true, eqb-false, eq-eqb, ne_eqb, ltb-false}
+use Rattle.std.proofs.lemmas.List.{map_push}
 use Rattle.std.proofs.lemmas.List.Quantifiers.{position-Some}
 use Rattle.std.proofs.lemmas.Option.{slice_get-get_or}
 use Rattle.indexmap.specs.IndexMap.{set_value_at}
 use Rattle.ipfix_template.specs.DataRecord.{DataRecord}
 use Rattle.flow_aggregate.specs.declared.addition.Addition.{Addition}
 use Rattle.flow_aggregate.specs.declared.sums.Sums.{Sums}
-use Rattle.flow_aggregate.specs.Groups.{Group, Counted, group_of}
+use Rattle.flow_aggregate.specs.Groups.{Group, Sample, group_of}
 use Rattle.flow_aggregate.specs.GroupOrder.{same_group, same_group-itself}
-use Rattle.flow_aggregate.specs.Running.{Entries, Held, nothing_held, places, StandsFor, sums_over, of_group}
+use Rattle.flow_aggregate.specs.Running.{Entries, HeldGroups, nothing_held, places, SumsStand, sums_over, of_group}
 use Rattle.flow_aggregate.specs.Counts.{count_of}
-use Rattle.flow_aggregate.specs.Additions.{AreReady}
+use Rattle.flow_aggregate.specs.Additions.{AreReadyToAdd}
 use Rattle.flow_aggregate.specs.Closing.{closed_by}
-use Rattle.mediator_tables.specs.GroupTable.{held_at, groups_at, StandsAt, is_kept}
+use Rattle.mediator_tables.specs.declared.ids.SubId.{SubId}
+use Rattle.mediator_tables.specs.GroupTable.{held_at, groups_at, IsHeldAt, is_kept}
 
 abbrev pub Table : Type 0
-Table = List (ℕ × Held)
+Table = List (ℕ × HeldGroups)
+
+-- ---- the numbers, one after another
+
+-- one more of the numbers, and one less that is left
+pub numbers_more : (subs subs2 : List SubId) (left left2 ks : List ℕ) (n : ℕ) (s : SubId) → subs2 ≡ subs ++ s ∷ [] → left ≡ n ∷ left2 → s.0 ≡ n → map (λ s. s.0) subs ++ left ≡ ks → map (λ s. s.0) subs2 ++ left2 ≡ ks
+numbers_more subs subs2 left left2 ks n s pushed next is so =
+    ap (λ (l : List SubId). map (λ s. s.0) l ++ left2) pushed
+    ∙ ap (λ (l : List ℕ). l ++ left2) (map_push (λ (s : SubId). s.0) subs s)
+    ∙ append_assoc (map (λ s. s.0) subs) (s.0 ∷ []) left2
+    ∙ ap (λ (k : ℕ). map (λ s. s.0) subs ++ k ∷ left2) is
+    ∙ ap (λ (l : List ℕ). map (λ s. s.0) subs ++ l) (sym next)
+    ∙ so
 
 -- ---- of the subscription at a place
 
@@ -32,16 +46,16 @@ all_at P [] i k all at = absurd cc
 all_at P (h ∷ ks) zero k all at = subst P (one_of h k at) all.0
 all_at P (h ∷ ks) (suc i) k all at = all_at P ks i k all.1 at
 
-pub keys_written : (es : Table) (i : ℕ) (w : Held) → keys_of (set_value_at es i w) ≡ keys_of es
+pub keys_written : (es : Table) (i : ℕ) (w : HeldGroups) → keys_of (set_value_at es i w) ≡ keys_of es
 keys_written [] i w = refl
 keys_written (e ∷ es) zero w = refl
 keys_written (e ∷ es) (suc i) w = ap (λ (ks : List ℕ). e.0 ∷ ks) (keys_written es i w)
 
-pub once_written : (es : Table) (i : ℕ) (w : Held) → IsDistinct eqb (keys_of es) → IsDistinct eqb (keys_of (set_value_at es i w))
+pub once_written : (es : Table) (i : ℕ) (w : HeldGroups) → IsDistinct eqb (keys_of es) → IsDistinct eqb (keys_of (set_value_at es i w))
 once_written es i w once = subst (IsDistinct eqb) (sym (keys_written es i w)) once
 
 -- what is written there is found there, and nothing else changes
-look_written : (es : Table) (i sub q : ℕ) (w : Held) → IsDistinct eqb (keys_of es) → StandsAt es i sub
+look_written : (es : Table) (i sub q : ℕ) (w : HeldGroups) → IsDistinct eqb (keys_of es) → IsHeldAt es i sub
     → lookup (eqb q) (set_value_at es i w) ≡ cond (eqb q sub) (Some w) (lookup (eqb q) es)
 unfolding IsDistinct
 look_written [] i sub q w distinct at = absurd cc
@@ -57,26 +71,26 @@ look_written (e ∷ es) (suc i) sub q w distinct at = by (eqb q e.0) refl (look_
       rw other refl
   by false is rest = rest
 
-pub held_written : (es fs : Table) (i sub q : ℕ) (w : Held) → IsDistinct eqb (keys_of es) → StandsAt es i sub → fs ≡ set_value_at es i w → held_at fs q ≡ cond (eqb q sub) w (held_at es q)
+pub held_written : (es fs : Table) (i sub q : ℕ) (w : HeldGroups) → IsDistinct eqb (keys_of es) → IsHeldAt es i sub → fs ≡ set_value_at es i w → held_at fs q ≡ cond (eqb q sub) w (held_at es q)
 held_written es fs i sub q w distinct at is =
-    ap (λ (gs : Table). held_at gs q) is ∙ ap (λ (o : Option Held). unwrap_or o nothing_held) (look_written es i sub q w distinct at) ∙ by (eqb q sub) where
+    ap (λ (gs : Table). held_at gs q) is ∙ ap (λ (o : Option HeldGroups). unwrap_or o nothing_held) (look_written es i sub q w distinct at) ∙ by (eqb q sub) where
       by : (b : Bool) → unwrap_or (cond b (Some w) (lookup (eqb q) es)) nothing_held ≡ cond b w (held_at es q)
       by true = refl
       by false = refl
 
-pub here_written : (es fs : Table) (i sub : ℕ) (w : Held) → IsDistinct eqb (keys_of es) → StandsAt es i sub → fs ≡ set_value_at es i w → held_at fs sub ≡ w
+pub here_written : (es fs : Table) (i sub : ℕ) (w : HeldGroups) → IsDistinct eqb (keys_of es) → IsHeldAt es i sub → fs ≡ set_value_at es i w → held_at fs sub ≡ w
 here_written es fs i sub w distinct at is = held_written es fs i sub sub w distinct at is ∙ ap (λ b. cond b w (held_at es sub)) (eq-eqb sub sub refl)
 
-pub others_written : (es fs : Table) (i sub q : ℕ) (w : Held) → IsDistinct eqb (keys_of es) → StandsAt es i sub → fs ≡ set_value_at es i w → q ≢ sub → held_at fs q ≡ held_at es q
+pub others_written : (es fs : Table) (i sub q : ℕ) (w : HeldGroups) → IsDistinct eqb (keys_of es) → IsHeldAt es i sub → fs ≡ set_value_at es i w → q ≢ sub → held_at fs q ≡ held_at es q
 others_written es fs i sub q w distinct at is other = held_written es fs i sub q w distinct at is ∙ ap (λ b. cond b w (held_at es q)) (ne_eqb q sub other)
 
 -- what is held of the subscription at a place
-pub held_there : (es : Table) (i sub : ℕ) (v : Held) → IsDistinct eqb (keys_of es) → StandsAt es i sub → Some v ≡ slice_get (values_of es) i → held_at es sub ≡ v
+pub held_there : (es : Table) (i sub : ℕ) (v : HeldGroups) → IsDistinct eqb (keys_of es) → IsHeldAt es i sub → Some v ≡ slice_get (values_of es) i → held_at es sub ≡ v
 unfolding IsDistinct
 held_there [] i sub v distinct at there = absurd cc
 held_there (e ∷ es) zero sub v distinct at there =
     ap (λ b. unwrap_or (cond b (Some e.1) (lookup (eqb sub) es)) nothing_held) (ap (eqb sub) (one_of e.0 sub at) ∙ eq-eqb sub sub refl) ∙ held_of v e.1 there where
-      held_of : (a b : Held) → Some a ≡ Some b → b ≡ a
+      held_of : (a b : HeldGroups) → Some a ≡ Some b → b ≡ a
       held_of a b is = cc
 held_there (e ∷ es) (suc i) sub v distinct at there =
     ap (λ b. unwrap_or (cond b (Some e.1) (lookup (eqb sub) es)) nothing_held)
@@ -84,7 +98,7 @@ held_there (e ∷ es) (suc i) sub v distinct at there =
     ∙ held_there es i sub v distinct.1 at there
 
 -- where nothing stands at a place, no subscription does
-pub nowhere : (es : Table) (i sub : ℕ) → None ≡ slice_get (values_of es) i → StandsAt es i sub → ⊥
+pub nowhere : (es : Table) (i sub : ℕ) → None ≡ slice_get (values_of es) i → IsHeldAt es i sub → ⊥
 nowhere [] i sub none at = absurd cc
 nowhere (e ∷ es) zero sub none at = absurd cc
 nowhere (e ∷ es) (suc i) sub none at = nowhere es i sub none at
@@ -96,14 +110,14 @@ held_none (e ∷ es) q apart = ap (λ c. unwrap_or (cond c (Some e.1) (lookup (e
 
 -- ---- what is held where a number was looked up
 
-pub held_found : (table es : Table) (sub : ℕ) (here : Held) → es ≡ table → Some here ≡ lookup (eqb sub) es → held_at table sub ≡ here
-held_found table es sub here same there = ap (λ (gs : Table). held_at gs sub) (sym same) ∙ ap (λ (o : Option Held). unwrap_or o nothing_held) (sym there)
+pub held_found : (table es : Table) (sub : ℕ) (here : HeldGroups) → es ≡ table → Some here ≡ lookup (eqb sub) es → held_at table sub ≡ here
+held_found table es sub here same there = ap (λ (gs : Table). held_at gs sub) (sym same) ∙ ap (λ (o : Option HeldGroups). unwrap_or o nothing_held) (sym there)
 
 pub held_nowhere : (table es : Table) (sub : ℕ) → es ≡ table → None ≡ lookup (eqb sub) es → held_at table sub ≡ nothing_held
-held_nowhere table es sub same none = ap (λ (gs : Table). held_at gs sub) (sym same) ∙ ap (λ (o : Option Held). unwrap_or o nothing_held) (sym none)
+held_nowhere table es sub same none = ap (λ (gs : Table). held_at gs sub) (sym same) ∙ ap (λ (o : Option HeldGroups). unwrap_or o nothing_held) (sym none)
 
 -- what is written where a number was found changes no other
-set_elsewhere : (es : Table) (sub q : ℕ) (w : Held) → q ≢ sub → lookup (eqb q) (set_value (eqb sub) es w) ≡ lookup (eqb q) es
+set_elsewhere : (es : Table) (sub q : ℕ) (w : HeldGroups) → q ≢ sub → lookup (eqb q) (set_value (eqb sub) es w) ≡ lookup (eqb q) es
 set_elsewhere [] sub q w other = refl
 set_elsewhere (e ∷ es) sub q w other = by (eqb sub e.0) refl (set_elsewhere es sub q w other) where
   by : (b : Bool) → eqb sub e.0 ≡ b → lookup (eqb q) (set_value (eqb sub) es w) ≡ lookup (eqb q) es
@@ -111,26 +125,26 @@ set_elsewhere (e ∷ es) sub q w other = by (eqb sub e.0) refl (set_elsewhere es
   by true is rest =
       let apart : eqb q e.0 ≡ false = ap (eqb q) (sym (eqb-true sub e.0 is)) ∙ ne_eqb q sub other in
       rw apart refl
-  by false is rest = ap (λ (o : Option Held). cond (eqb q e.0) (Some e.1) o) rest
+  by false is rest = ap (λ (o : Option HeldGroups). cond (eqb q e.0) (Some e.1) o) rest
 
-pub held_elsewhere : (table es fs : Table) (sub q : ℕ) (w : Held) → es ≡ table → fs ≡ set_value (eqb sub) es w → q ≢ sub → held_at fs q ≡ held_at table q
+pub held_elsewhere : (table es fs : Table) (sub q : ℕ) (w : HeldGroups) → es ≡ table → fs ≡ set_value (eqb sub) es w → q ≢ sub → held_at fs q ≡ held_at table q
 held_elsewhere table es fs sub q w same is other =
-    ap (λ (gs : Table). held_at gs q) is ∙ ap (λ (o : Option Held). unwrap_or o nothing_held) (set_elsewhere es sub q w other) ∙ ap (λ (gs : Table). held_at gs q) same
+    ap (λ (gs : Table). held_at gs q) is ∙ ap (λ (o : Option HeldGroups). unwrap_or o nothing_held) (set_elsewhere es sub q w other) ∙ ap (λ (gs : Table). held_at gs q) same
 
 -- ---- a subscription that is put behind the others
 
-pub not_found : (o : Option Held) → is_some o ≡ false → o ≡ None
+pub not_found : (o : Option HeldGroups) → is_some o ≡ false → o ≡ None
 not_found None is = refl
 not_found (Some h) is = absurd (true≢false is)
 
-pub placed_found : (table es : Table) (sub i : ℕ) → es ≡ table → position (eqb sub) (keys_of es) ≡ Some i → StandsAt table i sub
+pub placed_found : (table es : Table) (sub i : ℕ) → es ≡ table → position (eqb sub) (keys_of es) ≡ Some i → IsHeldAt table i sub
 placed_found table es sub i same is =
     let p = position-Some (eqb sub) (keys_of es) i sub is in
     ap (λ (gs : Table). slice_get (keys_of gs) i) (sym same) ∙ slice_get-get_or (keys_of es) i sub p.0 ∙ ap (λ (k : ℕ). Some k) (sym (eqb-true sub (get_or (keys_of es) i sub) p.1))
 
-pub held_pushed : (table es fs : Table) (sub q : ℕ) (v : Held) → es ≡ table → v ≡ nothing_held → fs ≡ es ++ (sub, v) ∷ [] → held_at fs q ≡ held_at table q
+pub held_pushed : (table es fs : Table) (sub q : ℕ) (v : HeldGroups) → es ≡ table → v ≡ nothing_held → fs ≡ es ++ (sub, v) ∷ [] → held_at fs q ≡ held_at table q
 held_pushed table es fs sub q v same none is =
-    ap (λ (gs : Table). held_at gs q) is ∙ ap (λ (w : Held). held_at (es ++ (sub, w) ∷ []) q) none ∙ pushed es ∙ ap (λ (gs : Table). held_at gs q) same where
+    ap (λ (gs : Table). held_at gs q) is ∙ ap (λ (w : HeldGroups). held_at (es ++ (sub, w) ∷ []) q) none ∙ pushed es ∙ ap (λ (gs : Table). held_at gs q) same where
       last : (b : Bool) → unwrap_or (cond b (Some nothing_held) None) nothing_held ≡ nothing_held
       last true = refl
       last false = refl
@@ -143,30 +157,30 @@ held_pushed table es fs sub q v same none is =
         by true rest = refl
         by false rest = rest
 
-last_at : (es : Table) (sub : ℕ) (v : Held) → StandsAt (es ++ (sub, v) ∷ []) (length es) sub
+last_at : (es : Table) (sub : ℕ) (v : HeldGroups) → IsHeldAt (es ++ (sub, v) ∷ []) (length es) sub
 last_at [] sub v = refl
 last_at (e ∷ es) sub v = last_at es sub v
 
-pub pushed_at : (es fs : Table) (sub place : ℕ) (v : Held) → place ≡ length es → fs ≡ es ++ (sub, v) ∷ [] → StandsAt fs place sub
+pub pushed_at : (es fs : Table) (sub place : ℕ) (v : HeldGroups) → place ≡ length es → fs ≡ es ++ (sub, v) ∷ [] → IsHeldAt fs place sub
 pushed_at es fs sub place v last is = rw (last, is) (last_at es sub v)
 
-stays_at : (es more : Table) (place q : ℕ) → StandsAt es place q → StandsAt (es ++ more) place q
+stays_at : (es more : Table) (place q : ℕ) → IsHeldAt es place q → IsHeldAt (es ++ more) place q
 stays_at [] more place q at = absurd cc
 stays_at (e ∷ es) more zero q at = at
 stays_at (e ∷ es) more (suc place) q at = stays_at es more place q at
 
-pub places_pushed : (table es fs : Table) (sub place q : ℕ) (v : Held) → es ≡ table → fs ≡ es ++ (sub, v) ∷ [] → StandsAt table place q → StandsAt fs place q
+pub places_pushed : (table es fs : Table) (sub place q : ℕ) (v : HeldGroups) → es ≡ table → fs ≡ es ++ (sub, v) ∷ [] → IsHeldAt table place q → IsHeldAt fs place q
 places_pushed table es fs sub place q v same is at =
-    subst (λ (gs : Table). StandsAt gs place q) (sym is) (stays_at es ((sub, v) ∷ []) place q (subst (λ (gs : Table). StandsAt gs place q) (sym same) at))
+    subst (λ (gs : Table). IsHeldAt gs place q) (sym is) (stays_at es ((sub, v) ∷ []) place q (subst (λ (gs : Table). IsHeldAt gs place q) (sym same) at))
 
 -- ---- one that is written at its place
 
-pub at_table : (table es : Table) (place sub : ℕ) → es ≡ table → StandsAt table place sub → StandsAt es place sub
-at_table table es place sub same at = subst (λ (gs : Table). StandsAt gs place sub) (sym same) at
+pub at_table : (table es : Table) (place sub : ℕ) → es ≡ table → IsHeldAt table place sub → IsHeldAt es place sub
+at_table table es place sub same at = subst (λ (gs : Table). IsHeldAt gs place sub) (sym same) at
 
-module _ (table es : Table) (place sub : ℕ) (before after : Held) (same : es ≡ table) (at : StandsAt table place sub) (distinct : IsDistinct eqb (keys_of es))
+module _ (table es : Table) (place sub : ℕ) (before after : HeldGroups) (same : es ≡ table) (at : IsHeldAt table place sub) (distinct : IsDistinct eqb (keys_of es))
     (there : Some before ≡ slice_get (values_of es) place) where
-  at_es : StandsAt es place sub
+  at_es : IsHeldAt es place sub
   at_es = at_table table es place sub same at
 
   pub held_before : held_at table sub ≡ before
@@ -178,7 +192,7 @@ module _ (table es : Table) (place sub : ℕ) (before after : Held) (same : es �
   pub others_held : (q : ℕ) → q ≢ sub → held_at (set_value_at es place after) q ≡ held_at table q
   others_held q other = others_written es (set_value_at es place after) place sub q after distinct at_es refl other ∙ ap (λ (gs : Table). held_at gs q) same
 
-  pub places_held : (p q : ℕ) → StandsAt table p q → StandsAt (set_value_at es place after) p q
+  pub places_held : (p q : ℕ) → IsHeldAt table p q → IsHeldAt (set_value_at es place after) p q
   places_held p q stands = ap (λ (ks : List ℕ). slice_get ks p) (keys_written es place after ∙ ap (λ (gs : Table). keys_of gs) same) ∙ stands
 
   pub groups_held : after.groups ≡ before.groups → (q : ℕ) → groups_at (set_value_at es place after) q ≡ groups_at table q
@@ -186,40 +200,40 @@ module _ (table es : Table) (place sub : ℕ) (before after : Held) (same : es �
     by : (b : Bool) → eqb q sub ≡ b → groups_at (set_value_at es place after) q ≡ groups_at table q
     by true one =
         let here : q ≡ sub = eqb-true q sub one in
-        ap (groups_at (set_value_at es place after)) here ∙ ap (λ (h : Held). h.groups) held_after ∙ is ∙ ap (λ (h : Held). h.groups) (sym held_before) ∙ ap (groups_at table) (sym here)
-    by false one = ap (λ (h : Held). h.groups) (others_held q (eqb-false q sub one))
+        ap (groups_at (set_value_at es place after)) here ∙ ap (λ (h : HeldGroups). h.groups) held_after ∙ is ∙ ap (λ (h : HeldGroups). h.groups) (sym held_before) ∙ ap (groups_at table) (sym here)
+    by false one = ap (λ (h : HeldGroups). h.groups) (others_held q (eqb-false q sub one))
 
 -- ---- where a subscription has no groups
 
-pub none_stands : (cs : List Counted) → StandsFor [] cs → cs ≡ []
+pub none_stands : (cs : List Sample) → SumsStand [] cs → cs ≡ []
 none_stands [] stands = refl
 none_stands (c ∷ cs) stands = by (same_group (group_of c) (group_of c)) (same_group-itself (group_of c)) (stands (group_of c)) where
   by : (b : Bool) → b ≡ true → None ≡ sums_over (cond b (c ∷ of_group (group_of c) cs) (of_group (group_of c) cs)) → c ∷ cs ≡ []
   by true is found = absurd cc
   by false is found = absurd cc
 
-pub none_closed : (t : ℕ) (cs : List Counted) → StandsFor [] cs → [] ≡ closed_by t cs
+pub none_closed : (t : ℕ) (cs : List Sample) → SumsStand [] cs → [] ≡ closed_by t cs
 unfolding closed_by
 none_closed t cs stands = rw (none_stands cs stands) refl
 
 -- ---- the exits of calls on one subscription
 
-pub closed_there : {V E : Type 0} (made : Result V E) (items : V → List DataRecord) (table : Table) (sub t : ℕ) (here : Held) (rs : List DataRecord) → Some here ≡ lookup (eqb sub) table
-    → IfOk made (λ v. items v ≡ rs) → ((counted : List Counted) → StandsFor here.groups counted → rs ≡ closed_by t counted)
-    → IfOk made (λ v. (counted : List Counted) → StandsFor (groups_at table sub) counted → items v ≡ closed_by t counted)
+pub closed_there : {V E : Type 0} (made : Result V E) (items : V → List DataRecord) (table : Table) (sub t : ℕ) (here : HeldGroups) (rs : List DataRecord) → Some here ≡ lookup (eqb sub) table
+    → IfOk made (λ v. items v ≡ rs) → ((counted : List Sample) → SumsStand here.groups counted → rs ≡ closed_by t counted)
+    → IfOk made (λ v. (counted : List Sample) → SumsStand (groups_at table sub) counted → items v ≡ closed_by t counted)
 closed_there (Ok v) items table sub t here rs there is all =
-    λ counted stands. is ∙ all counted (subst (λ (e : Held). StandsFor e.groups counted) (held_found table table sub here refl there) stands)
+    λ counted stands. is ∙ all counted (subst (λ (e : HeldGroups). SumsStand e.groups counted) (held_found table table sub here refl there) stands)
 closed_there (Err e) items table sub t here rs there is all = tt
 
-pub closed_nowhere : (table : Table) (sub t : ℕ) (items : List DataRecord) (counted : List Counted) → None ≡ lookup (eqb sub) table → items ≡ []
-    → StandsFor (groups_at table sub) counted → items ≡ closed_by t counted
+pub closed_nowhere : (table : Table) (sub t : ℕ) (items : List DataRecord) (counted : List Sample) → None ≡ lookup (eqb sub) table → items ≡ []
+    → SumsStand (groups_at table sub) counted → items ≡ closed_by t counted
 closed_nowhere table sub t items counted none is stands =
-    is ∙ none_closed t counted (subst (λ (e : Held). StandsFor e.groups counted) (held_nowhere table table sub refl none) stands)
+    is ∙ none_closed t counted (subst (λ (e : HeldGroups). SumsStand e.groups counted) (held_nowhere table table sub refl none) stands)
 
 -- ---- of each subscription
 
 -- what is not kept is nothing
-pub none_kept : (h : Held) → is_kept h ≡ false → h ≡ nothing_held
+pub none_kept : (h : HeldGroups) → is_kept h ≡ false → h ≡ nothing_held
 none_kept h none = by h.groups h.ready refl refl none where
   by : (gs : Entries) (rs : List Group) → h.groups ≡ gs → h.ready ≡ rs → nat_lt 0 (length (keys_of gs ++ rs)) ≡ false → h ≡ nothing_held
   by [] [] groups ready is = λ i. record { groups = groups i; ready = ready i }
@@ -227,8 +241,8 @@ none_kept h none = by h.groups h.ready refl refl none where
   by (e ∷ es) rs groups ready is = absurd (omega (arith, ltb-false 0 _ is, length-append (keys_of (e ∷ es)) rs))
 
 -- what relates what is held before to what is after, where each was written and those that are nothing went
-module _ {F : Type 0} (T : F → ℕ → Held → Bool → Held → F → Type 0) (R : Held → Held → Type 0) (nothing : R nothing_held nothing_held) (f : F)
-    (says : (k : ℕ) (v : Held) (b : Bool) (w : Held) (g : F) → T f k v b w g → (b ≡ is_kept w) × R v w × (g ≡ f)) where
+module _ {F : Type 0} (T : F → ℕ → HeldGroups → Bool → HeldGroups → F → Type 0) (R : HeldGroups → HeldGroups → Type 0) (nothing : R nothing_held nothing_held) (f : F)
+    (says : (k : ℕ) (v : HeldGroups) (b : Bool) (w : HeldGroups) (g : F) → T f k v b w g → (b ≡ is_kept w) × R v w × (g ≡ f)) where
   gone : (es kept : Table) → RetainsPairs T f es kept → (q : ℕ) → AllByRecursion (λ k. eqb q k ≡ false) (keys_of es) → lookup (eqb q) kept ≡ None
   gone [] kept ran q apart = ap (lookup (eqb q)) ran
   gone (e ∷ es) kept ran q apart =
@@ -258,6 +272,6 @@ module _ {F : Type 0} (T : F → ℕ → Held → Bool → Held → F → Type 0
       by false true is kept here rest left =
           let none : lookup (eqb q) ran.3 ≡ None = gone es ran.3 left q (subst (λ n. AllByRecursion (λ k. eqb n k ≡ false) (keys_of es)) (sym (eqb-true q e.0 is)) distinct.0) in
           subst (λ c. R (unwrap_or (cond c (Some e.1) (lookup (eqb q) es)) nothing_held) (held_at ran.3 q)) (sym is)
-          (subst (λ (o : Option Held). R e.1 (unwrap_or o nothing_held)) (sym none) (subst (R e.1) (none_kept ran.1 kept) here))
+          (subst (λ (o : Option HeldGroups). R e.1 (unwrap_or o nothing_held)) (sym none) (subst (R e.1) (none_kept ran.1 kept) here))
       by false false is kept here rest left =
           subst (λ c. R (unwrap_or (cond c (Some e.1) (lookup (eqb q) es)) nothing_held) (held_at ran.3 q)) (sym is) rest

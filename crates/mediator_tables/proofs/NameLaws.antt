@@ -13,7 +13,7 @@ use Rattle.std.specs.Option.{option_map}
 use Rattle.ipfix_template.specs.DataRecord.{DataRecord}
 use Rattle.ipfix_session.specs.Keeping.{at_key}
 use Rattle.mediator_tables.specs.declared.subscription.Subscription.{Subscription}
-use Rattle.mediator_tables.specs.SubscriptionTable.{Seen, seen, SameLive, Related, TakesGiven, HasName}
+use Rattle.mediator_tables.specs.SubscriptionTable.{SeenSubscription, seen_subscription, SameLive, Related, TakesGiven, HasName}
 use Rattle.mediator_tables.specs.Naming.{AreNamed, name_at}
 
 -- the same names
@@ -92,12 +92,12 @@ named_less numbers numbers2 names names2 sub name was n2 s2 so = record {
 abbrev pub name_in : Option Subscription → Option (List ℕ)
 name_in o = option_map (λ s. s.name) o
 
-name_seen : (o : Option Subscription) → option_map (λ (v : Seen). v.name) (option_map seen o) ≡ name_in o
+name_seen : (o : Option Subscription) → option_map (λ (v : SeenSubscription). v.name) (option_map seen_subscription o) ≡ name_in o
 name_seen None = refl
 name_seen (Some s) = refl
 
 pub names_seen : (es es2 : List (ℕ × Subscription)) → SameLive es es2 → (q : ℕ) → name_at es2 q ≡ name_at es q
-names_seen es es2 same q = sym (name_seen (at_key q es2)) ∙ ap (option_map (λ (v : Seen). v.name)) (same q) ∙ name_seen (at_key q es)
+names_seen es es2 same q = sym (name_seen (at_key q es2)) ∙ ap (option_map (λ (v : SeenSubscription). v.name)) (same q) ∙ name_seen (at_key q es)
 
 pub name_given : (more : List DataRecord) (o p : Option Subscription) → Related (TakesGiven more) o p → name_in p ≡ name_in o
 name_given more None None gives = refl

@@ -2,12 +2,12 @@
 use Rattle.std.specs.Prelude.{◌≡◌, ◌≢◌, ℕ, List, [], ◌∷◌, if◌then◌else◌, ◌==◌}
 use Rattle.std.specs.List.{AllByRecursion, AllZip, flat_map}
 use Rattle.flow_aggregate.specs.declared.addition.Addition.{Addition}
-use Rattle.flow_aggregate.specs.Running.{Held}
+use Rattle.flow_aggregate.specs.Running.{HeldGroups}
 use Rattle.flow_aggregate.specs.Counts.{Count}
-use Rattle.flow_aggregate.specs.Additions.{AreReady}
+use Rattle.flow_aggregate.specs.Additions.{AreReadyToAdd}
 use Rattle.mediator_tables.specs.declared.tally.Tally.{Tally}
 use Rattle.mediator_tables.specs.declared.tally.Reserved.{Reserved}
-use Rattle.mediator_tables.specs.GroupTable.{held_at, StandsAt}
+use Rattle.mediator_tables.specs.GroupTable.{held_at, IsHeldAt}
 
 -- a tally as a pair: the subscription with what is added to its aggregates
 abbrev pub tallied : Tally → ℕ × List Count
@@ -18,21 +18,21 @@ abbrev pub reserved_for : Reserved → ℕ × List Addition
 reserved_for r = (r.place, r.additions.items)
 
 -- that is what is added to a subscription's groups, and there they stand
-abbrev pub IsReadyFor : List (ℕ × Held) → ℕ × List Addition → ℕ × List Count → Type 0
-IsReadyFor groups reserved tally = StandsAt groups reserved.0 tally.0 × AreReady (held_at groups tally.0) reserved.1 tally.1
+abbrev pub IsReadyFor : List (ℕ × HeldGroups) → ℕ × List Addition → ℕ × List Count → Type 0
+IsReadyFor groups reserved tally = IsHeldAt groups reserved.0 tally.0 × AreReadyToAdd (held_at groups tally.0) reserved.1 tally.1
 
 -- so it is for each
-abbrev pub AllReady : List (ℕ × Held) → List (ℕ × List Addition) → List (ℕ × List Count) → Type 0
+abbrev pub AllReady : List (ℕ × HeldGroups) → List (ℕ × List Addition) → List (ℕ × List Count) → Type 0
 AllReady groups reserved tallies = AllZip (IsReadyFor groups) reserved tallies
 
 -- no subscription stands twice
-abbrev pub AreApart : List (ℕ × List Count) → Type 0
-AreApart [] = Unit {0}
-AreApart (t ∷ ts) = AllByRecursion (λ o. o.0 ≢ t.0) ts × AreApart ts
+abbrev pub NoneTwice : List (ℕ × List Count) → Type 0
+NoneTwice [] = Unit {0}
+NoneTwice (t ∷ ts) = AllByRecursion (λ o. o.0 ≢ t.0) ts × NoneTwice ts
 
 -- for some records it is what is added
-abbrev pub AreCountable : List (ℕ × Held) → List (ℕ × List Addition) → Type 0
-AreCountable groups reserved = (tallies : List (ℕ × List Count)) × AllReady groups reserved tallies × AreApart tallies
+abbrev pub AreCountable : List (ℕ × HeldGroups) → List (ℕ × List Addition) → Type 0
+AreCountable groups reserved = (tallies : List (ℕ × List Count)) × AllReady groups reserved tallies × NoneTwice tallies
 
 -- all that is added for a subscription
 abbrev pub added_to : ℕ → List (ℕ × List Count) → List Count

@@ -1,15 +1,15 @@
 -- The open sessions, as contracts see them.
 use Rattle.std.specs.Prelude.{◌≡◌, ◌+◌, ℕ, List, [], ◌∷◌, Option, Some, None}
-use Rattle.ipfix_session.specs.Standing.{Standing, StandsFor}
+use Rattle.ipfix_session.specs.Standing.{SessionStanding, StandsFor}
 use Rattle.ipfix_session.specs.ReadAhead.{Ahead, IsReadingOf}
 use Rattle.mediator_tables.specs.declared.open_session.OpenSession.{OpenSession}
 
 -- an open session, whatever room is made in it: how many of its messages were accepted, and what it keeps of each domain
-pub record Seen : Type 0 where
+pub record SeenSession : Type 0 where
   pub accepted : ℕ
-  pub standing : Standing
+  pub standing : SessionStanding
 
-abbrev pub seen : OpenSession → Seen
+abbrev pub seen : OpenSession → SeenSession
 seen o = record { accepted = o.accepted; standing = o.session.standing }
 
 -- a session of which no message was accepted yet

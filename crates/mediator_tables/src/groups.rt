@@ -2,14 +2,15 @@
 ghost use Rattle.std.specs.Prelude.{◌≡◌, ◌≢◌, ◌≤◌, ◌+◌, ◌++◌, ℕ, List, [], length, map, eqb, IfOk, OnErr};
 ghost use Rattle.std.specs.List.{AllByRecursion, IsDistinct};
 ghost use Rattle.std.specs.Map.{keys_of};
-ghost use Rattle.flow_aggregate.specs.Groups.{Counted};
-ghost use Rattle.flow_aggregate.specs.Running.{places, nothing_held, StandsFor, staying, Held};
+ghost use Rattle.flow_aggregate.specs.Groups.{Sample};
+ghost use Rattle.flow_aggregate.specs.Running.{places, nothing_held, SumsStand, staying, HeldGroups};
 ghost use Rattle.flow_aggregate.specs.Counts.{Count, count_of};
-ghost use Rattle.flow_aggregate.specs.Additions.{AreReady};
+ghost use Rattle.flow_aggregate.specs.Additions.{AreReadyToAdd};
 ghost use Rattle.flow_aggregate.specs.Closing.{record_of, closed_by};
-ghost use Rattle.mediator_tables.specs.GroupTable.{held_at, groups_at, StandsAt, is_kept};
-ghost use Rattle.mediator_tables.specs.Adding.{tallied, reserved_for, IsReadyFor, AllReady, AreApart, AreCountable, added_to};
+ghost use Rattle.mediator_tables.specs.GroupTable.{held_at, groups_at, IsHeldAt, is_kept};
+ghost use Rattle.mediator_tables.specs.Adding.{tallied, reserved_for, IsReadyFor, AllReady, NoneTwice, AreCountable, added_to};
 
+use crate::ids::SubId;
 use crate::tally::{Reserved, Tally};
 use flow_aggregate::{ClosedAggregate, Running};
 use hash_keys::HashKeys;
@@ -46,9 +47,9 @@ impl Model for RunningGroups {
     ghost use Rattle.std.specs.Prelude.{List, ℕ, eqb};
     ghost use Rattle.std.specs.List.{IsDistinct};
     ghost use Rattle.std.specs.Map.{keys_of};
-    ghost use Rattle.flow_aggregate.specs.Running.{Held};
+    ghost use Rattle.flow_aggregate.specs.Running.{HeldGroups};
 
-    ghost Value = { List (ℕ × Held) };
+    ghost Value = { List (ℕ × HeldGroups) };
 
     ghost view = { λ r. r.by_number.entries };
 
@@ -77,12 +78,12 @@ impl RunningGroups {
 
     /// How many groups are kept for the subscription `sub`, with those that were made for what is
     /// yet to be added. There are no more than records that count or are to be added.
-    pub fn len(&self, sub: u64) -> usize
-        ensures value { result ≡ length (places (held_at self.now sub)) }
-        ensures few { (counted : List Counted) → StandsFor (groups_at self.now sub) counted
-            → result ≤ length counted + length (held_at self.now sub).ready }
+    pub fn len(&self, sub: SubId) -> usize
+        ensures value { result ≡ length (places (held_at self.now sub.0)) }
+        ensures few { (counted : List Sample) → SumsStand (groups_at self.now sub.0) counted
+            → result ≤ length counted + length (held_at self.now sub.0).ready }
     {
-        match self.by_number.get(&sub) {
+        match self.by_number.get(&sub.0) {
             Some(groups) => groups.len(),
             None => 0,
         }
@@ -92,11 +93,15 @@ impl RunningGroups {
     ///
     /// # Errors
     /// Want of memory.
-    pub fn subs(&self) -> Result<Vec<u64>, AllocError>
-        ensures numbers { IfOk result (λ subs. subs.items ≡ keys_of self.now) }
+    pub fn subs(&self) -> Result<Vec<SubId>, AllocError>
+        ensures numbers { IfOk result (λ subs. map (λ s. s.0) subs.items ≡ keys_of self.now) }
         ensures once { IsDistinct eqb (keys_of self.now) }
     {
-        self.by_number.keys().copied().collect(self.alloc)
+        let mut subs = Vec::new(self.alloc);
+        'numbers: for number in self.by_number.keys() {
+            subs.push(SubId(*number))?;
+        }
+        Ok(subs)
     }
 
     /// Makes ready for all of `tallies`, what one message adds, where no subscription stands twice.
@@ -108,7 +113,7 @@ impl RunningGroups {
     /// Want of memory; then nothing is reserved. No sum changes, whatever the answer.
     pub fn reserve(&mut self, tallies: &[Tally]) -> Result<Vec<Reserved>, AllocError>
         ensures unchanged { (q : ℕ) → groups_at self.new q ≡ groups_at self.old q }
-        ensures ok { IfOk result (λ reserved. AreApart (map tallied tallies.now)
+        ensures ok { IfOk result (λ reserved. NoneTwice (map tallied tallies.now)
             → AllReady self.new (map reserved_for reserved.items) (map tallied tallies.now)) }
         ensures few { (q : ℕ)
             → length (held_at self.new q).ready ≤ length (added_to q (map tallied tallies.now)) }
@@ -143,16 +148,16 @@ impl RunningGroups {
     pub fn add_reserved(&mut self, reserved: Vec<Reserved>)
         requires { AreCountable self.old (map reserved_for reserved.items) }
         ensures adds { (tallies : List (ℕ × List Count))
-            → AllReady self.old (map reserved_for reserved.items) tallies → AreApart tallies
-            → (q : ℕ) (before more : List Counted) → StandsFor (groups_at self.old q) before
+            → AllReady self.old (map reserved_for reserved.items) tallies → NoneTwice tallies
+            → (q : ℕ) (before more : List Sample) → SumsStand (groups_at self.old q) before
             → added_to q tallies ≡ map count_of more
-            → StandsFor (groups_at self.new q) (before ++ more) }
+            → SumsStand (groups_at self.new q) (before ++ more) }
         // Nothing is ready then for those that were added to, and others are held as before.
         ensures ready { (tallies : List (ℕ × List Count))
-            → AllReady self.old (map reserved_for reserved.items) tallies → AreApart tallies
+            → AllReady self.old (map reserved_for reserved.items) tallies → NoneTwice tallies
             → AllByRecursion (λ t. (held_at self.new t.0).ready ≡ []) tallies }
         ensures others { (tallies : List (ℕ × List Count))
-            → AllReady self.old (map reserved_for reserved.items) tallies → AreApart tallies
+            → AllReady self.old (map reserved_for reserved.items) tallies → NoneTwice tallies
             → (q : ℕ) → AllByRecursion (λ t. t.0 ≢ q) tallies
             → held_at self.new q ≡ held_at self.old q }
     {
@@ -166,11 +171,11 @@ impl RunningGroups {
     ///
     /// # Errors
     /// Want of memory.
-    pub fn closing(&self, sub: u64, t: u64) -> Result<Records, AllocError>
-        ensures { IfOk result (λ records. (counted : List Counted)
-            → StandsFor (groups_at self.now sub) counted → records ≡ closed_by t counted) }
+    pub fn closing(&self, sub: SubId, t: u64) -> Result<Records, AllocError>
+        ensures { IfOk result (λ records. (counted : List Sample)
+            → SumsStand (groups_at self.now sub.0) counted → records ≡ closed_by t counted) }
     {
-        match self.by_number.get(&sub) {
+        match self.by_number.get(&sub.0) {
             Some(groups) => records_of(self.alloc, &groups.closing(t)?),
             None => Ok(Records::new(self.alloc)),
         }
@@ -179,15 +184,15 @@ impl RunningGroups {
     /// Drops the groups that an advance of the clock to `t`, in milliseconds since 1970, closes. It
     /// takes no memory. What was reserved before is so no more.
     pub fn close(&mut self, t: u64)
-        ensures stays { (q : ℕ) (counted : List Counted) → StandsFor (groups_at self.old q) counted
-            → StandsFor (groups_at self.new q) (staying t counted) }
+        ensures stays { (q : ℕ) (counted : List Sample) → SumsStand (groups_at self.old q) counted
+            → SumsStand (groups_at self.new q) (staying t counted) }
         ensures ready { (q : ℕ) → (held_at self.new q).ready ≡ [] }
     {
         self.by_number.retain(
             |_sub: &u64, groups: &mut Running| -> bool
                 ensures { (result ≡ is_kept groups.new)
-                    × ((counted : List Counted) → StandsFor groups.old.groups counted
-                    → StandsFor groups.new.groups (staying t counted)) × (groups.new.ready ≡ []) }
+                    × ((counted : List Sample) → SumsStand groups.old.groups counted
+                    → SumsStand groups.new.groups (staying t counted)) × (groups.new.ready ≡ []) }
             {
                 groups.close(t);
                 groups.len() > 0
@@ -197,12 +202,12 @@ impl RunningGroups {
 
     /// Drops the groups of the subscription `sub`. It takes no memory, and what was reserved for
     /// others stays so.
-    pub fn remove(&mut self, sub: u64)
-        ensures gone { held_at self.new sub ≡ nothing_held }
-        ensures others { (q : ℕ) → q ≢ sub → held_at self.new q ≡ held_at self.old q }
+    pub fn remove(&mut self, sub: SubId)
+        ensures gone { held_at self.new sub.0 ≡ nothing_held }
+        ensures others { (q : ℕ) → q ≢ sub.0 → held_at self.new q ≡ held_at self.old q }
         ensures places { keys_of self.new ≡ keys_of self.old }
     {
-        if let Some(groups) = self.by_number.get_mut(&sub) {
+        if let Some(groups) = self.by_number.get_mut(&sub.0) {
             *groups = Running::hashed(self.alloc, self.keys);
         }
     }
@@ -213,7 +218,7 @@ impl RunningGroups {
     fn reserve_each(&mut self, tallies: &[Tally]) -> Result<Vec<Reserved>, AllocError>
         requires { (q : ℕ) → (held_at self.old q).ready ≡ [] }
         ensures unchanged { (q : ℕ) → groups_at self.new q ≡ groups_at self.old q }
-        ensures ok { IfOk result (λ reserved. AreApart (map tallied tallies.now)
+        ensures ok { IfOk result (λ reserved. NoneTwice (map tallied tallies.now)
             → AllReady self.new (map reserved_for reserved.items) (map tallied tallies.now)) }
         ensures few { (q : ℕ)
             → length (held_at self.new q).ready ≤ length (added_to q (map tallied tallies.now)) }
@@ -235,7 +240,7 @@ impl RunningGroups {
             ≤ length tally.now.counts.items }
         // What was made ready for other subscriptions stays so.
         ensures others { (q : ℕ) → q ≢ tally.now.sub → held_at self.new q ≡ held_at self.old q }
-        ensures places { (place q : ℕ) → StandsAt self.old place q → StandsAt self.new place q }
+        ensures places { (place q : ℕ) → IsHeldAt self.old place q → IsHeldAt self.new place q }
     {
         let place = self.place_of(tally.sub)?;
         match self.by_number.get_index_mut(place) {
@@ -250,9 +255,9 @@ impl RunningGroups {
     /// The place of a subscription's groups, which is made where it has none yet.
     fn place_of(&mut self, sub: u64) -> Result<usize, AllocError>
         ensures unchanged { (q : ℕ) → held_at self.new q ≡ held_at self.old q }
-        ensures ok { IfOk result (λ place. StandsAt self.new place sub) }
+        ensures ok { IfOk result (λ place. IsHeldAt self.new place sub) }
         ensures err { OnErr result (held_at self.new sub ≡ nothing_held) }
-        ensures places { (place q : ℕ) → StandsAt self.old place q → StandsAt self.new place q }
+        ensures places { (place q : ℕ) → IsHeldAt self.old place q → IsHeldAt self.new place q }
     {
         match self.by_number.get_index_of(&sub) {
             Some(place) => Ok(place),
@@ -269,14 +274,14 @@ impl RunningGroups {
     fn add_one(&mut self, reserved: Reserved)
         requires { (sub : ℕ)
             × (counts : List Count) × IsReadyFor self.old (reserved_for reserved) (sub, counts) }
-        ensures adds { (sub : ℕ) (before more : List Counted)
+        ensures adds { (sub : ℕ) (before more : List Sample)
             → IsReadyFor self.old (reserved_for reserved) (sub, map count_of more)
-            → StandsFor (groups_at self.old sub) before
-            → StandsFor (groups_at self.new sub) (before ++ more) }
+            → SumsStand (groups_at self.old sub) before
+            → SumsStand (groups_at self.new sub) (before ++ more) }
         // Nothing is ready then for this subscription, and others are held as before.
-        ensures ready { (sub : ℕ) → StandsAt self.old reserved.place sub
+        ensures ready { (sub : ℕ) → IsHeldAt self.old reserved.place sub
             → (held_at self.new sub).ready ≡ [] }
-        ensures others { (sub q : ℕ) → StandsAt self.old reserved.place sub
+        ensures others { (sub q : ℕ) → IsHeldAt self.old reserved.place sub
             → q ≢ sub → held_at self.new q ≡ held_at self.old q }
         ensures places { keys_of self.new ≡ keys_of self.old }
     {

@@ -2,6 +2,8 @@
 //! for each subscription, and the live subscriptions. Which messages are accepted, what they disclose and which
 //! subscriptions are cut is decided above it.
 //!
+//! - `ids`: [`SessionId`] and [`SubId`], by which calls name sessions and subscriptions. Contracts see the number in them.
+//!
 //! Sessions:
 //!
 //! - `open_session`: [`OpenSession`], a session with the count of its messages.
@@ -37,6 +39,7 @@
 #![tactic(auto)]
 
 mod groups;
+mod ids;
 mod names;
 mod open_session;
 mod served;
@@ -47,6 +50,7 @@ pub mod subscriptions;
 mod tally;
 
 pub use groups::RunningGroups;
+pub use ids::{SessionId, SubId};
 pub use open_session::OpenSession;
 pub use served::Served;
 pub use sessions::Sessions;

@@ -5,6 +5,7 @@ ghost use Rattle.ipfix_session.specs.Keeping.{at_key};
 ghost use Rattle.ipfix_session.specs.ReadAhead.{HasRoomFor};
 ghost use Rattle.mediator_tables.specs.SessionTable.{seen, IsFresh, KeepsOn};
 
+use crate::ids::SessionId;
 use crate::open_session::OpenSession;
 use ipfix_session::{Reading, Session};
 use std::alloc::{AllocError, Global};
@@ -47,78 +48,78 @@ impl Sessions {
         }
     }
 
-    /// The session that is open under `number`, if there is one.
-    pub fn get(&self, number: u64) -> Option<&OpenSession>
-        ensures { option_copied result ≡ at_key number self.now }
+    /// The session with the number `session`, if it is open.
+    pub fn get(&self, session: SessionId) -> Option<&OpenSession>
+        ensures { option_copied result ≡ at_key session.0 self.now }
     {
-        self.by_number.get(&number)
+        self.by_number.get(&session.0)
     }
 
-    /// Opens a session without a message under `number`, in place of one that was open under it.
+    /// Opens a session without a message under the number `session`, in place of one that was open under it.
     ///
     /// # Errors
     /// Want of memory, and then nothing has changed.
-    pub fn open(&mut self, number: u64) -> Result<(), AllocError>
-        ensures others { (q : ℕ) → q ≢ number → at_key q self.new ≡ at_key q self.old }
-        ensures ok { OnOk result (IsSomeAnd (at_key number self.new) IsFresh) }
+    pub fn open(&mut self, session: SessionId) -> Result<(), AllocError>
+        ensures others { (q : ℕ) → q ≢ session.0 → at_key q self.new ≡ at_key q self.old }
+        ensures ok { OnOk result (IsSomeAnd (at_key session.0 self.new) IsFresh) }
         ensures err { OnErr result ((q : ℕ) → at_key q self.new ≡ at_key q self.old) }
     {
         let fresh = OpenSession {
             session: Session::new(self.alloc),
             accepted: 0,
         };
-        self.by_number.insert(number, fresh)?;
+        self.by_number.insert(session.0, fresh)?;
         Ok(())
     }
 
-    /// Closes the session `number`, if it is open. It takes no memory.
-    pub fn close(&mut self, number: u64)
-        ensures { (q : ℕ) → at_key q self.new ≡ (if q == number then None else at_key q self.old) }
+    /// Closes the session with the number `session`, if it is open. It takes no memory.
+    pub fn close(&mut self, session: SessionId)
+        ensures { (q : ℕ) → at_key q self.new ≡ (if q == session.0 then None else at_key q self.old) }
     {
-        let _ = self.by_number.remove(&number);
+        let _ = self.by_number.remove(&session.0);
     }
 
-    /// Has the session `number` share its templates, where it is open, so that a snapshot of it
-    /// makes no copy of them.
+    /// Has the session with the number `session` share its templates, where it is open, so that a
+    /// snapshot of it makes no copy of them.
     ///
     /// # Errors
     /// Want of memory. The sessions stand for the same messages, whatever the answer.
-    pub fn share(&mut self, number: u64) -> Result<(), AllocError>
+    pub fn share(&mut self, session: SessionId) -> Result<(), AllocError>
         ensures unchanged { (q : ℕ)
             → option_map seen (at_key q self.new) ≡ option_map seen (at_key q self.old) }
     {
-        if let Some(open) = self.by_number.get_mut(&number) {
+        if let Some(open) = self.by_number.get_mut(&session.0) {
             open.session.share()?;
         }
         Ok(())
     }
 
-    /// Makes room for what `reading`, of the next message of the session `number`, changes, so that
-    /// to keep it takes no memory. Where no such session is open, nothing is to be done.
+    /// Makes room for what `reading`, of the next message of the session with the number `session`,
+    /// changes, so that to keep it takes no memory. Where no such session is open, nothing is to be done.
     ///
     /// # Errors
     /// Want of memory. The sessions stand for the same messages, whatever the answer.
-    pub fn make_room(&mut self, number: u64, reading: &Reading) -> Result<(), AllocError>
+    pub fn make_room(&mut self, session: SessionId, reading: &Reading) -> Result<(), AllocError>
         ensures unchanged { (q : ℕ)
             → option_map seen (at_key q self.new) ≡ option_map seen (at_key q self.old) }
         ensures room { OnOk result
-            (IfSome (at_key number self.new) (λ o. HasRoomFor o.session reading.now)) }
+            (IfSome (at_key session.0 self.new) (λ o. HasRoomFor o.session reading.now)) }
     {
-        if let Some(open) = self.by_number.get_mut(&number) {
+        if let Some(open) = self.by_number.get_mut(&session.0) {
             open.session.make_room(reading)?;
         }
         Ok(())
     }
 
-    /// Keeps `reading`, which was read of the next message of the session `number`, in room that
-    /// was made for it. It counts the message, and takes no memory.
-    pub fn keep(&mut self, number: u64, reading: Reading)
-        requires room { IsSomeAnd (at_key number self.old) (λ o. HasRoomFor o.session reading) }
-        requires count { IfSome (at_key number self.old) (λ o. o.accepted + 1 < 2 ^ 64) }
-        ensures others { (q : ℕ) → q ≢ number → at_key q self.new ≡ at_key q self.old }
-        ensures keeps { KeepsOn reading (at_key number self.old) (at_key number self.new) }
+    /// Keeps `reading`, which was read of the next message of the session with the number `session`,
+    /// in room that was made for it. It counts the message, and takes no memory.
+    pub fn keep(&mut self, session: SessionId, reading: Reading)
+        requires room { IsSomeAnd (at_key session.0 self.old) (λ o. HasRoomFor o.session reading) }
+        requires count { IfSome (at_key session.0 self.old) (λ o. o.accepted + 1 < 2 ^ 64) }
+        ensures others { (q : ℕ) → q ≢ session.0 → at_key q self.new ≡ at_key q self.old }
+        ensures keeps { KeepsOn reading (at_key session.0 self.old) (at_key session.0 self.new) }
     {
-        if let Some(open) = self.by_number.get_mut(&number) {
+        if let Some(open) = self.by_number.get_mut(&session.0) {
             let _read = open.session.keep(reading);
             open.accepted += 1;
         }

@@ -6,6 +6,7 @@ ghost use Rattle.policy_text.specs.Naming.{is_name};
 ghost use Rattle.mediator_tables.specs.SubscriptionTable.{shown};
 ghost use Rattle.mediator_tables.specs.SubscriptionTable.{at, SameTable, HasName, Related, AreReady, TakesGiven, PullsOne, given_to, lacks_room_at, told, told_in, cut_off};
 
+use crate::ids::SubId;
 use crate::names::Names;
 use crate::served::Served;
 use crate::share::Share;
@@ -15,7 +16,7 @@ use policy_text::Name;
 use std::alloc::{AllocError, Global};
 use std::collections::BTreeMap;
 use std::marker::Model;
-use subscriber_stream::{PullError, Stream};
+use subscriber_stream::Stream;
 
 /// The live subscriptions of a mediator. A look-up by number or by name takes time that grows with the logarithm of how
 /// many there are. What goes over those that are served doesn't go over those that are cut.
@@ -42,9 +43,9 @@ impl Drop for Subscriptions {
 }
 
 impl Model for Subscriptions {
-    ghost use Rattle.mediator_tables.specs.SubscriptionTable.{Table};
+    ghost use Rattle.mediator_tables.specs.SubscriptionTable.{SubscriptionRows};
 
-    ghost Value = { Table };
+    ghost Value = { SubscriptionRows };
 
     ghost use Rattle.mediator_tables.specs.Naming.{AreNamed, number_of, name_at};
 
@@ -67,19 +68,22 @@ impl Subscriptions {
     }
 
     /// The live subscription with the number `sub`, or `None`.
-    pub fn get(&self, sub: u64) -> Option<&Subscription>
-        ensures { option_copied result ≡ at self.now sub }
+    pub fn get(&self, sub: SubId) -> Option<&Subscription>
+        ensures { option_copied result ≡ at self.now sub.0 }
     {
-        self.by_number.get(&sub)
+        self.by_number.get(&sub.0)
     }
 
     /// The number of the live subscription whose subscriber has this `name`, or `None`.
-    pub fn named(&self, name: &str) -> Option<u64>
-        ensures found { IfSome result (λ sub. IsSomeAnd (at self.now sub) (HasName name.now)) }
+    pub fn named(&self, name: &str) -> Option<SubId>
+        ensures found { IfSome result (λ sub. IsSomeAnd (at self.now sub.0) (HasName name.now)) }
         ensures none { IfNone result ((sub : ℕ)
             → IfSome (at self.now sub) (λ s. s.name ≢ name.now)) }
     {
-        self.names.get(name)
+        match self.names.get(name) {
+            Some(sub) => Some(SubId(sub)),
+            None => None,
+        }
     }
 
     /// The subscriptions that are served, in the order in which they began.
@@ -91,7 +95,7 @@ impl Subscriptions {
     {
         let mut found = Vec::new(self.alloc);
         'served: for sub in &self.served {
-            let name = match self.get(*sub) {
+            let name = match self.get(SubId(*sub)) {
                 Some(kept) => kept.name.as_str(),
                 None => "",
             };
@@ -105,7 +109,7 @@ impl Subscriptions {
     pub fn lacks_room(&self, share: &Share) -> bool
         ensures { result ≡ lacks_room_at self.now (shown share.now) }
     {
-        match self.get(share.sub) {
+        match self.get(SubId(share.sub)) {
             Some(kept) => !share.given.is_empty() && !kept.stream.room(&share.given),
             None => false,
         }
@@ -114,7 +118,7 @@ impl Subscriptions {
     /// Whether the queue of the subscription that `share` names, which isn't cut, has no room for the records of
     /// `share` until some of what waits is pulled, and has room then. It takes no memory.
     pub fn is_held_up(&self, share: &Share) -> bool {
-        match self.get(share.sub) {
+        match self.get(SubId(share.sub)) {
             Some(kept) => !kept.is_cut && kept.stream.is_held_up(&share.given),
             None => false,
         }
@@ -151,15 +155,15 @@ impl Subscriptions {
 
     /// Cuts the subscription with the number `sub`, if there is one: it is served no more, and keeps what waits. It
     /// takes no memory.
-    pub fn cut(&mut self, sub: u64)
+    pub fn cut(&mut self, sub: SubId)
         ensures each { (q : ℕ) → at self.new q
-            ≡ (if q == sub then option_map cut_off (at self.old q) else at self.old q) }
-        ensures served { self.new.served ≡ filter (λ q. not (q == sub)) self.old.served }
+            ≡ (if q == sub.0 then option_map cut_off (at self.old q) else at self.old q) }
+        ensures served { self.new.served ≡ filter (λ q. not (q == sub.0)) self.old.served }
     {
-        if let Some(kept) = self.by_number.get_mut(&sub) {
+        if let Some(kept) = self.by_number.get_mut(&sub.0) {
             kept.is_cut = true;
         }
-        take_out(&mut self.served, sub);
+        take_out(&mut self.served, sub.0);
     }
 
     /// Adds a live subscription with the number `sub` and the subscriber's `name`, neither of which is there, and with
@@ -167,14 +171,14 @@ impl Subscriptions {
     ///
     /// # Errors
     /// Want of memory, and then nothing has changed.
-    pub fn insert(&mut self, sub: u64, name: &str, stream: Stream) -> Result<(), AllocError>
+    pub fn insert(&mut self, sub: SubId, name: &str, stream: Stream) -> Result<(), AllocError>
         requires name { is_name name.now ≡ true }
-        requires new { at self.old sub ≡ None }
+        requires new { at self.old sub.0 ≡ None }
         requires free { (q : ℕ) → IfSome (at self.old q) (λ s. s.name ≢ name.now) }
         // It is live and served then, behind the others.
-        ensures ok { OnOk result ((q : ℕ) → at self.new q ≡ (if q == sub then Some
+        ensures ok { OnOk result ((q : ℕ) → at self.new q ≡ (if q == sub.0 then Some
             (record { name = name.now; is_cut = false; stream = stream }) else at self.old q)) }
-        ensures served { OnOk result (self.new.served ≡ self.old.served ++ sub ∷ []) }
+        ensures served { OnOk result (self.new.served ≡ self.old.served ++ sub.0 ∷ []) }
         // Want of memory changes nothing.
         ensures err { OnErr result (SameTable self.old self.new) }
     {
@@ -184,22 +188,22 @@ impl Subscriptions {
             is_cut: false,
             stream,
         };
-        self.names.insert(self.alloc, name, sub)?;
-        if let Err(refused) = put(&mut self.by_number, sub, added) {
+        self.names.insert(self.alloc, name, sub.0)?;
+        if let Err(refused) = put(&mut self.by_number, sub.0, added) {
             self.names.remove(name);
             return Err(refused);
         }
-        self.served.push_reserved(sub);
+        self.served.push_reserved(sub.0);
         Ok(())
     }
 
     /// Takes out the subscription with the number `sub`, if there is one, with what waits for it. It takes no memory.
-    pub fn remove(&mut self, sub: u64)
-        ensures each { (q : ℕ) → at self.new q ≡ (if q == sub then None else at self.old q) }
-        ensures served { self.new.served ≡ filter (λ q. not (q == sub)) self.old.served }
+    pub fn remove(&mut self, sub: SubId)
+        ensures each { (q : ℕ) → at self.new q ≡ (if q == sub.0 then None else at self.old q) }
+        ensures served { self.new.served ≡ filter (λ q. not (q == sub.0)) self.old.served }
     {
-        take_out(&mut self.served, sub);
-        if let Some(gone) = self.by_number.remove(&sub) {
+        take_out(&mut self.served, sub.0);
+        if let Some(gone) = self.by_number.remove(&sub.0) {
             self.names.remove(gone.name.as_str());
         }
     }
@@ -210,17 +214,17 @@ impl Subscriptions {
     ///
     /// # Errors
     /// Want of memory for the message, and then nothing has changed.
-    pub fn pull(&mut self, sub: u64, now: u32, target: u16) -> Result<Option<Bytes>, PullError>
-        requires known { IsSome (at self.old sub) }
+    pub fn pull(&mut self, sub: SubId, now: u32, target: u16) -> Result<Option<Bytes>, AllocError>
+        requires known { IsSome (at self.old sub.0) }
         // No other subscription changes, nor who is served.
-        ensures others { (q : ℕ) → q ≢ sub → at self.new q ≡ at self.old q }
+        ensures others { (q : ℕ) → q ≢ sub.0 → at self.new q ≡ at self.old q }
         ensures served { self.new.served ≡ self.old.served }
         // The message is what the stream gives; want of memory changes nothing.
         ensures ok { IfOk result (λ m.
-            Related (PullsOne now target m) (at self.old sub) (at self.new sub)) }
+            Related (PullsOne now target m) (at self.old sub.0) (at self.new sub.0)) }
         ensures err { OnErr result (SameTable self.old self.new) }
     {
-        match self.by_number.get_mut(&sub) {
+        match self.by_number.get_mut(&sub.0) {
             Some(kept) => kept.stream.pull(now, target),
             None => unreachable!(),
         }

@@ -9,7 +9,7 @@ use Rattle.ipfix_element.specs.Element.{Element}
 use Rattle.ipfix_template.specs.declared.field.FieldSpec.{FieldSpec}
 use Rattle.ipfix_template.specs.DataRecord.{DataRecord}
 use Rattle.policy_judge.specs.Match.{matches_record, matches_field, element_at}
-use Rattle.policy_judge.specs.Verdicts.{first_rule, record_verdict_by, element_verdict_by, record_verdict_of, element_verdict_of, numbered, record_verdict_at, element_verdict_at}
+use Rattle.policy_judge.specs.Verdicts.{first_rule, record_verdict_by, element_verdict_by, record_verdict_of, element_verdict_of, numbered_rule, record_verdict_at, element_verdict_at}
 
 abbrev with_number : {A : Type 0} → ℕ → A → ℕ × A
 with_number n a = (n, a)
@@ -29,10 +29,10 @@ found_at {A} test n (x ∷ xs) =
     ]
 
 -- an answer of `position` is the place of the first rule that matches
-pub numbered_first : (matches : Rule → Bool) (rules : List Rule) → numbered rules (position matches rules) ≡ first_rule matches rules
+pub numbered_first : (matches : Rule → Bool) (rules : List Rule) → numbered_rule rules (position matches rules) ≡ first_rule matches rules
 numbered_first matches rules =
     let place = position_or_len matches rules in
-    elim (nat_lt place (length rules)) as (λ b. nat_lt place (length rules) ≡ b → numbered rules (cond b (Some place) None) ≡ first_rule matches rules) [
+    elim (nat_lt place (length rules)) as (λ b. nat_lt place (length rules) ≡ b → numbered_rule rules (cond b (Some place) None) ≡ first_rule matches rules) [
       | true ↦ λ t.
           let number : place + 1 ≡ 1 + place = omega arith in
           ap (λ i. option_map (with_number i) (slice_get rules place)) number ∙ found_at matches 1 rules

@@ -56,13 +56,13 @@ abbrev pub element_verdict_of : List ℕ → ℕ → DataRecord → ℕ → List
 element_verdict_of name domain r place rules = element_verdict_by (first_rule (matches_field name domain r (element_at r place)) rules)
 
 -- the rule at a place, with its number
-abbrev pub numbered : List Rule → Option ℕ → Option (ℕ × Rule)
-numbered rules None = None
-numbered rules (Some place) = option_map (λ rule. (place + 1, rule)) (slice_get rules place)
+abbrev pub numbered_rule : List Rule → Option ℕ → Option (ℕ × Rule)
+numbered_rule rules None = None
+numbered_rule rules (Some place) = option_map (λ rule. (place + 1, rule)) (slice_get rules place)
 
 -- the verdict of the rule at a place on a record, and on a field; at no place it is that of rule 0
 abbrev pub record_verdict_at : List Rule → Option ℕ → RecordVerdict
-record_verdict_at rules place = record_verdict_by (numbered rules place)
+record_verdict_at rules place = record_verdict_by (numbered_rule rules place)
 
 abbrev pub element_verdict_at : List Rule → Option ℕ → ElementVerdict
-element_verdict_at rules place = element_verdict_by (numbered rules place)
+element_verdict_at rules place = element_verdict_by (numbered_rule rules place)

@@ -26,7 +26,7 @@ use Rattle.sequences.proofs.OptionLaws.{bind_some}
 use Rattle.sequences.proofs.ListLaws.{Lacks}
 use Rattle.policy_text.proofs.NameLaws.{ascii_by}
 use Rattle.policy_text.specs.Words.{Word}
-use Rattle.policy_text.specs.Elements.{checked, element_at, on_sides, behind_e, numbered_of, listed_or, element_of}
+use Rattle.policy_text.specs.Elements.{element_if_named, element_at, on_sides, behind_e, numbered_of, listed_or, element_of}
 
 abbrev HasPen : Element → Type 0
 HasPen e = IfSome e.pen (λ pen. pen < 2 ^ 32)
@@ -64,7 +64,7 @@ listed_or-pen None word e found = numbered_of-pen word e found
 pub element_of-found : (word : Word) (e : Element) → element_of word ≡ Some e → IsElement e × (word ≡ element_name e)
 unfolding element_of
 element_of-found word e found =
-    let read = bind_some (listed_or (find (λ line. bytes_eq line.name word) registry) word) (checked word) e found in
+    let read = bind_some (listed_or (find (λ line. bytes_eq line.name word) registry) word) (element_if_named word) e found in
     let passed = cond_some (ltb read.0.number 32768 && bytes_eq (element_name read.0) word) read.0 e read.2 in
     let tests = and_parts (ltb read.0.number 32768) (bytes_eq (element_name read.0) word) passed.0 in
     let pen = listed_or-pen (find (λ line. bytes_eq line.name word) registry) word read.0 read.1 in
@@ -73,7 +73,7 @@ element_of-found word e found =
     let P : Element → Type 0 = λ x. IsElement x × (word ≡ element_name x) in
     subst P passed.1 (record { pen = pen; number = below }, sym name)
 
-checked-passes : (word : Word) (e : Element) → e.number < 32768 → word ≡ element_name e → checked word e ≡ Some e
+checked-passes : (word : Word) (e : Element) → e.number < 32768 → word ≡ element_name e → element_if_named word e ≡ Some e
 checked-passes word e below name =
     let same = (bytes_eq-Decides (element_name e) word).1 (sym name) in
     rw (lt-ltb e.number 32768 below, same) refl
@@ -105,7 +105,7 @@ own_name None line otherwise h = absurd (false≢true h)
 own_name (Some other) line otherwise h = (bytes_eq-Decides other.name line.name).0 h
 
 -- a line that has this name gives an element that has it
-listed-passes : (word : Word) (line : Registered) → find (λ l. bytes_eq l.name word) registry ≡ Some line → checked word (record { pen = None; number = line.number }) ≡ Some (record { pen = None; number = line.number })
+listed-passes : (word : Word) (line : Registered) → find (λ l. bytes_eq l.name word) registry ≡ Some line → element_if_named word (record { pen = None; number = line.number }) ≡ Some (record { pen = None; number = line.number })
 unfolding is_own element_name
 listed-passes word line e =
     let found = find_both (λ l. bytes_eq l.name word) is_own registry line e all_own in
@@ -136,7 +136,7 @@ numbered_of-name (Some p) n small below =
     let lacks = digits_lack_slash (decimal p) (decimal_is_IsNumeral p (omega arith)).0.1 in
     rw (cut_at-middle 47 (decimal p) (decimal n) lacks, number_of-only 4294967295 (decimal p) p (omega arith) (record { bound = omega arith; text = refl }), number_of-only 32767 (decimal n) n (omega arith) (record { bound = omega arith; text = refl })) refl
 
-some_found : (word : Word) (e : Element) → IsElement e → word ≡ element_name e → (o : Option Registered) → find (λ line. bytes_eq line.name word) registry ≡ o → (x : Element) × ((listed_or o word >>= checked word) ≡ Some x)
+some_found : (word : Word) (e : Element) → IsElement e → word ≡ element_name e → (o : Option Registered) → find (λ line. bytes_eq line.name word) registry ≡ o → (x : Element) × ((listed_or o word >>= element_if_named word) ≡ Some x)
 some_found word e ok name (Some line) found = (record { pen = None; number = line.number }, listed-passes word line found)
 some_found word e ok name None found =
     ⊎_elim (λ (listed : (e.pen ≡ None) × IsLineName e.number word).
@@ -144,7 +144,7 @@ some_found word e ok name None found =
     absurd (none-some by_name.0 (sym found ∙ by_name.1)))
     (λ (unlisted : (line_for e.pen e.number ≡ None) × (word ≡ numbered_name e.pen e.number)).
     let read : numbered_of word ≡ Some e = ap numbered_of unlisted.1 ∙ numbered_of-name e.pen e.number ok.pen ok.number in
-    (e, ap (λ o. o >>= checked word) read ∙ checked-passes word e ok.number name))
+    (e, ap (λ o. o >>= element_if_named word) read ∙ checked-passes word e ok.number name))
     (named_how e word name)
 
 -- the element of this name is found

@@ -8,12 +8,12 @@ use Rattle.sequences.proofs.ResultLaws.{Err-Ok, same_Err, bind_Ok}
 use Rattle.sequences.specs.Results.{◌>>=◌}
 use Rattle.policy_text.specs.declared.fault.FaultKind.{FaultKind}
 use Rattle.policy_text.specs.declared.fault.FaultKind.TheVariants.{NoHeader, UnknownWord, TooMany}
-use Rattle.policy_text.specs.declared.fault.PolicyFault.{PolicyFault}
+use Rattle.policy_text.specs.declared.fault.Fault.{Fault}
 use Rattle.policy_text.specs.declared.rule.Rule.{Rule}
 use Rattle.policy_text.specs.declared.version.Version.{Version}
 use Rattle.policy_text.specs.declared.version.Version.TheVariants.{One, Two}
 use Rattle.policy_text.specs.Words.{Word, words_of, lines_of, is_skipped}
-use Rattle.policy_text.specs.Policies.{Meaning, without_lines, with_rule, with_aggregate, Aggregate as Definition}
+use Rattle.policy_text.specs.Policies.{PolicyMeaning, without_lines, with_rule, with_aggregate, Aggregate as Definition}
 use Rattle.policy_text.specs.Results.{at_line, then_read}
 use Rattle.policy_text.specs.Lines.{next_of, rule_of, aggregate_of, rule_line, aggregate_line, line_of}
 use Rattle.policy_text.specs.Parsing.{numbered_version, version_of, after_header, step, line_step, read_lines, policy_of}
@@ -21,8 +21,8 @@ use Rattle.policy_text.specs.Grammar.{IsAggregate, IsPolicy}
 use Rattle.policy_text.specs.Printing.{version_word, header}
 use Rattle.policy_text.specs.Spelling.{AddsRule, AddsAggregate, AfterLine, AreLines}
 use Rattle.policy_text.specs.LineParts.{IsKindOf, rule_parts, aggregate_parts}
-use Rattle.policy_text.specs.FirstFault.{MayStand, AwaitsAggregate, IsFaulty, IsLineFault, SpellSoFar, IsFirstFault}
-use Rattle.policy_text.specs.LineParts.Part.{first_word}
+use Rattle.policy_text.specs.FirstFault.{MayStand, AwaitsAggregate, IsFaultyLine, IsLineFault, SpellSoFar, IsFirstFault}
+use Rattle.policy_text.specs.LineParts.LinePart.{first_word}
 use Rattle.policy_text.proofs.ParsingLaws.{read_lines-cons, read_lines-done, read_lines-empty}
 use Rattle.policy_text.proofs.KeptLaws.{IsPolicy-without_lines, with_rule-kept, with_aggregate-kept}
 use Rattle.policy_text.proofs.SpellLaws.{rule_line-found, rule_line-only, line_of-found, line_of-only, line_step-found, numbered-is, header-found}
@@ -31,30 +31,30 @@ use Rattle.policy_text.proofs.KindLaws.{bound_err}
 use Rattle.policy_text.proofs.LinePlaceLaws.{rule_reads, aggregate_reads}
 
 -- lines that may stand are those that are read
-pub stands_read : (policy : Meaning) (words : List Word) → MayStand (Some policy) words → (new : Meaning) × (line_of policy words ≡ Ok new)
+pub stands_read : (policy : PolicyMeaning) (words : List Word) → MayStand (Some policy) words → (new : PolicyMeaning) × (line_of policy words ≡ Ok new)
 stands_read policy words h = (h.0, line_of-only policy h.0 words h.1)
 
-pub read_stands : (policy new : Meaning) (words : List Word) → line_of policy words ≡ Ok new → MayStand (Some policy) words
+pub read_stands : (policy new : PolicyMeaning) (words : List Word) → line_of policy words ≡ Ok new → MayStand (Some policy) words
 read_stands policy new words e = (new, line_of-found policy new words e)
 
 -- behind `rule`
-rule_room : (policy : Meaning) (words : List Word) → length policy.rules < 4096 → line_of policy (codes "rule" ∷ words) ≡ (rule_of policy.version policy.aggregates words >>= λ r. Ok (with_rule policy r))
+rule_room : (policy : PolicyMeaning) (words : List Word) → length policy.rules < 4096 → line_of policy (codes "rule" ∷ words) ≡ (rule_of policy.version policy.aggregates words >>= λ r. Ok (with_rule policy r))
 unfolding line_of next_of rule_line
 rule_room policy words room = rw (lt-leb 4096 (length policy.rules) room) refl
 
-rule_full : (policy : Meaning) (words : List Word) → 4096 ≤ length policy.rules → line_of policy (codes "rule" ∷ words) ≡ Err TooMany
+rule_full : (policy : PolicyMeaning) (words : List Word) → 4096 ≤ length policy.rules → line_of policy (codes "rule" ∷ words) ≡ Err TooMany
 unfolding line_of next_of rule_line
 rule_full policy words full = rw (le-leb 4096 (length policy.rules) full) refl
 
-aggregate_room : (policy : Meaning) (words : List Word) → length policy.aggregates < 256 → line_of policy (codes "aggregate" ∷ words) ≡ (aggregate_of policy.aggregates words >>= λ a. Ok (with_aggregate policy a))
+aggregate_room : (policy : PolicyMeaning) (words : List Word) → length policy.aggregates < 256 → line_of policy (codes "aggregate" ∷ words) ≡ (aggregate_of policy.aggregates words >>= λ a. Ok (with_aggregate policy a))
 unfolding line_of next_of aggregate_line
 aggregate_room policy words room = rw (lt-leb 256 (length policy.aggregates) room) refl
 
-aggregate_full : (policy : Meaning) (words : List Word) → 256 ≤ length policy.aggregates → line_of policy (codes "aggregate" ∷ words) ≡ Err TooMany
+aggregate_full : (policy : PolicyMeaning) (words : List Word) → 256 ≤ length policy.aggregates → line_of policy (codes "aggregate" ∷ words) ≡ Err TooMany
 unfolding line_of next_of aggregate_line
 aggregate_full policy words full = rw (le-leb 256 (length policy.aggregates) full) refl
 
-unknown_word : (policy : Meaning) (word : Word) (words : List Word) → bytes_eq word (codes "rule") ≡ false → bytes_eq word (codes "aggregate") ≡ false → line_of policy (word ∷ words) ≡ Err UnknownWord
+unknown_word : (policy : PolicyMeaning) (word : Word) (words : List Word) → bytes_eq word (codes "rule") ≡ false → bytes_eq word (codes "aggregate") ≡ false → line_of policy (word ∷ words) ≡ Err UnknownWord
 unfolding line_of next_of
 unknown_word policy word words r a = rw (r, a) refl
 
@@ -76,15 +76,15 @@ unfolding front_word
 rule_first word words tail other e = false≢true (sym other ∙ (bytes_eq-Decides word (codes "rule")).1 (ap front_word e))
 
 -- what may stand, or waits for an aggregate
-abbrev Goes : Meaning → List Word → Type 0
+abbrev Goes : PolicyMeaning → List Word → Type 0
 Goes policy words = MayStand (Some policy) words ⊎ AwaitsAggregate (Some policy) words
 
-rule_read : (policy : Meaning) (words : List Word) (r : Rule) → length policy.rules < 4096 → rule_of policy.version policy.aggregates words ≡ Ok r → (new : Meaning) × AddsRule policy (codes "rule" ∷ words) new
+rule_read : (policy : PolicyMeaning) (words : List Word) (r : Rule) → length policy.rules < 4096 → rule_of policy.version policy.aggregates words ≡ Ok r → (new : PolicyMeaning) × AddsRule policy (codes "rule" ∷ words) new
 unfolding rule_line
 rule_read policy words r room e =
     (with_rule policy r, rule_line-found policy (with_rule policy r) (codes "rule" ∷ words) words refl (rw (lt-leb 4096 (length policy.rules) room, e) refl))
 
-rule_goes : (policy : Meaning) (words : List Word) → length policy.rules < 4096 → Completes policy.aggregates (rule_of policy.version) words → Goes policy (codes "rule" ∷ words)
+rule_goes : (policy : PolicyMeaning) (words : List Word) → length policy.rules < 4096 → Completes policy.aggregates (rule_of policy.version) words → Goes policy (codes "rule" ∷ words)
 rule_goes policy words room c =
     ⊎_elim (λ (now : (r : Rule) × (rule_of policy.version policy.aggregates words ≡ Ok r)).
     let read = rule_read policy words now.0 room now.1 in
@@ -96,12 +96,12 @@ rule_goes policy words room c =
     inr (later.0, a, later.2, read.0, read.1))
     c
 
-rule_of_line : (policy new : Meaning) (words : List Word) → length policy.rules < 4096 → line_of policy (codes "rule" ∷ words) ≡ Ok new → (r : Rule) × (rule_of policy.version policy.aggregates words ≡ Ok r)
+rule_of_line : (policy new : PolicyMeaning) (words : List Word) → length policy.rules < 4096 → line_of policy (codes "rule" ∷ words) ≡ Ok new → (r : Rule) × (rule_of policy.version policy.aggregates words ≡ Ok r)
 rule_of_line policy new words room e =
     let read = bind_Ok (rule_of policy.version policy.aggregates words) (λ r. Ok (with_rule policy r)) new (sym (rule_room policy words room) ∙ e) in
     (read.0, read.1)
 
-rule_went : (policy : Meaning) (words : List Word) → length policy.rules < 4096 → Goes policy (codes "rule" ∷ words) → Completes policy.aggregates (rule_of policy.version) words
+rule_went : (policy : PolicyMeaning) (words : List Word) → length policy.rules < 4096 → Goes policy (codes "rule" ∷ words) → Completes policy.aggregates (rule_of policy.version) words
 rule_went policy words room g =
     ⊎_elim (λ (now : MayStand (Some policy) (codes "rule" ∷ words)).
     let read = stands_read policy (codes "rule" ∷ words) now in
@@ -117,7 +117,7 @@ rule_went policy words room g =
 abbrev aggregate_reader : List Definition → List Definition → List Word → Result Definition FaultKind
 aggregate_reader here q words = aggregate_of here words
 
-aggregate_goes : (policy : Meaning) (words : List Word) → length policy.aggregates < 256 → Completes policy.aggregates (aggregate_reader policy.aggregates) words → (more : List Word) × Goes policy (codes "aggregate" ∷ words ++ more)
+aggregate_goes : (policy : PolicyMeaning) (words : List Word) → length policy.aggregates < 256 → Completes policy.aggregates (aggregate_reader policy.aggregates) words → (more : List Word) × Goes policy (codes "aggregate" ∷ words ++ more)
 aggregate_goes policy words room c =
     ⊎_elim (λ (now : (a : Definition) × (aggregate_of policy.aggregates words ≡ Ok a)).
     let whole : aggregate_of policy.aggregates (words ++ []) ≡ Ok now.0 = ap (aggregate_of policy.aggregates) (append-nil words) ∙ now.1 in
@@ -127,7 +127,7 @@ aggregate_goes policy words room c =
     (more, inl (read_stands policy (with_aggregate policy later.3) (codes "aggregate" ∷ words ++ more) (aggregate_room policy (words ++ more) room ∙ ap (λ r. r >>= λ a. Ok (with_aggregate policy a)) later.4))))
     c
 
-aggregate_went : (policy : Meaning) (words : List Word) → length policy.aggregates < 256 → Goes policy (codes "aggregate" ∷ words) → (a : Definition) × (aggregate_of policy.aggregates words ≡ Ok a)
+aggregate_went : (policy : PolicyMeaning) (words : List Word) → length policy.aggregates < 256 → Goes policy (codes "aggregate" ∷ words) → (a : Definition) × (aggregate_of policy.aggregates words ≡ Ok a)
 aggregate_went policy words room g =
     ⊎_elim (λ (now : MayStand (Some policy) (codes "aggregate" ∷ words)).
     let read = stands_read policy (codes "aggregate" ∷ words) now in
@@ -140,7 +140,7 @@ aggregate_went policy words room g =
 regroup : (word : Word) (front : List Word) (next : Word) (more : List Word) → word ∷ (front ++ next ∷ []) ++ more ≡ word ∷ front ++ next ∷ more
 regroup word front next more = ap (λ ws. word ∷ ws) (append_assoc front (next ∷ []) more)
 
-rule_faulty : (policy : Meaning) (front rest : List Word) → length policy.rules < 4096 → IsStuck policy.aggregates (rule_of policy.version) front rest → IsFaulty (Some policy) (codes "rule" ∷ front) rest
+rule_faulty : (policy : PolicyMeaning) (front rest : List Word) → length policy.rules < 4096 → IsStuck policy.aggregates (rule_of policy.version) front rest → IsFaultyLine (Some policy) (codes "rule" ∷ front) rest
 rule_faulty policy front [] room stuck = λ stands.
     let read = stands_read policy (codes "rule" ∷ front) stands in
     let rule = rule_of_line policy read.0 front room read.1 in
@@ -149,7 +149,7 @@ rule_faulty policy front (word ∷ rest) room stuck = λ begins.
     let P : List Word → Type 0 = λ ws. Goes policy ws in
     stuck begins.0 (rule_went policy (front ++ word ∷ begins.0) room (subst P (regroup (codes "rule") front word begins.0) begins.1))
 
-aggregate_faulty : (policy : Meaning) (front rest : List Word) → length policy.aggregates < 256 → IsStuck policy.aggregates (aggregate_reader policy.aggregates) front rest → IsFaulty (Some policy) (codes "aggregate" ∷ front) rest
+aggregate_faulty : (policy : PolicyMeaning) (front rest : List Word) → length policy.aggregates < 256 → IsStuck policy.aggregates (aggregate_reader policy.aggregates) front rest → IsFaultyLine (Some policy) (codes "aggregate" ∷ front) rest
 aggregate_faulty policy front [] room stuck = λ stands.
     let read = aggregate_went policy front room (inl stands) in
     stuck read.0 read.1
@@ -157,7 +157,7 @@ aggregate_faulty policy front (word ∷ rest) room stuck = λ begins.
     let P : List Word → Type 0 = λ ws. Goes policy ws in
     stuck begins.0 (inl (aggregate_went policy (front ++ word ∷ begins.0) room (subst P (regroup (codes "aggregate") front word begins.0) begins.1)))
 
-rule_fault : (policy : Meaning) (words : List Word) (kind : FaultKind) → length policy.rules < 4096 → Place policy.aggregates (rule_parts policy.version) (rule_of policy.version) words kind → IsLineFault (Some policy) (codes "rule" ∷ words) kind
+rule_fault : (policy : PolicyMeaning) (words : List Word) (kind : FaultKind) → length policy.rules < 4096 → Place policy.aggregates (rule_parts policy.version) (rule_of policy.version) words kind → IsLineFault (Some policy) (codes "rule" ∷ words) kind
 rule_fault policy words kind room p = record {
   front = codes "rule" ∷ p.front;
   rest = p.rest;
@@ -167,7 +167,7 @@ rule_fault policy words kind room p = record {
   kind_is = kind_behind (first_word policy.version) [] (codes "rule") p.front p.rest kind p.kind_is;
 }
 
-aggregate_fault : (policy : Meaning) (words : List Word) (kind : FaultKind) → length policy.aggregates < 256 → Place policy.aggregates aggregate_parts (aggregate_reader policy.aggregates) words kind → IsLineFault (Some policy) (codes "aggregate" ∷ words) kind
+aggregate_fault : (policy : PolicyMeaning) (words : List Word) (kind : FaultKind) → length policy.aggregates < 256 → Place policy.aggregates aggregate_parts (aggregate_reader policy.aggregates) words kind → IsLineFault (Some policy) (codes "aggregate" ∷ words) kind
 aggregate_fault policy words kind room p =
     let goes = aggregate_goes policy (p.front ++ p.begun.0) room p.begun.1 in
     let P : List Word → Type 0 = λ ws. Goes policy (codes "aggregate" ∷ ws) in
@@ -180,7 +180,7 @@ aggregate_fault policy words kind room p =
       kind_is = kind_behind (first_word policy.version) [] (codes "aggregate") p.front p.rest kind p.kind_is;
     }
 
-first_word_fault : (policy : Meaning) (word : Word) (words : List Word) (kind : FaultKind) → ((more : List Word) → line_of policy (word ∷ more) ≡ Err kind) → ((a : Definition) (more : List Word) (new : Meaning) → AddsRule (with_aggregate policy a) (word ∷ more) new → ⊥) → IsKindOf (first_word policy.version) word kind → IsLineFault (Some policy) (word ∷ words) kind
+first_word_fault : (policy : PolicyMeaning) (word : Word) (words : List Word) (kind : FaultKind) → ((more : List Word) → line_of policy (word ∷ more) ≡ Err kind) → ((a : Definition) (more : List Word) (new : PolicyMeaning) → AddsRule (with_aggregate policy a) (word ∷ more) new → ⊥) → IsKindOf (first_word policy.version) word kind → IsLineFault (Some policy) (word ∷ words) kind
 first_word_fault policy word words kind fails no_rule kind_is = record {
   front = [];
   rest = word ∷ words;
@@ -196,7 +196,7 @@ first_word_fault policy word words kind fails no_rule kind_is = record {
 }
 
 -- one line
-rule_line_fault : (policy : Meaning) (words : List Word) (kind : FaultKind) → IsPolicy policy → line_of policy (codes "rule" ∷ words) ≡ Err kind → IsLineFault (Some policy) (codes "rule" ∷ words) kind
+rule_line_fault : (policy : PolicyMeaning) (words : List Word) (kind : FaultKind) → IsPolicy policy → line_of policy (codes "rule" ∷ words) ≡ Err kind → IsLineFault (Some policy) (codes "rule" ∷ words) kind
 rule_line_fault policy words kind valid e =
     ⊎_elim (λ (full : leb 4096 (length policy.rules) ≡ true).
     let many = leb-true 4096 (length policy.rules) full in
@@ -210,7 +210,7 @@ rule_line_fault policy words kind valid e =
     (bound_err (rule_of policy.version policy.aggregates words) (λ r. Ok (with_rule policy r)) kind (sym (rule_room policy words room) ∙ e)))
     (cases_Bool (leb 4096 (length policy.rules)))
 
-aggregate_line_fault : (policy : Meaning) (words : List Word) (kind : FaultKind) → line_of policy (codes "aggregate" ∷ words) ≡ Err kind → IsLineFault (Some policy) (codes "aggregate" ∷ words) kind
+aggregate_line_fault : (policy : PolicyMeaning) (words : List Word) (kind : FaultKind) → line_of policy (codes "aggregate" ∷ words) ≡ Err kind → IsLineFault (Some policy) (codes "aggregate" ∷ words) kind
 aggregate_line_fault policy words kind e =
     ⊎_elim (λ (full : leb 256 (length policy.aggregates) ≡ true).
     let many = leb-true 256 (length policy.aggregates) full in
@@ -224,13 +224,13 @@ aggregate_line_fault policy words kind e =
     (bound_err (aggregate_of policy.aggregates words) (λ a. Ok (with_aggregate policy a)) kind (sym (aggregate_room policy words room) ∙ e)))
     (cases_Bool (leb 256 (length policy.aggregates)))
 
-other_line_fault : (policy : Meaning) (word : Word) (words : List Word) (kind : FaultKind) → bytes_eq word (codes "rule") ≡ false → bytes_eq word (codes "aggregate") ≡ false → line_of policy (word ∷ words) ≡ Err kind → IsLineFault (Some policy) (word ∷ words) kind
+other_line_fault : (policy : PolicyMeaning) (word : Word) (words : List Word) (kind : FaultKind) → bytes_eq word (codes "rule") ≡ false → bytes_eq word (codes "aggregate") ≡ false → line_of policy (word ∷ words) ≡ Err kind → IsLineFault (Some policy) (word ∷ words) kind
 other_line_fault policy word words kind r a e =
     let same = same_Err UnknownWord kind (sym (unknown_word policy word words r a) ∙ e) in
     let P : FaultKind → Type 0 = λ k. IsLineFault (Some policy) (word ∷ words) k in
     subst P same (first_word_fault policy word words UnknownWord (λ more. unknown_word policy word more r a) (λ b more new adds. rule_first word more adds.tail r adds.words_are) (rw (r, a) refl))
 
-pub line_fault : (policy : Meaning) (words : List Word) (kind : FaultKind) → IsPolicy policy → is_skipped words ≡ false → line_of policy words ≡ Err kind → IsLineFault (Some policy) words kind
+pub line_fault : (policy : PolicyMeaning) (words : List Word) (kind : FaultKind) → IsPolicy policy → is_skipped words ≡ false → line_of policy words ≡ Err kind → IsLineFault (Some policy) words kind
 line_fault policy [] kind valid counts e = absurd (false≢true (sym counts))
 line_fault policy (word ∷ words) kind valid counts e =
     let P : Word → Type 0 = λ w. line_of policy (w ∷ words) ≡ Err kind → IsLineFault (Some policy) (w ∷ words) kind in
@@ -324,9 +324,9 @@ header_fault (word ∷ next ∷ words) counts e =
     (cases_Bool (bytes_eq word (codes "policy")))
 
 -- the lines: a line keeps that the policy is one that a text may spell
-pub adds_kept : (p q : Meaning) (words : List Word) → IsPolicy p → AfterLine p words q → IsPolicy q
+pub adds_kept : (p q : PolicyMeaning) (words : List Word) → IsPolicy p → AfterLine p words q → IsPolicy q
 adds_kept p q words valid h =
-    let P : Meaning → Type 0 = λ m. IsPolicy m in
+    let P : PolicyMeaning → Type 0 = λ m. IsPolicy m in
     ⊎_elim (λ (skip : (is_skipped words ≡ true) × (p ≡ q)). subst P skip.1 valid)
     (λ (kept : (is_skipped words ≡ false) × (AddsRule p words q ⊎ AddsAggregate p words q)).
     ⊎_elim (λ (r : AddsRule p words q). subst P r.added (with_rule-kept p r.rule valid r.spelled.sound r.room))
@@ -335,18 +335,18 @@ adds_kept p q words valid h =
     h
 
 -- a fault of one of these lines, which stand after those that spell what S says
-record FaultIn (S : List (List ℕ) → Option Meaning → Type 0) (n : ℕ) (lines : List (List ℕ)) (fault : PolicyFault) : Type 0 where
+record FaultIn (S : List (List ℕ) → Option PolicyMeaning → Type 0) (n : ℕ) (lines : List (List ℕ)) (fault : Fault) : Type 0 where
   before : List (List ℕ)
   line : List ℕ
   others : List (List ℕ)
-  so_far : Option Meaning
+  so_far : Option PolicyMeaning
   lines_are : lines ≡ before ++ line ∷ others
   number_is : fault.line ≡ n + length before
   spelled : S before so_far
   counts : is_skipped (words_of line) ≡ false
   fault_is : IsLineFault so_far (words_of line) fault.kind
 
-later_line : (S T : List (List ℕ) → Option Meaning → Type 0) (n : ℕ) (line : List ℕ) (lines : List (List ℕ)) (fault : PolicyFault) → ((before : List (List ℕ)) (so_far : Option Meaning) → S before so_far → T (line ∷ before) so_far) → FaultIn S (n + 1) lines fault → FaultIn T n (line ∷ lines) fault
+later_line : (S T : List (List ℕ) → Option PolicyMeaning → Type 0) (n : ℕ) (line : List ℕ) (lines : List (List ℕ)) (fault : Fault) → ((before : List (List ℕ)) (so_far : Option PolicyMeaning) → S before so_far → T (line ∷ before) so_far) → FaultIn S (n + 1) lines fault → FaultIn T n (line ∷ lines) fault
 later_line S T n line lines fault onto f =
     let number = f.number_is in
     record {
@@ -361,9 +361,9 @@ later_line S T n line lines fault onto f =
       fault_is = f.fault_is;
     }
 
-this_line : (S : List (List ℕ) → Option Meaning → Type 0) (n : ℕ) (line : List ℕ) (lines : List (List ℕ)) (fault : PolicyFault) (kind : FaultKind) (so_far : Option Meaning) → record { line = n; kind = kind } ≡ fault → S [] so_far → is_skipped (words_of line) ≡ false → IsLineFault so_far (words_of line) kind → FaultIn S n (line ∷ lines) fault
+this_line : (S : List (List ℕ) → Option PolicyMeaning → Type 0) (n : ℕ) (line : List ℕ) (lines : List (List ℕ)) (fault : Fault) (kind : FaultKind) (so_far : Option PolicyMeaning) → record { line = n; kind = kind } ≡ fault → S [] so_far → is_skipped (words_of line) ≡ false → IsLineFault so_far (words_of line) kind → FaultIn S n (line ∷ lines) fault
 this_line S n line lines fault kind so_far same spelled counts f =
-    let P : PolicyFault → Type 0 = λ x. FaultIn S n (line ∷ lines) x in
+    let P : Fault → Type 0 = λ x. FaultIn S n (line ∷ lines) x in
     subst P same (record {
       before = [];
       line = line;
@@ -377,29 +377,29 @@ this_line S n line lines fault kind so_far same spelled counts f =
     })
 
 -- the lines that lead from a policy
-abbrev LeadTo : Meaning → List (List ℕ) → Option Meaning → Type 0
+abbrev LeadTo : PolicyMeaning → List (List ℕ) → Option PolicyMeaning → Type 0
 LeadTo p lines None = ⊥
 LeadTo p lines (Some q) = AreLines p lines q
 
-lead_on : (p mid : Meaning) (line : List ℕ) → AfterLine p (words_of line) mid → (before : List (List ℕ)) (so_far : Option Meaning) → LeadTo mid before so_far → LeadTo p (line ∷ before) so_far
+lead_on : (p mid : PolicyMeaning) (line : List ℕ) → AfterLine p (words_of line) mid → (before : List (List ℕ)) (so_far : Option PolicyMeaning) → LeadTo mid before so_far → LeadTo p (line ∷ before) so_far
 lead_on p mid line h before None lead = lead
 lead_on p mid line h before (Some q) lead = (mid, h, lead)
 
-record LineFailed (p : Meaning) (line : List ℕ) (kind : FaultKind) : Type 0 where
+record LineFailed (p : PolicyMeaning) (line : List ℕ) (kind : FaultKind) : Type 0 where
   counts : is_skipped (words_of line) ≡ false
   failed : line_of p (words_of line) ≡ Err kind
 
-line_failed : (p : Meaning) (line : List ℕ) (kind : FaultKind) → line_step (Some p) line ≡ Err kind → LineFailed p line kind
+line_failed : (p : PolicyMeaning) (line : List ℕ) (kind : FaultKind) → line_step (Some p) line ≡ Err kind → LineFailed p line kind
 unfolding line_step step
 line_failed p line kind e =
     ⊎_elim (λ (skip : is_skipped (words_of line) ≡ true). absurd (Err-Ok kind (Some p) (sym (rw skip at e))))
     (λ (kept : is_skipped (words_of line) ≡ false).
     ⊎_elim (λ (failed : line_of p (words_of line) ≡ Err kind). record { counts = kept; failed = failed })
-    (λ (read : (q : Meaning) × (line_of p (words_of line) ≡ Ok q) × (Ok (Some q) ≡ Err kind)). absurd (Err-Ok kind (Some read.0) (sym read.2)))
+    (λ (read : (q : PolicyMeaning) × (line_of p (words_of line) ≡ Ok q) × (Ok (Some q) ≡ Err kind)). absurd (Err-Ok kind (Some read.0) (sym read.2)))
     (bound_err (line_of p (words_of line)) (λ q. Ok (Some q)) kind (rw kept at e)))
     (cases_Bool (is_skipped (words_of line)))
 
-lines_by : (p : Meaning) (n : ℕ) (line : List ℕ) (lines : List (List ℕ)) (fault : PolicyFault) → IsPolicy p → ((q : Meaning) → IsPolicy q → read_lines (Some q) (n + 1) lines ≡ Err fault → FaultIn (LeadTo q) (n + 1) lines fault) → (r : Result (Option Meaning) FaultKind) → line_step (Some p) line ≡ r → then_read (at_line n r) (λ x. read_lines x (n + 1) lines) ≡ Err fault → FaultIn (LeadTo p) n (line ∷ lines) fault
+lines_by : (p : PolicyMeaning) (n : ℕ) (line : List ℕ) (lines : List (List ℕ)) (fault : Fault) → IsPolicy p → ((q : PolicyMeaning) → IsPolicy q → read_lines (Some q) (n + 1) lines ≡ Err fault → FaultIn (LeadTo q) (n + 1) lines fault) → (r : Result (Option PolicyMeaning) FaultKind) → line_step (Some p) line ≡ r → then_read (at_line n r) (λ x. read_lines x (n + 1) lines) ≡ Err fault → FaultIn (LeadTo p) n (line ∷ lines) fault
 lines_by p n line lines fault valid later (Ok x) stepped e =
     let read = line_step-found p line x stepped in
     later_line (LeadTo read.mid) (LeadTo p) n line lines fault (lead_on p read.mid line read.line_is)
@@ -409,20 +409,20 @@ lines_by p n line lines fault valid later (Err kind) stepped e =
     this_line (LeadTo p) n line lines fault kind (Some p) (same_Err (record { line = n; kind = kind }) fault e) refl failed.counts
     (line_fault p (words_of line) kind valid failed.counts failed.failed)
 
-lines_fault : (p : Meaning) (n : ℕ) (lines : List (List ℕ)) (fault : PolicyFault) → IsPolicy p → read_lines (Some p) n lines ≡ Err fault → FaultIn (LeadTo p) n lines fault
+lines_fault : (p : PolicyMeaning) (n : ℕ) (lines : List (List ℕ)) (fault : Fault) → IsPolicy p → read_lines (Some p) n lines ≡ Err fault → FaultIn (LeadTo p) n lines fault
 lines_fault p n [] fault valid e = absurd (Err-Ok fault p (sym e ∙ read_lines-done p n))
 lines_fault p n (line ∷ lines) fault valid e =
     lines_by p n line lines fault valid (λ q kept f. lines_fault q (n + 1) lines fault kept f) (line_step (Some p) line) refl (sym (read_lines-cons (Some p) n line lines) ∙ e)
 
 -- the same before the header
-abbrev NoLines : List (List ℕ) → PolicyFault → Type 0
+abbrev NoLines : List (List ℕ) → Fault → Type 0
 NoLines lines fault = SpellSoFar lines None × (fault ≡ record { line = 1; kind = NoHeader })
 
-skip_on : (line : List ℕ) → is_skipped (words_of line) ≡ true → (before : List (List ℕ)) (so_far : Option Meaning) → SpellSoFar before so_far → SpellSoFar (line ∷ before) so_far
+skip_on : (line : List ℕ) → is_skipped (words_of line) ≡ true → (before : List (List ℕ)) (so_far : Option PolicyMeaning) → SpellSoFar before so_far → SpellSoFar (line ∷ before) so_far
 skip_on line skip before None h = (skip, h)
 skip_on line skip before (Some q) h = inl (skip, h)
 
-header_on : (line : List ℕ) (version : Version) → is_skipped (words_of line) ≡ false → words_of line ≡ header version → (before : List (List ℕ)) (so_far : Option Meaning) → LeadTo (without_lines version) before so_far → SpellSoFar (line ∷ before) so_far
+header_on : (line : List ℕ) (version : Version) → is_skipped (words_of line) ≡ false → words_of line ≡ header version → (before : List (List ℕ)) (so_far : Option PolicyMeaning) → LeadTo (without_lines version) before so_far → SpellSoFar (line ∷ before) so_far
 header_on line version kept is before None h = absurd h
 header_on line version kept is before (Some q) h = inr (kept, version, is, h)
 
@@ -431,7 +431,7 @@ record HeaderFailed (line : List ℕ) (kind : FaultKind) : Type 0 where
   failed : version_of (words_of line) ≡ None
   kind_is : NoHeader ≡ kind
 
-abbrev some_policy : Meaning → Result (Option Meaning) FaultKind
+abbrev some_policy : PolicyMeaning → Result (Option PolicyMeaning) FaultKind
 some_policy q = Ok (Some q)
 
 header_by : (kind : FaultKind) (o : Option Version) → (after_header o >>= some_policy) ≡ Err kind → (o ≡ None) × (NoHeader ≡ kind)
@@ -447,7 +447,7 @@ header_failed line kind e =
     record { counts = kept; failed = h.0; kind_is = h.1 })
     (cases_Bool (is_skipped (words_of line)))
 
-all_by : (n : ℕ) (line : List ℕ) (lines : List (List ℕ)) (fault : PolicyFault) → (read_lines None (n + 1) lines ≡ Err fault → FaultIn SpellSoFar (n + 1) lines fault ⊎ NoLines lines fault) → (r : Result (Option Meaning) FaultKind) → line_step None line ≡ r → then_read (at_line n r) (λ x. read_lines x (n + 1) lines) ≡ Err fault → FaultIn SpellSoFar n (line ∷ lines) fault ⊎ NoLines (line ∷ lines) fault
+all_by : (n : ℕ) (line : List ℕ) (lines : List (List ℕ)) (fault : Fault) → (read_lines None (n + 1) lines ≡ Err fault → FaultIn SpellSoFar (n + 1) lines fault ⊎ NoLines lines fault) → (r : Result (Option PolicyMeaning) FaultKind) → line_step None line ≡ r → then_read (at_line n r) (λ x. read_lines x (n + 1) lines) ≡ Err fault → FaultIn SpellSoFar n (line ∷ lines) fault ⊎ NoLines (line ∷ lines) fault
 all_by n line lines fault later (Ok x) stepped e =
     let read = header-found line x stepped in
     ⊎_elim (λ (skip : (is_skipped (words_of line) ≡ true) × (None ≡ x)).
@@ -465,13 +465,13 @@ all_by n line lines fault later (Err kind) stepped e =
     inl (this_line SpellSoFar n line lines fault kind None (same_Err (record { line = n; kind = kind }) fault e) tt failed.counts
     (subst P failed.kind_is (header_fault (words_of line) failed.counts failed.failed)))
 
-all_fault : (n : ℕ) (lines : List (List ℕ)) (fault : PolicyFault) → read_lines None n lines ≡ Err fault → FaultIn SpellSoFar n lines fault ⊎ NoLines lines fault
+all_fault : (n : ℕ) (lines : List (List ℕ)) (fault : Fault) → read_lines None n lines ≡ Err fault → FaultIn SpellSoFar n lines fault ⊎ NoLines lines fault
 all_fault n [] fault e = inr (tt, same_Err fault (record { line = 1; kind = NoHeader }) (sym e ∙ read_lines-empty n))
 all_fault n (line ∷ lines) fault e =
     all_by n line lines fault (λ f. all_fault (n + 1) lines fault f) (line_step None line) refl (sym (read_lines-cons None n line lines) ∙ e)
 
 -- a text's fault is its first fault
-pub fault_found : (text : List ℕ) (fault : PolicyFault) → policy_of text ≡ Err fault → IsFirstFault text fault
+pub fault_found : (text : List ℕ) (fault : Fault) → policy_of text ≡ Err fault → IsFirstFault text fault
 unfolding policy_of
 fault_found text fault e =
     ⊎_elim (λ (f : FaultIn SpellSoFar 1 (lines_of text) fault).

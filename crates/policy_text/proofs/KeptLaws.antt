@@ -11,7 +11,7 @@ use Rattle.policy_text.specs.declared.rule.Action.TheVariants.{Pass, Withhold, A
 use Rattle.policy_text.specs.declared.version.Version.{Version}
 use Rattle.policy_text.specs.declared.version.Version.TheVariants.{One}
 use Rattle.policy_text.specs.Words.{Word}
-use Rattle.policy_text.specs.Policies.{Meaning, without_lines, nothing, with_rule, with_aggregate, Aggregate as Definition}
+use Rattle.policy_text.specs.Policies.{PolicyMeaning, without_lines, nothing, with_rule, with_aggregate, Aggregate as Definition}
 use Rattle.policy_text.specs.Classes.{place_of}
 use Rattle.policy_text.specs.Grammar.{name_at, IsAction, IsRule, IsAggregate, AreAggregates, AreRules, IsPolicy}
 use Rattle.policy_text.proofs.WordLaws.{position-place}
@@ -26,7 +26,7 @@ rules_push : (version : Version) (aggregates : List Definition) (rules : List Ru
 rules_push version aggregates [] r h k = (k, tt)
 rules_push version aggregates (x ∷ rules) r h k = (h.0, rules_push version aggregates rules r h.1 k)
 
-pub with_rule-kept : (p : Meaning) (r : Rule) → IsPolicy p → IsRule p.version p.aggregates r → length p.rules < 4096 → IsPolicy (with_rule p r)
+pub with_rule-kept : (p : PolicyMeaning) (r : Rule) → IsPolicy p → IsRule p.version p.aggregates r → length p.rules < 4096 → IsPolicy (with_rule p r)
 with_rule-kept p r h k room = record {
   aggregates = h.aggregates;
   rules = rules_push p.version p.aggregates p.rules r h.rules k;
@@ -72,7 +72,7 @@ rules_kept version xs a [] h = tt
 rules_kept version xs a (r ∷ rules) h =
     (record { who = h.0.who; domain = h.0.domain; from = h.0.from; to = h.0.to; element = h.0.element; action = action_kept version xs a r.element r.action h.0.action }, rules_kept version xs a rules h.1)
 
-pub with_aggregate-kept : (p : Meaning) (a : Definition) → IsPolicy p → IsAggregate p.aggregates a → length p.aggregates < 256 → IsPolicy (with_aggregate p a)
+pub with_aggregate-kept : (p : PolicyMeaning) (a : Definition) → IsPolicy p → IsAggregate p.aggregates a → length p.aggregates < 256 → IsPolicy (with_aggregate p a)
 with_aggregate-kept p a h k room = record {
   aggregates = aggregates_push [] p.aggregates a h.aggregates k;
   rules = rules_kept p.version p.aggregates a p.rules h.rules;

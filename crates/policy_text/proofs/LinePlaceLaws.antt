@@ -18,11 +18,11 @@ use Rattle.policy_text.specs.Words.{Word}
 use Rattle.policy_text.specs.Naming.{is_name}
 use Rattle.policy_text.specs.Policies.{has_degrade, Aggregate as Definition}
 use Rattle.policy_text.specs.Classes.{name, number, element, prefix, star, or_star, with_key, key_of, width_at, is_time_at, aggregate_place, new_name, interval, bits_within}
-use Rattle.policy_text.specs.Lines.{next_of, next, ended, truncate_of, degrade_of, element_action, aggregate_action, on_element, action_of, rule_of, aggregate_of}
+use Rattle.policy_text.specs.Lines.{next_of, next, end_of_words, truncate_of, degrade_of, element_action, aggregate_action, on_element, action_of, rule_of, aggregate_of}
 use Rattle.policy_text.specs.Grammar.{IsAggregate, AreAggregates}
 use Rattle.policy_text.specs.Printing.{key_text}
-use Rattle.policy_text.specs.LineParts.{Part, parts_after, rule_parts, aggregate_parts}
-use Rattle.policy_text.specs.LineParts.Part.{keyword, who, domain, network, action, known_name, element_or_star, treatment, bits, unused_name, key_list, seconds}
+use Rattle.policy_text.specs.LineParts.{LinePart, parts_after, rule_parts, aggregate_parts}
+use Rattle.policy_text.specs.LineParts.LinePart.{keyword, who, domain, network, action, known_name, element_or_star, treatment, bits, unused_name, key_list, seconds}
 use Rattle.policy_text.proofs.KeyStepLaws.{as_key}
 use Rattle.policy_text.proofs.PrintedClassLaws.{or_star-star, new_name-printed, number-printed, interval-printed, bits-printed, key-printed}
 use Rattle.policy_text.proofs.SoundLaws.{rule_action, rule_to, rule_behind_from, rule_from, rule_behind_domain, rule_domain, rule_behind_who, rule_who, aggregate_end, aggregate_grace, aggregate_behind_interval, aggregate_interval, aggregate_behind_key, aggregate_key, aggregate_behind_name}
@@ -32,14 +32,14 @@ use Rattle.policy_text.proofs.FreshLaws.{fresh_name}
 
 -- the end of a line behind an action
 abbrev finish : {X B : Type 0} → (X → B) → X × List Word → Result B FaultKind
-finish make done = ended done.1 >>= λ nothing_more. Ok (make done.0)
+finish make done = end_of_words done.1 >>= λ nothing_more. Ok (make done.0)
 
 -- what is said of one word holds of a word that is equal
 at_word : (P : Word → Type 0) (word key : Word) → bytes_eq word key ≡ true → P key → P word
 at_word P word key t h = subst P (sym ((bytes_eq-Decides word key).0 t)) h
 
 -- what a branch of a word claims
-abbrev Branch : {B : Type 0} → List Definition → Part → List Part → Reader B → Word → Type 0
+abbrev Branch : {B : Type 0} → List Definition → LinePart → List LinePart → Reader B → Word → Type 0
 Branch here part parts read word = IsDead here part read word ⊎ Reads here (parts_after part word parts) (behind read word)
 
 -- behind `element ELEM`
@@ -109,7 +109,7 @@ treatment_branch {B} here version e make word =
     (cases_Bool (bytes_eq word (codes "keep")))
 
 treatment_reads : {B : Type 0} (here : List Definition) (version : Version) (e : Option Element) (make : Option Element × Action → B) → Reads here (treatment version ∷ []) (treated version e make)
-unfolding element_action next_of ended
+unfolding element_action next_of end_of_words
 treatment_reads here version e make = word_step here (treatment version) [] (treated version e make) refl (codes "keep" ∷ [], inl (make (e, Keep), refl)) (treatment_branch here version e make)
 
 -- behind `element`
@@ -134,7 +134,7 @@ counted-nil : {B : Type 0} (make : Option Element × Action → B) (q : List Def
 unfolding aggregate_action next next_of
 counted-nil make q = refl
 
-counted-ok : {B : Type 0} (make : Option Element × Action → B) (q : List Definition) (word : Word) (words : List Word) (place : ℕ) → aggregate_place q word ≡ Ok place → counted make q (word ∷ words) ≡ (ended words >>= λ done. Ok (make (None, Aggregate place)))
+counted-ok : {B : Type 0} (make : Option Element × Action → B) (q : List Definition) (word : Word) (words : List Word) (place : ℕ) → aggregate_place q word ≡ Ok place → counted make q (word ∷ words) ≡ (end_of_words words >>= λ done. Ok (make (None, Aggregate place)))
 unfolding aggregate_action next next_of
 counted-ok make q word words place e = rw e refl
 
@@ -142,8 +142,8 @@ counted-err : {B : Type 0} (make : Option Element × Action → B) (q : List Def
 unfolding aggregate_action next next_of
 counted-err make q word words kind e = rw e refl
 
-not_ended : {B : Type 0} (words : List Word) (last : Word) (x y : B) → (ended (words ++ last ∷ []) >>= λ done. Ok x) ≡ Ok y → ⊥
-unfolding ended
+not_ended : {B : Type 0} (words : List Word) (last : Word) (x y : B) → (end_of_words (words ++ last ∷ []) >>= λ done. Ok x) ≡ Ok y → ⊥
+unfolding end_of_words
 not_ended [] last x y e = Err-Ok UnknownWord y e
 not_ended (word ∷ words) last x y e = Err-Ok UnknownWord y e
 
@@ -197,7 +197,7 @@ own_place a rest named =
     rw (named, same, lt-ltb 0 (length (a ∷ rest)) (omega arith)) refl
 
 counted_opens : {B : Type 0} (here : List Definition) (make : Option Element × Action → B) → AreAggregates [] here → (words : List Word) × Completes here (counted make) words
-unfolding ended
+unfolding end_of_words
 counted_opens [] make valid = ([], inr (refl, example, example_sound, make (None, Aggregate 0), counted-ok make (example ∷ []) example.name [] 0 (own_place example [] example_sound.name)))
 counted_opens (a ∷ rest) make valid = (a.name ∷ [], inl (make (None, Aggregate 0), counted-ok make (a ∷ rest) a.name [] 0 (own_place a rest valid.0.name)))
 
@@ -230,7 +230,7 @@ action_branch {B} here version make valid word =
     (cases_Bool (bytes_eq word (codes "pass")))
 
 action_reads : {B : Type 0} (here : List Definition) (version : Version) (make : Option Element × Action → B) → AreAggregates [] here → Reads here (action version ∷ []) (acted version make)
-unfolding action_of next_of ended
+unfolding action_of next_of end_of_words
 action_reads here version make valid = word_step here (action version) [] (acted version make) refl (codes "pass" ∷ [], inl (make (None, Pass), refl)) (action_branch here version make valid)
 
 -- the words behind `rule`

@@ -8,10 +8,10 @@ use Rattle.sequences.proofs.ResultLaws.{same_Err, Err-Ok}
 use Rattle.sequences.specs.Results.{◌>>=◌}
 use Rattle.policy_text.specs.declared.fault.FaultKind.{FaultKind}
 use Rattle.policy_text.specs.declared.fault.FaultKind.TheVariants.{NoHeader, BadName, BadKey}
-use Rattle.policy_text.specs.declared.fault.PolicyFault.{PolicyFault}
+use Rattle.policy_text.specs.declared.fault.Fault.{Fault}
 use Rattle.policy_text.specs.declared.version.Version.{Version}
 use Rattle.policy_text.specs.Words.{Word, words_of, lines_of, is_skipped}
-use Rattle.policy_text.specs.Policies.{Meaning, without_lines}
+use Rattle.policy_text.specs.Policies.{PolicyMeaning, without_lines}
 use Rattle.policy_text.specs.Results.{at_line, then_read, Parses, is_memory}
 use Rattle.policy_text.specs.Classes.{element, with_key, add_piece, add_pieces, key_of}
 use Rattle.policy_text.specs.Lines.{line_of}
@@ -19,9 +19,9 @@ use Rattle.policy_text.specs.Parsing.{version_of, step, line_step, read_lines, p
 use Rattle.policy_text.specs.Grammar.{IsKey, IsPolicy}
 use Rattle.policy_text.specs.Printing.{header}
 use Rattle.policy_text.specs.Spelling.{AreLines, AreAllLines, Spells}
-use Rattle.policy_text.specs.LineParts.{Part, part_behind, IsKeyFault, IsKindOf}
-use Rattle.policy_text.specs.FirstFault.{MayStand, AwaitsAggregate, Begins, IsKind, IsFaulty, IsLineFault, SpellSoFar, IsFaultAt, IsFirstFault, FirstFault, PolicyOrFault}
-use Rattle.policy_text.specs.LineParts.Part.{first_word, keyword, who, domain, network, action, known_name, element_or_star, treatment, bits, unused_name, key_list, seconds, line_end}
+use Rattle.policy_text.specs.LineParts.{LinePart, part_behind, IsKeyFault, IsKindOf}
+use Rattle.policy_text.specs.FirstFault.{MayStand, AwaitsAggregate, Begins, IsKind, IsFaultyLine, IsLineFault, SpellSoFar, IsFaultAt, IsFirstFault, FirstFault, PolicyOrFault}
+use Rattle.policy_text.specs.LineParts.LinePart.{first_word, keyword, who, domain, network, action, known_name, element_or_star, treatment, bits, unused_name, key_list, seconds, line_end}
 use Rattle.policy_text.proofs.ParsingLaws.{read_lines-cons, read_lines-empty}
 use Rattle.policy_text.proofs.KeptLaws.{IsPolicy-without_lines}
 use Rattle.policy_text.proofs.KeyStepLaws.{IsKeyAfter, as_key, step_by_step}
@@ -69,7 +69,7 @@ key_fault_read word kind f =
     f.faulty
 
 -- a faulty word has one kind
-one_kind_of : (part : Part) (word : Word) (k l : FaultKind) → IsKindOf part word k → IsKindOf part word l → k ≡ l
+one_kind_of : (part : LinePart) (word : Word) (k l : FaultKind) → IsKindOf part word k → IsKindOf part word l → k ≡ l
 one_kind_of (first_word version) word k l f g = f ∙ sym g
 one_kind_of keyword word k l f g = f ∙ sym g
 one_kind_of who word k l f g = f ∙ sym g
@@ -85,7 +85,7 @@ one_kind_of key_list word k l f g = same_Err k l (sym (key_fault_read word k f) 
 one_kind_of seconds word k l f g = f ∙ sym g
 one_kind_of line_end word k l f g = f ∙ sym g
 
-one_kind : (so_far : Option Meaning) (front rest : List Word) (k l : FaultKind) → IsKind so_far front rest k → IsKind so_far front rest l → k ≡ l
+one_kind : (so_far : Option PolicyMeaning) (front rest : List Word) (k l : FaultKind) → IsKind so_far front rest k → IsKind so_far front rest l → k ≡ l
 one_kind None front rest k l f g = f ∙ sym g
 one_kind (Some policy) front [] k l f g = f ∙ sym g
 one_kind (Some policy) front (word ∷ rest) k l f g = one_kind_of (part_behind (first_word policy.version ∷ []) front) word k l f g
@@ -141,20 +141,20 @@ no_cons [] word more e = let same : length (word ∷ more) ≡ 0 = ap length e i
 no_cons (w ∷ front) word more e = let same : length (w ∷ (front ++ word ∷ more)) ≡ 0 = ap length e in omega (arith, same)
 
 -- what begins at more words begins at fewer
-begins_shorter : (so_far : Option Meaning) (front : List Word) (word : Word) (more : List Word) → Begins so_far (front ++ word ∷ more) → Begins so_far (front ++ word ∷ [])
+begins_shorter : (so_far : Option PolicyMeaning) (front : List Word) (word : Word) (more : List Word) → Begins so_far (front ++ word ∷ more) → Begins so_far (front ++ word ∷ [])
 begins_shorter so_far front word more h =
     let P : List Word → Type 0 = λ ws. MayStand so_far ws ⊎ AwaitsAggregate so_far ws in
     (more ++ h.0, subst P (append_assoc front (word ∷ more) h.0 ∙ sym (append_assoc front (word ∷ []) (more ++ h.0))) h.1)
 
-not_longer : (so_far : Option Meaning) (long front rest : List Word) → Longer long front rest → (long ≡ []) ⊎ Begins so_far long → IsFaulty so_far front rest → ⊥
+not_longer : (so_far : Option PolicyMeaning) (long front rest : List Word) → Longer long front rest → (long ≡ []) ⊎ Begins so_far long → IsFaultyLine so_far front rest → ⊥
 not_longer so_far long front rest l begun faulty =
-    let P : List Word → Type 0 = λ ws. IsFaulty so_far front ws in
+    let P : List Word → Type 0 = λ ws. IsFaultyLine so_far front ws in
     let Q : List Word → Type 0 = λ ws. Begins so_far ws in
     ⊎_elim (λ (none : long ≡ []). no_cons front l.word l.more (sym l.long_is ∙ none))
     (λ (begins : Begins so_far long). subst P l.rest_is faulty (begins_shorter so_far front l.word l.more (subst Q l.long_is begins)))
     begun
 
-one_line_fault : (so_far : Option Meaning) (words : List Word) (k l : FaultKind) → IsLineFault so_far words k → IsLineFault so_far words l → k ≡ l
+one_line_fault : (so_far : Option PolicyMeaning) (words : List Word) (k l : FaultKind) → IsLineFault so_far words k → IsLineFault so_far words l → k ≡ l
 one_line_fault so_far words k l a b =
     ⊎_elim (λ (p : SamePlace a.front a.rest b.front b.rest).
     let P : List Word → Type 0 = λ front. IsKind so_far front b.rest k in
@@ -167,14 +167,14 @@ one_line_fault so_far words k l a b =
     (places a.front a.rest b.front b.rest (sym a.words_are ∙ b.words_are))
 
 -- a faulty line is none that may stand
-not_standing : (so_far : Option Meaning) (front rest : List Word) → IsFaulty so_far front rest → MayStand so_far (front ++ rest) → ⊥
+not_standing : (so_far : Option PolicyMeaning) (front rest : List Word) → IsFaultyLine so_far front rest → MayStand so_far (front ++ rest) → ⊥
 not_standing so_far front [] faulty stands = let P : List Word → Type 0 = λ ws. MayStand so_far ws in faulty (subst P (append-nil front) stands)
 not_standing so_far front (word ∷ rest) faulty stands = let P : List Word → Type 0 = λ ws. MayStand so_far ws in faulty (rest, inl (subst P (sym (append_assoc front (word ∷ []) rest)) stands))
 
-faulty_line : (so_far : Option Meaning) (words : List Word) (kind : FaultKind) → IsLineFault so_far words kind → MayStand so_far words → ⊥
+faulty_line : (so_far : Option PolicyMeaning) (words : List Word) (kind : FaultKind) → IsLineFault so_far words kind → MayStand so_far words → ⊥
 faulty_line so_far words kind f stands = let P : List Word → Type 0 = λ ws. MayStand so_far ws in not_standing so_far f.front f.rest f.faulty (subst P f.words_are stands)
 
-line_refused : (policy : Meaning) (words : List Word) (kind : FaultKind) → IsPolicy policy → is_skipped words ≡ false → IsLineFault (Some policy) words kind → (r : Result Meaning FaultKind) → line_of policy words ≡ r → line_of policy words ≡ Err kind
+line_refused : (policy : PolicyMeaning) (words : List Word) (kind : FaultKind) → IsPolicy policy → is_skipped words ≡ false → IsLineFault (Some policy) words kind → (r : Result PolicyMeaning FaultKind) → line_of policy words ≡ r → line_of policy words ≡ Err kind
 line_refused policy words kind valid counts f (Ok new) e = absurd (faulty_line (Some policy) words kind f (read_stands policy new words e))
 line_refused policy words kind valid counts f (Err k) e = e ∙ ap (λ (l : FaultKind). Err l) (one_line_fault (Some policy) words k kind (line_fault policy words k valid counts e) f)
 
@@ -186,13 +186,13 @@ header_refused words kind f = by_answer (version_of words) refl
     by_answer (Some version) e = absurd (faulty_line None words kind f (version, version_of-is words version e))
 
 -- the lines before the faulty one are read
-line_read : (so_far next : Option Meaning) (n : ℕ) (line : List ℕ) (lines : List (List ℕ)) → line_step so_far line ≡ Ok next → read_lines so_far n (line ∷ lines) ≡ read_lines next (n + 1) lines
+line_read : (so_far next : Option PolicyMeaning) (n : ℕ) (line : List ℕ) (lines : List (List ℕ)) → line_step so_far line ≡ Ok next → read_lines so_far n (line ∷ lines) ≡ read_lines next (n + 1) lines
 line_read so_far next n line lines e = read_lines-cons so_far n line lines ∙ ap (λ r. then_read (at_line n r) (λ x. read_lines x (n + 1) lines)) e
 
-counted_on : (so_far : Option Meaning) (n : ℕ) (line : List ℕ) (before rest : List (List ℕ)) → read_lines so_far ((n + 1) + length before) rest ≡ read_lines so_far (n + length (line ∷ before)) rest
+counted_on : (so_far : Option PolicyMeaning) (n : ℕ) (line : List ℕ) (before rest : List (List ℕ)) → read_lines so_far ((n + 1) + length before) rest ≡ read_lines so_far (n + length (line ∷ before)) rest
 counted_on so_far n line before rest = let same : (n + 1) + length before ≡ n + length (line ∷ before) = omega arith in ap (λ m. read_lines so_far m rest) same
 
-none_on : (so_far : Option Meaning) (n : ℕ) (rest : List (List ℕ)) → read_lines so_far n rest ≡ read_lines so_far (n + 0) rest
+none_on : (so_far : Option PolicyMeaning) (n : ℕ) (rest : List (List ℕ)) → read_lines so_far n rest ≡ read_lines so_far (n + 0) rest
 none_on so_far n rest = let same : n ≡ n + 0 = omega arith in ap (λ m. read_lines so_far m rest) same
 
 skipped_read : (n : ℕ) (before rest : List (List ℕ)) → SpellSoFar before None → read_lines None n (before ++ rest) ≡ read_lines None (n + length before) rest
@@ -200,12 +200,12 @@ skipped_read n [] rest h = none_on None n rest
 skipped_read n (line ∷ before) rest h =
     line_read None None n line (before ++ rest) (skip-only line h.0) ∙ skipped_read (n + 1) before rest h.1 ∙ counted_on None n line before rest
 
-lead_read : (p q : Meaning) (n : ℕ) (before rest : List (List ℕ)) → AreLines p before q → read_lines (Some p) n (before ++ rest) ≡ read_lines (Some q) (n + length before) rest
+lead_read : (p q : PolicyMeaning) (n : ℕ) (before rest : List (List ℕ)) → AreLines p before q → read_lines (Some p) n (before ++ rest) ≡ read_lines (Some q) (n + length before) rest
 lead_read p q n [] rest h = ap (λ m. read_lines (Some m) n rest) h ∙ none_on (Some q) n rest
 lead_read p q n (line ∷ before) rest h =
     line_read (Some p) (Some h.0) n line (before ++ rest) (line_step-only p h.0 line h.1) ∙ lead_read h.0 q (n + 1) before rest h.2 ∙ counted_on (Some q) n line before rest
 
-spelled_read : (q : Meaning) (n : ℕ) (before rest : List (List ℕ)) → AreAllLines before q → read_lines None n (before ++ rest) ≡ read_lines (Some q) (n + length before) rest
+spelled_read : (q : PolicyMeaning) (n : ℕ) (before rest : List (List ℕ)) → AreAllLines before q → read_lines None n (before ++ rest) ≡ read_lines (Some q) (n + length before) rest
 spelled_read q n [] rest h = absurd h
 spelled_read q n (line ∷ before) rest h =
     ⊎_elim (λ (skip : (is_skipped (words_of line) ≡ true) × AreAllLines before q).
@@ -214,12 +214,12 @@ spelled_read q n (line ∷ before) rest h =
     line_read None (Some (without_lines kept.1)) n line (before ++ rest) (header_step kept.1 line kept.2) ∙ lead_read (without_lines kept.1) q (n + 1) before rest kept.3 ∙ counted_on (Some q) n line before rest)
     h
 
-lead_kept : (p q : Meaning) (lines : List (List ℕ)) → IsPolicy p → AreLines p lines q → IsPolicy q
-lead_kept p q [] valid h = let P : Meaning → Type 0 = λ m. IsPolicy m in subst P h valid
+lead_kept : (p q : PolicyMeaning) (lines : List (List ℕ)) → IsPolicy p → AreLines p lines q → IsPolicy q
+lead_kept p q [] valid h = let P : PolicyMeaning → Type 0 = λ m. IsPolicy m in subst P h valid
 lead_kept p q (line ∷ lines) valid h = lead_kept h.0 q lines (adds_kept p h.0 (words_of line) valid h.1) h.2
 
 -- what lines spell is a policy
-pub spelled_kept : (q : Meaning) (lines : List (List ℕ)) → AreAllLines lines q → IsPolicy q
+pub spelled_kept : (q : PolicyMeaning) (lines : List (List ℕ)) → AreAllLines lines q → IsPolicy q
 spelled_kept q [] h = absurd h
 spelled_kept q (line ∷ lines) h =
     ⊎_elim (λ (skip : (is_skipped (words_of line) ≡ true) × AreAllLines lines q). spelled_kept q lines skip.1)
@@ -228,7 +228,7 @@ spelled_kept q (line ∷ lines) h =
     h
 
 -- the faulty line is refused
-step_refused : (p : Meaning) (line : List ℕ) (kind : FaultKind) → is_skipped (words_of line) ≡ false → line_of p (words_of line) ≡ Err kind → line_step (Some p) line ≡ Err kind
+step_refused : (p : PolicyMeaning) (line : List ℕ) (kind : FaultKind) → is_skipped (words_of line) ≡ false → line_of p (words_of line) ≡ Err kind → line_step (Some p) line ≡ Err kind
 unfolding line_step step
 step_refused p line kind counts e = rw (counts, e) refl
 
@@ -236,11 +236,11 @@ header_step_refused : (line : List ℕ) → is_skipped (words_of line) ≡ false
 unfolding line_step step
 header_step_refused line counts e = rw (counts, e) refl
 
-fault_line : (so_far : Option Meaning) (n m : ℕ) (line : List ℕ) (lines : List (List ℕ)) (kind : FaultKind) → line_step so_far line ≡ Err kind → m ≡ n → read_lines so_far n (line ∷ lines) ≡ Err (record { line = m; kind = kind })
+fault_line : (so_far : Option PolicyMeaning) (n m : ℕ) (line : List ℕ) (lines : List (List ℕ)) (kind : FaultKind) → line_step so_far line ≡ Err kind → m ≡ n → read_lines so_far n (line ∷ lines) ≡ Err (record { line = m; kind = kind })
 fault_line so_far n m line lines kind e same =
     read_lines-cons so_far n line lines ∙ ap (λ r. then_read (at_line n r) (λ x. read_lines x (n + 1) lines)) e ∙ ap (λ (k : ℕ). Err (record { line = k; kind = kind })) (sym same)
 
-fault_by : (so_far : Option Meaning) (before others : List (List ℕ)) (line : List ℕ) (n : ℕ) (kind : FaultKind) → n ≡ 1 + length before → SpellSoFar before so_far → is_skipped (words_of line) ≡ false → IsLineFault so_far (words_of line) kind → read_lines None 1 (before ++ line ∷ others) ≡ Err (record { line = n; kind = kind })
+fault_by : (so_far : Option PolicyMeaning) (before others : List (List ℕ)) (line : List ℕ) (n : ℕ) (kind : FaultKind) → n ≡ 1 + length before → SpellSoFar before so_far → is_skipped (words_of line) ≡ false → IsLineFault so_far (words_of line) kind → read_lines None 1 (before ++ line ∷ others) ≡ Err (record { line = n; kind = kind })
 fault_by None before others line n kind number spelled counts f =
     let e = header_step_refused line counts (header_refused (words_of line) kind f) ∙ ap (λ (k : FaultKind). Err k) (sym f.kind_is) in
     skipped_read 1 before (line ∷ others) spelled ∙ fault_line None (1 + length before) n line others kind e number
@@ -248,22 +248,22 @@ fault_by (Some q) before others line n kind number spelled counts f =
     let e = step_refused q line kind counts (line_refused q (words_of line) kind (spelled_kept q before spelled) counts f (line_of q (words_of line)) refl) in
     spelled_read q 1 before (line ∷ others) spelled ∙ fault_line (Some q) (1 + length before) n line others kind e number
 
-fault_only : (text : List ℕ) (fault : PolicyFault) → IsFirstFault text fault → policy_of text ≡ Err fault
+fault_only : (text : List ℕ) (fault : Fault) → IsFirstFault text fault → policy_of text ≡ Err fault
 unfolding policy_of
 fault_only text fault h =
     ⊎_elim (λ (f : IsFaultAt (lines_of text) fault.line fault.kind).
     let number = f.number_is in
     ap (read_lines None 1) f.lines_are ∙ fault_by f.so_far f.before f.others f.line fault.line fault.kind (omega (arith, number)) f.spelled f.counts f.fault)
     (λ (none : SpellSoFar (lines_of text) None × (fault ≡ record { line = 1; kind = NoHeader })).
-    ap (read_lines None 1) (sym (append-nil (lines_of text))) ∙ skipped_read 1 (lines_of text) [] none.0 ∙ read_lines-empty (1 + length (lines_of text)) ∙ ap (λ (x : PolicyFault). Err x) (sym none.1))
+    ap (read_lines None 1) (sym (append-nil (lines_of text))) ∙ skipped_read 1 (lines_of text) [] none.0 ∙ read_lines-empty (1 + length (lines_of text)) ∙ ap (λ (x : Fault). Err x) (sym none.1))
     h
 
 -- the fault that a call answers
-reported : (text : List ℕ) (fault : PolicyFault) (b : Bool) → MatchBool b (fault.line ≡ 0) (policy_of text ≡ Err fault) → b ≡ false → IsFirstFault text fault
+reported : (text : List ℕ) (fault : Fault) (b : Bool) → MatchBool b (fault.line ≡ 0) (policy_of text ≡ Err fault) → b ≡ false → IsFirstFault text fault
 reported text fault true h e = absurd (false≢true (sym e))
 reported text fault false h e = fault_found text fault h
 
-pub parses-first : (text : List ℕ) (r : Result Meaning PolicyFault) → Parses (λ (p : Meaning). p) r (policy_of text) → IfErr r (λ fault. is_memory fault.kind ≡ false → IsFirstFault text fault)
+pub parses-first : (text : List ℕ) (r : Result PolicyMeaning Fault) → Parses (λ (p : PolicyMeaning). p) r (policy_of text) → IfErr r (λ fault. is_memory fault.kind ≡ false → IsFirstFault text fault)
 parses-first text (Ok p) h = tt
 parses-first text (Err fault) h = reported text fault (is_memory fault.kind) h
 
@@ -271,9 +271,9 @@ parses-first text (Err fault) h = reported text fault (is_memory fault.kind) h
 pub first_fault : FirstFault
 first_fault text fault = (fault_found text fault, fault_only text fault)
 
-policy_or_fault_by : (text : List ℕ) (r : Result Meaning PolicyFault) → policy_of text ≡ r →
-    ((policy : Meaning) × Spells text policy × ((fault : PolicyFault) → IsFirstFault text fault → ⊥))
-    ⊎ ((fault : PolicyFault) × IsFirstFault text fault × ((other : PolicyFault) → IsFirstFault text other → other ≡ fault) × ((policy : Meaning) → Spells text policy → ⊥))
+policy_or_fault_by : (text : List ℕ) (r : Result PolicyMeaning Fault) → policy_of text ≡ r →
+    ((policy : PolicyMeaning) × Spells text policy × ((fault : Fault) → IsFirstFault text fault → ⊥))
+    ⊎ ((fault : Fault) × IsFirstFault text fault × ((other : Fault) → IsFirstFault text other → other ≡ fault) × ((policy : PolicyMeaning) → Spells text policy → ⊥))
 policy_or_fault_by text (Ok policy) e = inl (policy, policy_of-found text policy e, λ fault f. Err-Ok fault policy (sym (fault_only text fault f) ∙ e))
 policy_or_fault_by text (Err fault) e = inr (
   fault,

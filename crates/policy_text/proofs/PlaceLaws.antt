@@ -8,10 +8,10 @@ use Rattle.policy_text.specs.declared.fault.FaultKind.{FaultKind}
 use Rattle.policy_text.specs.declared.fault.FaultKind.TheVariants.{UnknownWord}
 use Rattle.policy_text.specs.Words.{Word}
 use Rattle.policy_text.specs.Policies.{Aggregate as Definition}
-use Rattle.policy_text.specs.Lines.{next_of, next, after, ended}
+use Rattle.policy_text.specs.Lines.{next_of, next, after, end_of_words}
 use Rattle.policy_text.specs.Grammar.{IsAggregate}
-use Rattle.policy_text.specs.LineParts.{Part, parts_after, IsKindOf, IsKindBehind}
-use Rattle.policy_text.specs.LineParts.Part.{keyword, line_end}
+use Rattle.policy_text.specs.LineParts.{LinePart, parts_after, IsKindOf, IsKindBehind}
+use Rattle.policy_text.specs.LineParts.LinePart.{keyword, line_end}
 use Rattle.std.proofs.lemmas.Slice.Eq.{bytes_eq-Decides}
 
 -- what reads the words of a line where these aggregates are defined
@@ -29,7 +29,7 @@ IsStuck {B} here read front [] = (y : B) → read here front ≡ Ok y → ⊥
 IsStuck {B} here read front (word ∷ words) = (more : List Word) → Completes here read (front ++ word ∷ more) → ⊥
 
 -- where the words fail
-pub record Place {B : Type 0} (here : List Definition) (parts : List Part) (read : Reader B) (words : List Word) (kind : FaultKind) : Type 0 where
+pub record Place {B : Type 0} (here : List Definition) (parts : List LinePart) (read : Reader B) (words : List Word) (kind : FaultKind) : Type 0 where
   pub front : List Word
   pub rest : List Word
   pub words_are : words ≡ front ++ rest
@@ -38,7 +38,7 @@ pub record Place {B : Type 0} (here : List Definition) (parts : List Part) (read
   pub kind_is : IsKindBehind parts front rest kind
 
 -- something is read, and each fault has its place
-pub record Reads {B : Type 0} (here : List Definition) (parts : List Part) (read : Reader B) : Type 0 where
+pub record Reads {B : Type 0} (here : List Definition) (parts : List LinePart) (read : Reader B) : Type 0 where
   pub opens : (words : List Word) × Completes here read words
   pub faults : (words : List Word) (kind : FaultKind) → read here words ≡ Err kind → Place here parts read words kind
 
@@ -67,7 +67,7 @@ stuck_same : {B : Type 0} (here : List Definition) (read other : Reader B) (fron
 stuck_same here read other front [] h stuck = λ y e. stuck y (h.now front ∙ e)
 stuck_same here read other front (word ∷ words) h stuck = λ more c. stuck more (Completes-same here other read (front ++ word ∷ more) (Agree-back here read other h) c)
 
-pub Reads-same : {B : Type 0} (here : List Definition) (parts : List Part) (read other : Reader B) → Agree here read other → Reads here parts read → Reads here parts other
+pub Reads-same : {B : Type 0} (here : List Definition) (parts : List LinePart) (read other : Reader B) → Agree here read other → Reads here parts read → Reads here parts other
 Reads-same here parts read other h r = record {
   opens = (r.opens.0, Completes-same here read other r.opens.0 h r.opens.1);
   faults = λ words kind e.
@@ -87,14 +87,14 @@ abbrev pub behind : {B : Type 0} → Reader B → Word → Reader B
 behind read word q words = read q (word ∷ words)
 
 -- a word that no continuation mends
-pub record IsDead {B : Type 0} (here : List Definition) (part : Part) (read : Reader B) (word : Word) : Type 0 where
+pub record IsDead {B : Type 0} (here : List Definition) (part : LinePart) (read : Reader B) (word : Word) : Type 0 where
   pub kind : FaultKind
   pub fails : (words : List Word) → read here (word ∷ words) ≡ Err kind
   pub stuck : (words : List Word) → Completes here read (word ∷ words) → ⊥
   pub kind_is : IsKindOf part word kind
 
 -- a word that is refused whatever is defined
-pub dead : {B : Type 0} (here : List Definition) (part : Part) (read : Reader B) (word : Word) (kind : FaultKind) → ((q : List Definition) (words : List Word) → read q (word ∷ words) ≡ Err kind) → IsKindOf part word kind → IsDead here part read word
+pub dead : {B : Type 0} (here : List Definition) (part : LinePart) (read : Reader B) (word : Word) (kind : FaultKind) → ((q : List Definition) (words : List Word) → read q (word ∷ words) ≡ Err kind) → IsKindOf part word kind → IsDead here part read word
 dead {B} here part read word kind h k = record {
   kind = kind;
   fails = λ words. h here words;
@@ -106,7 +106,7 @@ dead {B} here part read word kind h k = record {
   kind_is = k;
 }
 
-pub kind_behind : (part : Part) (parts : List Part) (word : Word) (front rest : List Word) (kind : FaultKind) → IsKindBehind (parts_after part word parts) front rest kind → IsKindBehind (part ∷ parts) (word ∷ front) rest kind
+pub kind_behind : (part : LinePart) (parts : List LinePart) (word : Word) (front rest : List Word) (kind : FaultKind) → IsKindBehind (parts_after part word parts) front rest kind → IsKindBehind (part ∷ parts) (word ∷ front) rest kind
 kind_behind part parts word front [] kind h = h
 kind_behind part parts word front (next ∷ rest) kind h = h
 
@@ -115,7 +115,7 @@ stuck_behind here read word front [] h = h
 stuck_behind here read word front (next ∷ rest) h = h
 
 -- a place behind a word
-pub place_behind : {B : Type 0} (here : List Definition) (part : Part) (parts : List Part) (read : Reader B) (word : Word) (words : List Word) (kind : FaultKind) → Place here (parts_after part word parts) (behind read word) words kind → Place here (part ∷ parts) read (word ∷ words) kind
+pub place_behind : {B : Type 0} (here : List Definition) (part : LinePart) (parts : List LinePart) (read : Reader B) (word : Word) (words : List Word) (kind : FaultKind) → Place here (parts_after part word parts) (behind read word) words kind → Place here (part ∷ parts) read (word ∷ words) kind
 place_behind here part parts read word words kind p = record {
   front = word ∷ p.front;
   rest = p.rest;
@@ -125,7 +125,7 @@ place_behind here part parts read word words kind p = record {
   kind_is = kind_behind part parts word p.front p.rest kind p.kind_is;
 }
 
-first_place : {B : Type 0} (here : List Definition) (part : Part) (parts : List Part) (read : Reader B) → read here [] ≡ Err UnknownWord → (words : List Word) × Completes here read words → ((word : Word) → IsDead here part read word ⊎ Reads here (parts_after part word parts) (behind read word)) → (words : List Word) (kind : FaultKind) → read here words ≡ Err kind → Place here (part ∷ parts) read words kind
+first_place : {B : Type 0} (here : List Definition) (part : LinePart) (parts : List LinePart) (read : Reader B) → read here [] ≡ Err UnknownWord → (words : List Word) × Completes here read words → ((word : Word) → IsDead here part read word ⊎ Reads here (parts_after part word parts) (behind read word)) → (words : List Word) (kind : FaultKind) → read here words ≡ Err kind → Place here (part ∷ parts) read words kind
 first_place here part parts read empty opens by_word [] kind e = record {
   front = [];
   rest = [];
@@ -143,7 +143,7 @@ first_place here part parts read empty opens by_word (word ∷ words) kind e =
     (by_word word)
 
 -- one word, and what is read behind it
-pub word_step : {B : Type 0} (here : List Definition) (part : Part) (parts : List Part) (read : Reader B) → read here [] ≡ Err UnknownWord → (words : List Word) × Completes here read words → ((word : Word) → IsDead here part read word ⊎ Reads here (parts_after part word parts) (behind read word)) → Reads here (part ∷ parts) read
+pub word_step : {B : Type 0} (here : List Definition) (part : LinePart) (parts : List LinePart) (read : Reader B) → read here [] ≡ Err UnknownWord → (words : List Word) × Completes here read words → ((word : Word) → IsDead here part read word ⊎ Reads here (parts_after part word parts) (behind read word)) → Reads here (part ∷ parts) read
 word_step here part parts read empty opens by_word = record { opens = opens; faults = first_place here part parts read empty opens by_word }
 
 -- the next word by its class, or a keyword
@@ -172,22 +172,22 @@ unfolding after next_of
 after-err key word words e = rw e refl
 
 -- a reader behind the word that it took
-pub taken : {B : Type 0} (here : List Definition) (parts : List Part) (read inner : Reader B) (word : Word) → ((q : List Definition) (words : List Word) → read q (word ∷ words) ≡ inner q words) → Reads here parts inner → Reads here parts (behind read word)
+pub taken : {B : Type 0} (here : List Definition) (parts : List LinePart) (read inner : Reader B) (word : Word) → ((q : List Definition) (words : List Word) → read q (word ∷ words) ≡ inner q words) → Reads here parts inner → Reads here parts (behind read word)
 taken here parts read inner word h r = Reads-same here parts inner (behind read word) (Agree-all here inner (behind read word) (λ q words. sym (h q words))) r
 
 Completes-behind : {B : Type 0} (here : List Definition) (read inner : Reader B) (word : Word) → ((q : List Definition) (words : List Word) → read q (word ∷ words) ≡ inner q words) → (words : List Word) → Completes here inner words → Completes here read (word ∷ words)
 Completes-behind here read inner word h words c = Completes-same here inner (behind read word) words (Agree-all here inner (behind read word) (λ q ws. sym (h q ws))) c
 
-class_word : {A B : Type 0} (here : List Definition) (class : Word → Result A FaultKind) (part : Part) (parts : List Part) → ((word : Word) → parts_after part word parts ≡ parts) → ((word : Word) (kind : FaultKind) → class word ≡ Err kind → IsKindOf part word kind) → (inner : List Definition → A × List Word → Result B FaultKind) → ((a : A) → Reads here parts (λ q words. inner q (a, words))) → (word : Word) (r : Result A FaultKind) → class word ≡ r → IsDead here part (λ q words. next class words >>= inner q) word ⊎ Reads here (parts_after part word parts) (behind (λ q words. next class words >>= inner q) word)
+class_word : {A B : Type 0} (here : List Definition) (class : Word → Result A FaultKind) (part : LinePart) (parts : List LinePart) → ((word : Word) → parts_after part word parts ≡ parts) → ((word : Word) (kind : FaultKind) → class word ≡ Err kind → IsKindOf part word kind) → (inner : List Definition → A × List Word → Result B FaultKind) → ((a : A) → Reads here parts (λ q words. inner q (a, words))) → (word : Word) (r : Result A FaultKind) → class word ≡ r → IsDead here part (λ q words. next class words >>= inner q) word ⊎ Reads here (parts_after part word parts) (behind (λ q words. next class words >>= inner q) word)
 class_word {A} {B} here class part parts plain kinds inner reads word (Ok a) e =
     let whole : Reader B = λ q words. next class words >>= inner q in
-    let P : List Part → Type 0 = λ ps. Reads here ps (behind whole word) in
+    let P : List LinePart → Type 0 = λ ps. Reads here ps (behind whole word) in
     inr (subst P (sym (plain word)) (taken here parts whole (λ q words. inner q (a, words)) word (λ q words. ap (λ r. r >>= inner q) (next-ok class word words a e)) (reads a)))
 class_word {A} {B} here class part parts plain kinds inner reads word (Err kind) e =
     let whole : Reader B = λ q words. next class words >>= inner q in
     inl (dead here part whole word kind (λ q words. ap (λ r. r >>= inner q) (next-err class word words kind e)) (kinds word kind e))
 
-pub class_step : {A B : Type 0} (here : List Definition) (class : Word → Result A FaultKind) (part : Part) (parts : List Part) → ((word : Word) → parts_after part word parts ≡ parts) → ((word : Word) (kind : FaultKind) → class word ≡ Err kind → IsKindOf part word kind) → (word : Word) (a : A) → class word ≡ Ok a → (inner : List Definition → A × List Word → Result B FaultKind) → ((a : A) → Reads here parts (λ q words. inner q (a, words))) → Reads here (part ∷ parts) (λ q words. next class words >>= inner q)
+pub class_step : {A B : Type 0} (here : List Definition) (class : Word → Result A FaultKind) (part : LinePart) (parts : List LinePart) → ((word : Word) → parts_after part word parts ≡ parts) → ((word : Word) (kind : FaultKind) → class word ≡ Err kind → IsKindOf part word kind) → (word : Word) (a : A) → class word ≡ Ok a → (inner : List Definition → A × List Word → Result B FaultKind) → ((a : A) → Reads here parts (λ q words. inner q (a, words))) → Reads here (part ∷ parts) (λ q words. next class words >>= inner q)
 class_step {A} {B} here class part parts plain kinds word a e inner reads =
     let whole : Reader B = λ q words. next class words >>= inner q in
     let rest = (reads a).opens in
@@ -195,7 +195,7 @@ class_step {A} {B} here class part parts plain kinds word a e inner reads =
     (word ∷ rest.0, Completes-behind here whole (λ q words. inner q (a, words)) word (λ q words. ap (λ r. r >>= inner q) (next-ok class word words a e)) rest.0 rest.1)
     (λ w. class_word here class part parts plain kinds inner reads w (class w) refl)
 
-pub keyword_step : {B : Type 0} (here : List Definition) (key : Word) (parts : List Part) (inner : Reader B) → Reads here parts inner → Reads here (keyword ∷ parts) (λ q words. after key words >>= inner q)
+pub keyword_step : {B : Type 0} (here : List Definition) (key : Word) (parts : List LinePart) (inner : Reader B) → Reads here parts inner → Reads here (keyword ∷ parts) (λ q words. after key words >>= inner q)
 keyword_step {B} here key parts inner reads =
     let whole : Reader B = λ q words. after key words >>= inner q in
     let rest = reads.opens in
@@ -208,15 +208,15 @@ keyword_step {B} here key parts inner reads =
 
 -- the end of a line
 abbrev pub ends : {B : Type 0} → B → Reader B
-ends y q words = ended words >>= λ done. Ok y
+ends y q words = end_of_words words >>= λ done. Ok y
 
 end_place : {B : Type 0} (here : List Definition) (y : B) (words : List Word) (kind : FaultKind) → ends y here words ≡ Err kind → Place here [] (ends y) words kind
-unfolding ended
+unfolding end_of_words
 end_place here y [] kind e = absurd (Err-Ok kind y (sym e))
 end_place {B} here y (word ∷ words) kind e =
     let d = dead here line_end (ends y) word UnknownWord (λ q ws. refl) refl in
     record { front = []; rest = word ∷ words; words_are = refl; begun = ([], inl (y, refl)); stuck = d.stuck; kind_is = same_Err kind UnknownWord (sym e) }
 
 pub end_reads : {B : Type 0} (here : List Definition) (y : B) → Reads here [] (ends y)
-unfolding ended
+unfolding end_of_words
 end_reads here y = record { opens = ([], inl (y, refl)); faults = end_place here y }

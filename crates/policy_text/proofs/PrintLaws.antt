@@ -7,7 +7,7 @@ use Rattle.ipfix_element.specs.Element.{Element}
 use Rattle.policy_text.specs.declared.rule.Action.{Action}
 use Rattle.policy_text.specs.declared.rule.Action.TheVariants.{Pass, Withhold, Aggregate, Keep, Remove, Truncate, Degrade}
 use Rattle.policy_text.specs.Words.{Word}
-use Rattle.policy_text.specs.Policies.{Meaning, Aggregate as Definition}
+use Rattle.policy_text.specs.Policies.{PolicyMeaning, Aggregate as Definition}
 use Rattle.policy_text.specs.Grammar.{name_at}
 use Rattle.policy_text.specs.Printing.{action_words, header, policy_text, aggregate_words, line_text, rule_words, word_or_star, itself}
 use Rattle.flow_prefix.specs.Printing.{prefix_text}
@@ -62,7 +62,7 @@ rule_row aggregates r old =
     ∙ append_assoc old (codes "rule for " ++ (word_or_star itself r.who ++ (codes " in " ++ (word_or_star decimal r.domain ++ (codes " from " ++ (word_or_star prefix_text r.from ++ (codes " to " ++ join_with_byte 32 (word_or_star prefix_text r.to ∷ action_words aggregates r.element r.action)))))))) (10 ∷ [])
 
 -- the lines of a policy
-pub policy_rows : (policy : Meaning) →
+pub policy_rows : (policy : PolicyMeaning) →
     (line_text (header policy.version) ++ flat_map line_text (map aggregate_words policy.aggregates)) ++ flat_map line_text (map (rule_words policy.aggregates) policy.rules)
     ≡ policy_text policy
 unfolding policy_text

@@ -17,12 +17,12 @@ use Rattle.policy_text.specs.declared.version.Version.{Version}
 use Rattle.policy_text.specs.declared.version.Version.TheVariants.{One, Two}
 use Rattle.policy_text.specs.Words.{Word, words_of, is_skipped}
 use Rattle.policy_text.specs.Naming.{is_name}
-use Rattle.policy_text.specs.Policies.{Meaning, without_lines, Aggregate as Definition}
+use Rattle.policy_text.specs.Policies.{PolicyMeaning, without_lines, Aggregate as Definition}
 use Rattle.policy_text.specs.Classes.{name, number, element, prefix, or_star, width_at, is_time_at}
-use Rattle.policy_text.specs.Lines.{next_of, next, after, ended, truncate_of, degrade_of, element_action, aggregate_action, on_element, action_of, rule_of, aggregate_of, rule_line, aggregate_line, line_of}
+use Rattle.policy_text.specs.Lines.{next_of, next, after, end_of_words, truncate_of, degrade_of, element_action, aggregate_action, on_element, action_of, rule_of, aggregate_of, rule_line, aggregate_line, line_of}
 use Rattle.policy_text.specs.Parsing.{version_of, step, line_step, read_lines, policy_of}
 use Rattle.policy_text.specs.Grammar.{name_at, IsAction, IsRule, IsAggregate, AreAggregates, AreRules}
-use Rattle.policy_text.specs.Printing.{word_or_star, itself, version_word, action_words, rule_words, key_text, aggregate_words, header, policy_text, ReadsBack}
+use Rattle.policy_text.specs.Printing.{word_or_star, itself, version_word, action_words, rule_words, key_text, aggregate_words, header, policy_text, PoliciesReadBack}
 use Rattle.policy_text.proofs.WordLaws.{words_of-nil}
 use Rattle.policy_text.proofs.ParsingLaws.{read_lines-cons, read_lines-done}
 use Rattle.policy_text.proofs.PlainLaws.{IsPlain, ArePlain, decimal_plain, words_of-joined, lines_of-printed}
@@ -132,7 +132,7 @@ rule_tail aggregates r =
     ∷ action_words aggregates r.element r.action
 
 rule_back : (version : Version) (aggregates : List Definition) (r : Rule) → IsRule version aggregates r → rule_of version aggregates (rule_tail aggregates r) ≡ Ok r
-unfolding rule_of next next_of after ended
+unfolding rule_of next next_of after end_of_words
 rule_back version aggregates r h =
     rw (
       or_star-printed name BadName itself (λ w. is_name w ≡ true) name-printed name-star r.who h.who,
@@ -143,29 +143,29 @@ rule_back version aggregates r h =
     ) refl
 
 pub aggregate_back : (before : List Definition) (a : Definition) → IsAggregate before a → aggregate_of before (a.name ∷ codes "key" ∷ key_text a.key ∷ codes "interval" ∷ decimal a.interval ∷ codes "grace" ∷ decimal a.grace ∷ []) ≡ Ok a
-unfolding aggregate_of next next_of after ended
+unfolding aggregate_of next next_of after end_of_words
 aggregate_back before a h =
     rw (new_name-printed before a.name h.name h.other, key-printed a.key h.key h.ranged.elements.0, interval-printed a.interval h.ranged.interval_low h.ranged.interval_high, number-printed 86400 a.grace (omega arith) h.ranged.grace_high) refl
 
 -- lines that lead from one policy to another
-abbrev Adds : Meaning → List (List Word) → Meaning → Type 0
+abbrev Adds : PolicyMeaning → List (List Word) → PolicyMeaning → Type 0
 Adds p [] q = p ≡ q
-Adds p (words ∷ lines) q = (m : Meaning) × (is_skipped words ≡ false) × (line_of p words ≡ Ok m) × Adds m lines q
+Adds p (words ∷ lines) q = (m : PolicyMeaning) × (is_skipped words ≡ false) × (line_of p words ≡ Ok m) × Adds m lines q
 
-adds_append : (p m q : Meaning) (xs ys : List (List Word)) → Adds p xs m → Adds m ys q → Adds p (xs ++ ys) q
-adds_append p m q [] ys h k = let P : Meaning → Type 0 = λ x. Adds x ys q in subst P (sym h) k
+adds_append : (p m q : PolicyMeaning) (xs ys : List (List Word)) → Adds p xs m → Adds m ys q → Adds p (xs ++ ys) q
+adds_append p m q [] ys h k = let P : PolicyMeaning → Type 0 = λ x. Adds x ys q in subst P (sym h) k
 adds_append p m q (words ∷ xs) ys h k = (h.0, h.1, h.2, adds_append h.0 m q xs ys h.3 k)
 
-step_printed : (p m : Meaning) (words : List Word) (line : Word) → words_of line ≡ words → is_skipped words ≡ false → line_of p words ≡ Ok m → line_step (Some p) line ≡ Ok (Some m)
+step_printed : (p m : PolicyMeaning) (words : List Word) (line : Word) → words_of line ≡ words → is_skipped words ≡ false → line_of p words ≡ Ok m → line_step (Some p) line ≡ Ok (Some m)
 unfolding line_step step
 step_printed p m words line e kept read = rw (e, kept, read) refl
 
-last_empty : (p : Meaning) (n : ℕ) → read_lines (Some p) n ([] ∷ []) ≡ Ok p
+last_empty : (p : PolicyMeaning) (n : ℕ) → read_lines (Some p) n ([] ∷ []) ≡ Ok p
 unfolding line_step
 last_empty p n = read_lines-cons (Some p) n [] [] ∙ rw words_of-nil (read_lines-done p (n + 1))
 
-read_printed : (p q : Meaning) (n : ℕ) (lines : List (List Word)) → AllByRecursion ArePlain lines → Adds p lines q → read_lines (Some p) n (map (join_with_byte 32) lines ++ [] ∷ []) ≡ Ok q
-read_printed p q n [] plain h = last_empty p n ∙ ap (λ (x : Meaning). Ok x) h
+read_printed : (p q : PolicyMeaning) (n : ℕ) (lines : List (List Word)) → AllByRecursion ArePlain lines → Adds p lines q → read_lines (Some p) n (map (join_with_byte 32) lines ++ [] ∷ []) ≡ Ok q
+read_printed p q n [] plain h = last_empty p n ∙ ap (λ (x : PolicyMeaning). Ok x) h
 read_printed p q n (words ∷ lines) plain h =
     read_lines-cons (Some p) n (join_with_byte 32 words) (map (join_with_byte 32) lines ++ [] ∷ [])
     ∙ rw (step_printed p h.0 words (join_with_byte 32 words) (words_of-joined words plain.0) h.1 h.2) (read_printed h.0 q (n + 1) lines plain.1 h.3)
@@ -219,7 +219,7 @@ header_step One line e = rw e refl
 header_step Two line e = rw e refl
 
 -- what is printed is read back
-pub reads_back : ReadsBack
+pub reads_back : PoliciesReadBack
 unfolding policy_text policy_of
 reads_back policy h =
     let version = policy.version in

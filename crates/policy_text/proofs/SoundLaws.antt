@@ -9,7 +9,7 @@ use Rattle.ipfix_element.specs.Element.{Element, IsElement}
 use Rattle.ipfix_element.specs.Kinds.{kind_of}
 use Rattle.flow_prefix.specs.declared.prefix.Prefix.{Prefix}
 use Rattle.flow_prefix.specs.declared.prefix.Prefix.TheVariants.{V4, V6}
-use Rattle.flow_prefix.specs.declared.fault.PrefixFault.{PrefixFault}
+use Rattle.flow_prefix.specs.declared.fault.Fault.{Fault as PrefixFault}
 use Rattle.numerals.specs.Numerals.{number_of}
 use Rattle.flow_prefix.specs.Reading.{prefix_of}
 use Rattle.flow_prefix.specs.Text.{IsPrefixText}
@@ -30,7 +30,7 @@ use Rattle.policy_text.specs.Elements.{element_of}
 use Rattle.policy_text.specs.Policies.{has_degrade, IsKeyLength, Aggregate as Definition}
 use Rattle.policy_text.specs.Results.{or_fault}
 use Rattle.policy_text.specs.Classes.{name, number, element, prefix, prefix_or_fault, star, some_of, or_star, is_key_kind, width_at, is_time_at, with_key, add_piece, add_pieces, key_of, place_of, aggregate_place, new_name, interval, bits_within}
-use Rattle.policy_text.specs.Lines.{next_of, next, after, ended, truncate_of, degrade_of, element_action, aggregate_action, on_element, action_of, rule_of, aggregate_of}
+use Rattle.policy_text.specs.Lines.{next_of, next, after, end_of_words, truncate_of, degrade_of, element_action, aggregate_action, on_element, action_of, rule_of, aggregate_of}
 use Rattle.policy_text.specs.Grammar.{name_at, IsAction, IsRule, IsKey, IsAggregate}
 use Rattle.policy_text.specs.declared.fault.FaultKind.TheVariants.{UnknownWord, BadName, BadNumber, BadPrefix, BadTruncate, UnknownAggregate, DoubleAggregate, BadKey, BadDegrade}
 use Rattle.policy_text.proofs.ElementLaws.{element_of-found}
@@ -265,7 +265,7 @@ action_of-sound version aggregates words x h =
 
 -- a rule, word by word
 abbrev pub rule_end : Option Word → Option ℕ → Option Prefix → Option Prefix → (Option Element × Action) × List Word → Result Rule FaultKind
-rule_end who domain from to done = ended done.1 >>= λ nothing_more. Ok (record { who = who; domain = domain; from = from; to = to; element = done.0.0; action = done.0.1 })
+rule_end who domain from to done = end_of_words done.1 >>= λ nothing_more. Ok (record { who = who; domain = domain; from = from; to = to; element = done.0.0; action = done.0.1 })
 
 abbrev pub rule_action : Version → List Definition → Option Word → Option ℕ → Option Prefix → Option Prefix × List Word → Result Rule FaultKind
 rule_action version aggregates who domain from to = action_of version aggregates to.1 >>= λ done. rule_end who domain from to.0 done
@@ -305,7 +305,7 @@ pub record RuleSteps (version : Version) (aggregates : List Definition) (words :
   pub behind_to : (d : List Word) × (after (codes "to") from.0.1 ≡ Ok d) × (rule_to version aggregates who.0.0 domain.0.0 from.0.0 d ≡ Ok r)
   pub to : (x : Option Prefix × List Word) × (next (or_star prefix) behind_to.0 ≡ Ok x) × (rule_action version aggregates who.0.0 domain.0.0 from.0.0 x ≡ Ok r)
   pub action : (x : (Option Element × Action) × List Word) × (action_of version aggregates to.0.1 ≡ Ok x) × (rule_end who.0.0 domain.0.0 from.0.0 to.0.0 x ≡ Ok r)
-  pub end : (nothing_more : Unit {0}) × (ended action.0.1 ≡ Ok nothing_more)
+  pub end : (nothing_more : Unit {0}) × (end_of_words action.0.1 ≡ Ok nothing_more)
   pub made : the_rule who.0.0 domain.0.0 from.0.0 to.0.0 action.0.0 ≡ r
 
 pub rule_steps : (version : Version) (aggregates : List Definition) (words : List Word) (r : Rule) → rule_of version aggregates words ≡ Ok r → RuleSteps version aggregates words r
@@ -320,7 +320,7 @@ rule_steps version aggregates words r h =
     let s3 = bind_Ok (after (codes "to") from.0.1) (λ d. rule_to version aggregates who.0.0 domain.0.0 from.0.0 d) r from.2 in
     let to = bind_Ok (next (or_star prefix) s3.0) (λ x. rule_action version aggregates who.0.0 domain.0.0 from.0.0 x) r s3.2 in
     let done = bind_Ok (action_of version aggregates to.0.1) (λ x. rule_end who.0.0 domain.0.0 from.0.0 to.0.0 x) r to.2 in
-    let end = bind_Ok (ended done.0.1) (λ nothing_more. Ok (record { who = who.0.0; domain = domain.0.0; from = from.0.0; to = to.0.0; element = done.0.0.0; action = done.0.0.1 })) r done.2 in
+    let end = bind_Ok (end_of_words done.0.1) (λ nothing_more. Ok (record { who = who.0.0; domain = domain.0.0; from = from.0.0; to = to.0.0; element = done.0.0.0; action = done.0.0.1 })) r done.2 in
     record { behind_for = s0; who = who; behind_in = s1; domain = domain; behind_from = s2; from = from; behind_to = s3; to = to; action = done; end = (end.0, end.1); made = same_Ok (the_rule who.0.0 domain.0.0 from.0.0 to.0.0 done.0.0) r end.2 }
 
 pub rule_of-sound : (version : Version) (aggregates : List Definition) (words : List Word) (r : Rule) → rule_of version aggregates words ≡ Ok r → IsRule version aggregates r
@@ -408,7 +408,7 @@ new_name-sound aggregates w n e =
 
 -- an aggregate, word by word
 abbrev pub aggregate_end : Word → List Element → ℕ → ℕ × List Word → Result Definition FaultKind
-aggregate_end named key seconds grace = ended grace.1 >>= λ nothing_more. Ok (record { name = named; key = key; interval = seconds; grace = grace.0 })
+aggregate_end named key seconds grace = end_of_words grace.1 >>= λ nothing_more. Ok (record { name = named; key = key; interval = seconds; grace = grace.0 })
 
 abbrev pub aggregate_grace : Word → List Element → ℕ → List Word → Result Definition FaultKind
 aggregate_grace named key seconds c = next (number 86400) c >>= λ grace. aggregate_end named key seconds grace
@@ -440,7 +440,7 @@ pub record AggregateSteps (before : List Definition) (words : List Word) (a : De
   pub seconds : (x : ℕ × List Word) × (next interval behind_interval.0 ≡ Ok x) × (aggregate_behind_interval named.0.0 key.0.0 x ≡ Ok a)
   pub behind_grace : (d : List Word) × (after (codes "grace") seconds.0.1 ≡ Ok d) × (aggregate_grace named.0.0 key.0.0 seconds.0.0 d ≡ Ok a)
   pub grace : (x : ℕ × List Word) × (next (number 86400) behind_grace.0 ≡ Ok x) × (aggregate_end named.0.0 key.0.0 seconds.0.0 x ≡ Ok a)
-  pub end : (nothing_more : Unit {0}) × (ended grace.0.1 ≡ Ok nothing_more)
+  pub end : (nothing_more : Unit {0}) × (end_of_words grace.0.1 ≡ Ok nothing_more)
   pub made : the_aggregate named.0.0 key.0.0 seconds.0.0 grace.0.0 ≡ a
 
 pub aggregate_steps : (before : List Definition) (words : List Word) (a : Definition) → aggregate_of before words ≡ Ok a → AggregateSteps before words a
@@ -453,7 +453,7 @@ aggregate_steps before words a h =
     let seconds = bind_Ok (next interval s1.0) (λ x. aggregate_behind_interval named.0.0 key.0.0 x) a s1.2 in
     let s2 = bind_Ok (after (codes "grace") seconds.0.1) (λ x. aggregate_grace named.0.0 key.0.0 seconds.0.0 x) a seconds.2 in
     let grace = bind_Ok (next (number 86400) s2.0) (λ x. aggregate_end named.0.0 key.0.0 seconds.0.0 x) a s2.2 in
-    let end = bind_Ok (ended grace.0.1) (λ nothing_more. Ok (record { name = named.0.0; key = key.0.0; interval = seconds.0.0; grace = grace.0.0 })) a grace.2 in
+    let end = bind_Ok (end_of_words grace.0.1) (λ nothing_more. Ok (record { name = named.0.0; key = key.0.0; interval = seconds.0.0; grace = grace.0.0 })) a grace.2 in
     record { named = named; behind_key = s0; key = key; behind_interval = s1; seconds = seconds; behind_grace = s2; grace = grace; end = (end.0, end.1); made = same_Ok (the_aggregate named.0.0 key.0.0 seconds.0.0 grace.0.0) a end.2 }
 
 pub aggregate_of-sound : (before : List Definition) (words : List Word) (a : Definition) → aggregate_of before words ≡ Ok a → IsAggregate before a

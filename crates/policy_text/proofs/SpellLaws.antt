@@ -10,7 +10,7 @@ use Rattle.std.proofs.lemmas.Bool.{cases_Bool, leb-false, lt-leb, and_parts}
 use Rattle.ipfix_element.specs.Element.{Element}
 use Rattle.ipfix_element.specs.Names.{element_name}
 use Rattle.flow_prefix.specs.declared.prefix.Prefix.{Prefix}
-use Rattle.flow_prefix.specs.declared.fault.PrefixFault.{PrefixFault}
+use Rattle.flow_prefix.specs.declared.fault.Fault.{Fault as PrefixFault}
 use Rattle.numerals.specs.Numerals.{number_of}
 use Rattle.flow_prefix.specs.Reading.{prefix_of}
 use Rattle.flow_prefix.specs.Text.{IsPrefixText}
@@ -20,7 +20,7 @@ use Rattle.sequences.proofs.ResultLaws.{Err-Ok, same_Ok, bind_Ok}
 use Rattle.sequences.specs.Results.{◌>>=◌}
 use Rattle.policy_text.specs.declared.fault.FaultKind.{FaultKind}
 use Rattle.policy_text.specs.declared.fault.FaultKind.TheVariants.{UnknownAggregate, DoubleAggregate, UnknownWord, NoHeader, BadName, BadNumber, BadPrefix, BadTruncate, TooMany, BadDegrade}
-use Rattle.policy_text.specs.declared.fault.PolicyFault.{PolicyFault}
+use Rattle.policy_text.specs.declared.fault.Fault.{Fault}
 use Rattle.policy_text.specs.declared.rule.Rule.{Rule}
 use Rattle.policy_text.specs.declared.rule.Action.{Action}
 use Rattle.policy_text.specs.declared.rule.Action.TheVariants.{Pass, Withhold, Aggregate, Keep, Remove, Truncate, Degrade}
@@ -29,10 +29,10 @@ use Rattle.policy_text.specs.declared.version.Version.TheVariants.{One, Two}
 use Rattle.policy_text.specs.Words.{Word, words_of, lines_of, is_skipped}
 use Rattle.policy_text.specs.Naming.{is_name}
 use Rattle.policy_text.specs.Elements.{element_of}
-use Rattle.policy_text.specs.Policies.{Meaning, has_degrade, without_lines, with_rule, with_aggregate, Aggregate as Definition}
+use Rattle.policy_text.specs.Policies.{PolicyMeaning, has_degrade, without_lines, with_rule, with_aggregate, Aggregate as Definition}
 use Rattle.policy_text.specs.Results.{at_line, then_read, Parses}
 use Rattle.policy_text.specs.Classes.{name, number, element, prefix, prefix_or_fault, star, some_of, or_star, with_key, add_piece, add_pieces, key_of, place_of, width_at, is_time_at, aggregate_place, new_name, interval, bits_within}
-use Rattle.policy_text.specs.Lines.{next_of, next, after, ended, truncate_of, degrade_of, element_action, aggregate_action, on_element, action_of, rule_of, aggregate_of, rule_line, aggregate_line, line_of}
+use Rattle.policy_text.specs.Lines.{next_of, next, after, end_of_words, truncate_of, degrade_of, element_action, aggregate_action, on_element, action_of, rule_of, aggregate_of, rule_line, aggregate_line, line_of}
 use Rattle.policy_text.specs.Parsing.{numbered_version, version_of, after_header, step, line_step, read_lines, policy_of}
 use Rattle.policy_text.specs.Grammar.{name_at}
 use Rattle.policy_text.specs.Printing.{word_or_star, itself, action_words, key_text, aggregate_words, version_word, header}
@@ -64,8 +64,8 @@ after-text keyword words rest e =
     let same = (bytes_eq-Decides first.0.0 keyword).0 h.0 in
     next_of-text words first.0 first.1 ∙ ap (λ w. w ∷ first.0.1) same ∙ ap (λ ws. keyword ∷ ws) h.1
 
-ended-text : (words : List Word) (u : Unit {0}) → ended words ≡ Ok u → words ≡ []
-unfolding ended
+ended-text : (words : List Word) (u : Unit {0}) → end_of_words words ≡ Ok u → words ≡ []
+unfolding end_of_words
 ended-text [] u e = refl
 ended-text (w ∷ words) u e = absurd (Err-Ok UnknownWord u e)
 
@@ -375,10 +375,10 @@ aggregate_words-found before words a h =
     ap (λ ws. codes "aggregate" ∷ ws) t0 ∙ ap aggregate_words steps.made
 
 -- lines
-abbrev pub IsLine : Meaning → List Word → Meaning → Type 0
+abbrev pub IsLine : PolicyMeaning → List Word → PolicyMeaning → Type 0
 IsLine old words new = AddsRule old words new ⊎ AddsAggregate old words new
 
-pub rule_line-found : (p q : Meaning) (words tail : List Word) → words ≡ codes "rule" ∷ tail → rule_line p tail ≡ Ok q → AddsRule p words q
+pub rule_line-found : (p q : PolicyMeaning) (words tail : List Word) → words ≡ codes "rule" ∷ tail → rule_line p tail ≡ Ok q → AddsRule p words q
 unfolding rule_line
 rule_line-found p q words tail e h =
     ⊎_elim (λ (full : leb 4096 (length p.rules) ≡ true). absurd (Err-Ok TooMany q (rw full at h)))
@@ -396,7 +396,7 @@ rule_line-found p q words tail e h =
     })
     (cases_Bool (leb 4096 (length p.rules)))
 
-aggregate_line-found : (p q : Meaning) (words tail : List Word) → words ≡ codes "aggregate" ∷ tail → aggregate_line p tail ≡ Ok q → AddsAggregate p words q
+aggregate_line-found : (p q : PolicyMeaning) (words tail : List Word) → words ≡ codes "aggregate" ∷ tail → aggregate_line p tail ≡ Ok q → AddsAggregate p words q
 unfolding aggregate_line
 aggregate_line-found p q words tail e h =
     ⊎_elim (λ (full : leb 256 (length p.aggregates) ≡ true). absurd (Err-Ok TooMany q (rw full at h)))
@@ -412,7 +412,7 @@ aggregate_line-found p q words tail e h =
     })
     (cases_Bool (leb 256 (length p.aggregates)))
 
-pub line_of-found : (p q : Meaning) (words : List Word) → line_of p words ≡ Ok q → IsLine p words q
+pub line_of-found : (p q : PolicyMeaning) (words : List Word) → line_of p words ≡ Ok q → IsLine p words q
 unfolding line_of
 line_of-found p q words h =
     let first = bind_Ok (next_of words) (λ w. cond (bytes_eq w.0 (codes "rule")) (rule_line p w.1) (cond (bytes_eq w.0 (codes "aggregate")) (aggregate_line p w.1) (Err UnknownWord))) q h in
@@ -434,7 +434,7 @@ prefix_back None w h = ap (or_star prefix) h ∙ or_star-star prefix
 prefix_back (Some p) w h = or_star-word prefix BadPrefix w p (ap prefix_or_fault (prefix_of-only w p h)) prefix-star
 
 rule_only : (version : Version) (aggregates : List Definition) (words : List Word) (r : Rule) → SpellsRule version aggregates words r → rule_of version aggregates words ≡ Ok r
-unfolding rule_of next next_of after ended
+unfolding rule_of next next_of after end_of_words
 rule_only version aggregates words r h =
     ap (rule_of version aggregates) h.words_are
     ∙ rw (
@@ -445,38 +445,38 @@ rule_only version aggregates words r h =
       action_back version aggregates r.element r.action h.sound.element h.sound.action,
     ) refl
 
-pub rule_line-only : (p q : Meaning) (words : List Word) → AddsRule p words q → line_of p words ≡ Ok q
+pub rule_line-only : (p q : PolicyMeaning) (words : List Word) → AddsRule p words q → line_of p words ≡ Ok q
 unfolding line_of rule_line next_of
 rule_line-only p q words h =
-    ap (line_of p) h.words_are ∙ rw (lt-leb 4096 (length p.rules) h.room, rule_only p.version p.aggregates h.tail h.rule h.spelled) (ap (λ (m : Meaning). Ok m) h.added)
+    ap (line_of p) h.words_are ∙ rw (lt-leb 4096 (length p.rules) h.room, rule_only p.version p.aggregates h.tail h.rule h.spelled) (ap (λ (m : PolicyMeaning). Ok m) h.added)
 
-aggregate_line-only : (p q : Meaning) (words : List Word) → AddsAggregate p words q → line_of p words ≡ Ok q
+aggregate_line-only : (p q : PolicyMeaning) (words : List Word) → AddsAggregate p words q → line_of p words ≡ Ok q
 unfolding line_of aggregate_line next_of
 aggregate_line-only p q words h =
-    ap (line_of p) h.words_are ∙ rw (lt-leb 256 (length p.aggregates) h.room, aggregate_back p.aggregates h.aggregate h.sound) (ap (λ (m : Meaning). Ok m) h.added)
+    ap (line_of p) h.words_are ∙ rw (lt-leb 256 (length p.aggregates) h.room, aggregate_back p.aggregates h.aggregate h.sound) (ap (λ (m : PolicyMeaning). Ok m) h.added)
 
-pub line_of-only : (p q : Meaning) (words : List Word) → IsLine p words q → line_of p words ≡ Ok q
+pub line_of-only : (p q : PolicyMeaning) (words : List Word) → IsLine p words q → line_of p words ≡ Ok q
 line_of-only p q words h = ⊎_elim (λ (r : AddsRule p words q). rule_line-only p q words r) (λ (a : AddsAggregate p words q). aggregate_line-only p q words a) h
 
 -- steps of reading, where a policy comes out
-record Steps (so_far : Option Meaning) (line : List ℕ) (n : ℕ) (others : List (List ℕ)) (q : Meaning) : Type 0 where
-  pub mid : Option Meaning
+record Steps (so_far : Option PolicyMeaning) (line : List ℕ) (n : ℕ) (others : List (List ℕ)) (q : PolicyMeaning) : Type 0 where
+  pub mid : Option PolicyMeaning
   pub stepped : line_step so_far line ≡ Ok mid
   pub rest : read_lines mid (n + 1) others ≡ Ok q
 
-steps_by : (so_far : Option Meaning) (line : List ℕ) (n : ℕ) (others : List (List ℕ)) (q : Meaning) (r : Result (Option Meaning) FaultKind) → line_step so_far line ≡ r → then_read (at_line n r) (λ x. read_lines x (n + 1) others) ≡ Ok q → Steps so_far line n others q
+steps_by : (so_far : Option PolicyMeaning) (line : List ℕ) (n : ℕ) (others : List (List ℕ)) (q : PolicyMeaning) (r : Result (Option PolicyMeaning) FaultKind) → line_step so_far line ≡ r → then_read (at_line n r) (λ x. read_lines x (n + 1) others) ≡ Ok q → Steps so_far line n others q
 steps_by so_far line n others q (Ok x) e h = record { mid = x; stepped = e; rest = h }
 steps_by so_far line n others q (Err kind) e h = absurd (Err-Ok (record { line = n; kind = kind }) q h)
 
-steps_of : (so_far : Option Meaning) (line : List ℕ) (n : ℕ) (others : List (List ℕ)) (q : Meaning) → read_lines so_far n (line ∷ others) ≡ Ok q → Steps so_far line n others q
+steps_of : (so_far : Option PolicyMeaning) (line : List ℕ) (n : ℕ) (others : List (List ℕ)) (q : PolicyMeaning) → read_lines so_far n (line ∷ others) ≡ Ok q → Steps so_far line n others q
 steps_of so_far line n others q h = steps_by so_far line n others q (line_step so_far line) refl (sym (read_lines-cons so_far n line others) ∙ h)
 
-pub record LineRead (p : Meaning) (line : List ℕ) (x : Option Meaning) : Type 0 where
-  pub mid : Meaning
+pub record LineRead (p : PolicyMeaning) (line : List ℕ) (x : Option PolicyMeaning) : Type 0 where
+  pub mid : PolicyMeaning
   pub is : Some mid ≡ x
   pub line_is : AfterLine p (words_of line) mid
 
-pub line_step-found : (p : Meaning) (line : List ℕ) (x : Option Meaning) → line_step (Some p) line ≡ Ok x → LineRead p line x
+pub line_step-found : (p : PolicyMeaning) (line : List ℕ) (x : Option PolicyMeaning) → line_step (Some p) line ≡ Ok x → LineRead p line x
 unfolding line_step step
 line_step-found p line x h =
     ⊎_elim (λ (skip : is_skipped (words_of line) ≡ true). record { mid = p; is = same_Ok (Some p) x (rw skip at h); line_is = inl (skip, refl) })
@@ -485,7 +485,7 @@ line_step-found p line x h =
     record { mid = read.0; is = same_Ok (Some read.0) x read.2; line_is = inr (kept, line_of-found p read.0 (words_of line) read.1) })
     (cases_Bool (is_skipped (words_of line)))
 
-lines-found : (p q : Meaning) (n : ℕ) (lines : List (List ℕ)) → read_lines (Some p) n lines ≡ Ok q → AreLines p lines q
+lines-found : (p q : PolicyMeaning) (n : ℕ) (lines : List (List ℕ)) → read_lines (Some p) n lines ≡ Ok q → AreLines p lines q
 lines-found p q n [] h = same_Ok p q (sym (read_lines-done p n) ∙ h)
 lines-found p q n (line ∷ lines) h =
     let s = steps_of (Some p) line n lines q h in
@@ -514,24 +514,24 @@ version_of-is (w ∷ v ∷ []) version h =
     (cases_Bool (bytes_eq w (codes "policy")))
 version_of-is (w ∷ v ∷ u ∷ words) version h = absurd (none-some version h)
 
-begun_by : (o : Option Version) (m : Meaning) → after_header o ≡ Ok m → (version : Version) × (o ≡ Some version) × (without_lines version ≡ m)
+begun_by : (o : Option Version) (m : PolicyMeaning) → after_header o ≡ Ok m → (version : Version) × (o ≡ Some version) × (without_lines version ≡ m)
 begun_by None m e = absurd (Err-Ok NoHeader m e)
 begun_by (Some version) m e = (version, refl, same_Ok (without_lines version) m e)
 
-pub record HeaderRead (line : List ℕ) (x : Option Meaning) : Type 0 where
+pub record HeaderRead (line : List ℕ) (x : Option PolicyMeaning) : Type 0 where
   pub how : ((is_skipped (words_of line) ≡ true) × (None ≡ x)) ⊎ ((is_skipped (words_of line) ≡ false) × (version : Version) × (words_of line ≡ header version) × (Some (without_lines version) ≡ x))
 
-pub header-found : (line : List ℕ) (x : Option Meaning) → line_step None line ≡ Ok x → HeaderRead line x
+pub header-found : (line : List ℕ) (x : Option PolicyMeaning) → line_step None line ≡ Ok x → HeaderRead line x
 unfolding line_step step
 header-found line x h =
     ⊎_elim (λ (skip : is_skipped (words_of line) ≡ true). record { how = inl (skip, same_Ok None x (rw skip at h)) })
     (λ (kept : is_skipped (words_of line) ≡ false).
     let read = bind_Ok (after_header (version_of (words_of line))) (λ q. Ok (Some q)) x (rw kept at h) in
     let b = begun_by (version_of (words_of line)) read.0 read.1 in
-    record { how = inr (kept, b.0, version_of-is (words_of line) b.0 b.1, ap (λ (m : Meaning). Some m) b.2 ∙ same_Ok (Some read.0) x read.2) })
+    record { how = inr (kept, b.0, version_of-is (words_of line) b.0 b.1, ap (λ (m : PolicyMeaning). Some m) b.2 ∙ same_Ok (Some read.0) x read.2) })
     (cases_Bool (is_skipped (words_of line)))
 
-all-found : (q : Meaning) (n : ℕ) (lines : List (List ℕ)) → read_lines None n lines ≡ Ok q → AreAllLines lines q
+all-found : (q : PolicyMeaning) (n : ℕ) (lines : List (List ℕ)) → read_lines None n lines ≡ Ok q → AreAllLines lines q
 all-found q n [] h = Err-Ok (record { line = 1; kind = NoHeader }) q (sym (read_lines-empty n) ∙ h)
 all-found q n (line ∷ lines) h =
     let s = steps_of None line n lines q h in
@@ -543,26 +543,26 @@ all-found q n (line ∷ lines) h =
     read.how
 
 -- what is read is spelled so
-pub policy_of-found : (text : List ℕ) (q : Meaning) → policy_of text ≡ Ok q → Spells text q
+pub policy_of-found : (text : List ℕ) (q : PolicyMeaning) → policy_of text ≡ Ok q → Spells text q
 unfolding policy_of
 policy_of-found text q h = all-found q 1 (lines_of text) h
 
-pub line_step-only : (p m : Meaning) (line : List ℕ) → AfterLine p (words_of line) m → line_step (Some p) line ≡ Ok (Some m)
+pub line_step-only : (p m : PolicyMeaning) (line : List ℕ) → AfterLine p (words_of line) m → line_step (Some p) line ≡ Ok (Some m)
 unfolding line_step step
 line_step-only p m line h =
-    ⊎_elim (λ (skip : (is_skipped (words_of line) ≡ true) × (p ≡ m)). rw skip.0 (ap (λ (x : Meaning). Ok (Some x)) skip.1))
+    ⊎_elim (λ (skip : (is_skipped (words_of line) ≡ true) × (p ≡ m)). rw skip.0 (ap (λ (x : PolicyMeaning). Ok (Some x)) skip.1))
     (λ (kept : (is_skipped (words_of line) ≡ false) × IsLine p (words_of line) m). rw (kept.0, line_of-only p m (words_of line) kept.1) refl)
     h
 
-lines-only : (p q : Meaning) (n : ℕ) (lines : List (List ℕ)) → AreLines p lines q → read_lines (Some p) n lines ≡ Ok q
-lines-only p q n [] h = read_lines-done p n ∙ ap (λ (x : Meaning). Ok x) h
+lines-only : (p q : PolicyMeaning) (n : ℕ) (lines : List (List ℕ)) → AreLines p lines q → read_lines (Some p) n lines ≡ Ok q
+lines-only p q n [] h = read_lines-done p n ∙ ap (λ (x : PolicyMeaning). Ok x) h
 lines-only p q n (line ∷ lines) h = read_lines-cons (Some p) n line lines ∙ rw (line_step-only p h.0 line h.1) (lines-only h.0 q (n + 1) lines h.2)
 
 pub skip-only : (line : List ℕ) → is_skipped (words_of line) ≡ true → line_step None line ≡ Ok None
 unfolding line_step
 skip-only line skip = rw skip refl
 
-all-only : (q : Meaning) (n : ℕ) (lines : List (List ℕ)) → AreAllLines lines q → read_lines None n lines ≡ Ok q
+all-only : (q : PolicyMeaning) (n : ℕ) (lines : List (List ℕ)) → AreAllLines lines q → read_lines None n lines ≡ Ok q
 all-only q n [] h = absurd h
 all-only q n (line ∷ lines) h =
     ⊎_elim (λ (skip : (is_skipped (words_of line) ≡ true) × AreAllLines lines q).
@@ -572,16 +572,16 @@ all-only q n (line ∷ lines) h =
     h
 
 -- what is spelled so is read
-pub policy_of-only : (text : List ℕ) (q : Meaning) → Spells text q → policy_of text ≡ Ok q
+pub policy_of-only : (text : List ℕ) (q : PolicyMeaning) → Spells text q → policy_of text ≡ Ok q
 unfolding policy_of
 policy_of-only text q h = all-only q 1 (lines_of text) h
 
-pub parses-found : (text : List ℕ) (r : Result Meaning PolicyFault) → Parses (λ (p : Meaning). p) r (policy_of text) → IfOk r (λ p. Spells text p)
+pub parses-found : (text : List ℕ) (r : Result PolicyMeaning Fault) → Parses (λ (p : PolicyMeaning). p) r (policy_of text) → IfOk r (λ p. Spells text p)
 parses-found text (Ok p) h = policy_of-found text p h
 parses-found text (Err fault) h = tt
 
-pub parses-only : (text : List ℕ) (r : Result Meaning PolicyFault) (p : Meaning) → Parses (λ (q : Meaning). q) r (policy_of text) → Spells text p → Parses (λ (q : Meaning). q) r (Ok p)
-parses-only text r p h spelled = let P : Result Meaning PolicyFault → Type 0 = λ read. Parses (λ (q : Meaning). q) r read in subst P (policy_of-only text p spelled) h
+pub parses-only : (text : List ℕ) (r : Result PolicyMeaning Fault) (p : PolicyMeaning) → Parses (λ (q : PolicyMeaning). q) r (policy_of text) → Spells text p → Parses (λ (q : PolicyMeaning). q) r (Ok p)
+parses-only text r p h spelled = let P : Result PolicyMeaning Fault → Type 0 = λ read. Parses (λ (q : PolicyMeaning). q) r read in subst P (policy_of-only text p spelled) h
 
 pub one_policy : OnePolicy
 one_policy text p q a b = same_Ok p q (sym (policy_of-only text p a) ∙ policy_of-only text q b)

@@ -7,7 +7,7 @@ use Rattle.ipfix_element.specs.declared.kind.Kind.{Kind}
 use Rattle.ipfix_element.specs.declared.kind.Kind.TheVariants.{U8, U16, U32, U64, Ipv4, Ipv6, Mac, Seconds, Millis, Text, Octets}
 use Rattle.ipfix_element.specs.Kinds.{kind_of}
 use Rattle.flow_prefix.specs.declared.prefix.Prefix.{Prefix}
-use Rattle.flow_prefix.specs.declared.fault.PrefixFault.{PrefixFault}
+use Rattle.flow_prefix.specs.declared.fault.Fault.{Fault as PrefixFault}
 use Rattle.numerals.specs.Numerals.{number_of}
 use Rattle.flow_prefix.specs.Reading.{prefix_of}
 use Rattle.sequences.specs.Results.{◌>>=◌}

@@ -11,8 +11,8 @@ use Rattle.sequences.specs.Options.{◌>>=◌}
 use Rattle.policy_text.specs.Words.{Word}
 
 -- the element, where this is its name
-abbrev pub checked : Word → Element → Option Element
-checked word e = if nat_lt e.number 32768 && bytes_eq (element_name e) word then Some e else None
+abbrev pub element_if_named : Word → Element → Option Element
+element_if_named word e = if nat_lt e.number 32768 && bytes_eq (element_name e) word then Some e else None
 
 abbrev pub element_at : Option ℕ → Word → Option Element
 element_at pen word = number_of 32767 word >>= λ n. Some (record { pen = pen; number = n })
@@ -37,4 +37,4 @@ listed_or None word = numbered_of word
 
 -- the element whose name the word is
 unfoldable pub element_of : Word → Option Element
-element_of word = listed_or (find (λ line. bytes_eq line.name word) registry) word >>= checked word
+element_of word = listed_or (find (λ line. bytes_eq line.name word) registry) word >>= element_if_named word

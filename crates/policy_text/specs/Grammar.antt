@@ -9,7 +9,7 @@ use Rattle.policy_text.specs.declared.rule.Action.{Action}
 use Rattle.policy_text.specs.declared.rule.Action.TheVariants.{Pass, Withhold, Aggregate, Keep, Remove, Truncate, Degrade}
 use Rattle.policy_text.specs.declared.version.Version.{Version}
 use Rattle.policy_text.specs.Naming.{is_name}
-use Rattle.policy_text.specs.Policies.{Meaning, has_degrade, IsRanged, Aggregate as Definition}
+use Rattle.policy_text.specs.Policies.{PolicyMeaning, has_degrade, IsRanged, Aggregate as Definition}
 use Rattle.policy_text.specs.Classes.{place_of, width_at, is_time_at, is_key_kind}
 
 -- the name of the aggregate at a place
@@ -61,7 +61,7 @@ abbrev pub AreRules : Version → List Definition → List Rule → Type 0
 AreRules version aggregates rules = AllByRecursion (λ r. IsRule version aggregates r) rules
 
 -- a policy that a text may spell
-pub record IsPolicy (policy : Meaning) : Type 0 where
+pub record IsPolicy (policy : PolicyMeaning) : Type 0 where
   pub aggregates : AreAggregates [] policy.aggregates
   pub rules : AreRules policy.version policy.aggregates policy.rules
   pub few_aggregates : length policy.aggregates ≤ 256

@@ -14,38 +14,38 @@ use Rattle.policy_text.specs.Policies.{has_degrade}
 use Rattle.policy_text.specs.Grammar.{IsKey}
 
 -- what a word of a line is to be; where the version matters, the part has that of the text
-pub data Part : Type 0 where
+pub data LinePart : Type 0 where
   -- `rule` or `aggregate`
-  first_word : Version → Part
+  first_word : Version → LinePart
   -- the one word that the grammar has there
-  keyword : Part
-  who : Part
-  domain : Part
-  network : Part
+  keyword : LinePart
+  who : LinePart
+  domain : LinePart
+  network : LinePart
   -- `pass`, `withhold`, `aggregate` or `element`
-  action : Version → Part
+  action : Version → LinePart
   -- the NAME of an aggregate that a line before defines
-  known_name : Part
-  element_or_star : Part
+  known_name : LinePart
+  element_or_star : LinePart
   -- `keep`, `remove`, `truncate`, or `degrade` in a version that has it
-  treatment : Version → Part
-  bits : Part
+  treatment : Version → LinePart
+  bits : LinePart
   -- the NAME of an aggregate that no line before defines
-  unused_name : Part
-  key_list : Part
-  seconds : Part
+  unused_name : LinePart
+  key_list : LinePart
+  seconds : LinePart
   -- no word
-  line_end : Part
+  line_end : LinePart
 
 -- the parts of a line's words
-abbrev pub rule_parts : Version → List Part
+abbrev pub rule_parts : Version → List LinePart
 rule_parts version = keyword ∷ who ∷ keyword ∷ domain ∷ keyword ∷ network ∷ keyword ∷ network ∷ action version ∷ []
 
-abbrev pub aggregate_parts : List Part
+abbrev pub aggregate_parts : List LinePart
 aggregate_parts = unused_name ∷ keyword ∷ key_list ∷ keyword ∷ seconds ∷ keyword ∷ seconds ∷ []
 
 -- The parts behind a word: those that follow, or those of the line, the action or the treatment that the word names.
-abbrev pub parts_after : Part → Word → List Part → List Part
+abbrev pub parts_after : LinePart → Word → List LinePart → List LinePart
 parts_after (first_word version) word parts = if bytes_eq word (codes "rule") then rule_parts version else aggregate_parts
 parts_after (action version) word parts =
     if bytes_eq word (codes "aggregate") then known_name ∷ []
@@ -56,17 +56,17 @@ parts_after (treatment version) word parts =
 parts_after part word parts = parts
 
 -- the parts that are left when the first of them is this word
-abbrev pub parts_left : List Part → Word → List Part
+abbrev pub parts_left : List LinePart → Word → List LinePart
 parts_left [] word = []
 parts_left (part ∷ parts) word = parts_after part word parts
 
 -- the part that comes next
-abbrev pub next_part : List Part → Part
+abbrev pub next_part : List LinePart → LinePart
 next_part [] = line_end
 next_part (part ∷ parts) = part
 
 -- the part that stands behind these words
-abbrev pub part_behind : List Part → List Word → Part
+abbrev pub part_behind : List LinePart → List Word → LinePart
 part_behind parts front = next_part (fold parts_left parts front)
 
 -- The first piece of a key that doesn't fit: no element has the name, or the element may not stand after those before it.
@@ -81,7 +81,7 @@ pub record IsKeyFault (word : Word) (kind : FaultKind) : Type 0 where
       ⊎ ((e : Element) × IsElement e × (piece ≡ element_name e) × (IsKey (key ++ e ∷ []) → ⊥) × (kind ≡ BadKey))
 
 -- the kind of a faulty word by its part
-abbrev pub IsKindOf : Part → Word → FaultKind → Type 0
+abbrev pub IsKindOf : LinePart → Word → FaultKind → Type 0
 IsKindOf (first_word version) word kind = kind ≡ (if bytes_eq word (codes "rule") || bytes_eq word (codes "aggregate") then TooMany else UnknownWord)
 IsKindOf keyword word kind = kind ≡ UnknownWord
 IsKindOf who word kind = kind ≡ BadName
@@ -100,6 +100,6 @@ IsKindOf seconds word kind = kind ≡ BadNumber
 IsKindOf line_end word kind = kind ≡ UnknownWord
 
 -- the kind of a fault behind these words: a line that ends early, or the next word
-abbrev pub IsKindBehind : List Part → List Word → List Word → FaultKind → Type 0
+abbrev pub IsKindBehind : List LinePart → List Word → List Word → FaultKind → Type 0
 IsKindBehind parts front [] kind = kind ≡ UnknownWord
 IsKindBehind parts front (word ∷ words) kind = IsKindOf (part_behind parts front) word kind

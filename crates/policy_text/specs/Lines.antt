@@ -10,7 +10,7 @@ use Rattle.policy_text.specs.declared.rule.Action.{Action}
 use Rattle.policy_text.specs.declared.rule.Action.TheVariants.{Pass, Withhold, Aggregate, Keep, Remove, Truncate, Degrade}
 use Rattle.policy_text.specs.declared.version.Version.{Version}
 use Rattle.policy_text.specs.Words.{Word}
-use Rattle.policy_text.specs.Policies.{Meaning, has_degrade, with_aggregate, with_rule, Aggregate as Definition}
+use Rattle.policy_text.specs.Policies.{PolicyMeaning, has_degrade, with_aggregate, with_rule, Aggregate as Definition}
 use Rattle.policy_text.specs.Classes.{name, number, element, prefix, or_star, key_of, width_at, is_time_at, aggregate_place, new_name, interval, bits_within}
 
 -- the next word and those after it; in a line that ends early it is missing
@@ -32,9 +32,9 @@ after word words = do
   if bytes_eq w.0 word then Ok w.1 else Err UnknownWord
 
 -- that no word is left
-unfoldable pub ended : List Word → Result (Unit {0}) FaultKind
-ended [] = Ok tt
-ended (word ∷ words) = Err UnknownWord
+unfoldable pub end_of_words : List Word → Result (Unit {0}) FaultKind
+end_of_words [] = Ok tt
+end_of_words (word ∷ words) = Err UnknownWord
 
 -- what `truncate` asks of an element of this width
 unfoldable pub truncate_of : Option ℕ → List Word → Result (Action × List Word) FaultKind
@@ -95,7 +95,7 @@ rule_of version aggregates words = do
   d ← after (codes "to") from.1
   to ← next (or_star prefix) d
   done ← action_of version aggregates to.1
-  nothing_more ← ended done.1
+  nothing_more ← end_of_words done.1
   Ok (record { who = who.0; domain = domain.0; from = from.0; to = to.0; element = done.0.0; action = done.0.1 })
 
 -- behind `aggregate` at the start of a line
@@ -108,19 +108,19 @@ aggregate_of aggregates words = do
   seconds ← next interval b
   c ← after (codes "grace") seconds.1
   grace ← next (number 86400) c
-  nothing_more ← ended grace.1
+  nothing_more ← end_of_words grace.1
   Ok (record { name = name.0; key = key.0; interval = seconds.0; grace = grace.0 })
 
 -- the policy with one rule more
-unfoldable pub rule_line : Meaning → List Word → Result Meaning FaultKind
+unfoldable pub rule_line : PolicyMeaning → List Word → Result PolicyMeaning FaultKind
 rule_line policy words = if nat_le 4096 (length policy.rules) then Err TooMany else (rule_of policy.version policy.aggregates words >>= λ r. Ok (with_rule policy r))
 
 -- the policy with one aggregate more
-unfoldable pub aggregate_line : Meaning → List Word → Result Meaning FaultKind
+unfoldable pub aggregate_line : PolicyMeaning → List Word → Result PolicyMeaning FaultKind
 aggregate_line policy words = if nat_le 256 (length policy.aggregates) then Err TooMany else (aggregate_of policy.aggregates words >>= λ a. Ok (with_aggregate policy a))
 
 -- the policy after a line
-unfoldable pub line_of : Meaning → List Word → Result Meaning FaultKind
+unfoldable pub line_of : PolicyMeaning → List Word → Result PolicyMeaning FaultKind
 line_of policy words = do
   w ← next_of words
   if bytes_eq w.0 (codes "rule") then rule_line policy w.1

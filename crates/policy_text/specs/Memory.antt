@@ -5,7 +5,7 @@ use Rattle.std.specs.Str.{bytes_eq}
 use Rattle.policy_text.specs.declared.fault.FaultKind.{FaultKind}
 use Rattle.policy_text.specs.Words.{Word, words_of, lines_of, is_skipped}
 use Rattle.policy_text.specs.Naming.{is_name}
-use Rattle.policy_text.specs.Policies.{Meaning, Aggregate as Definition}
+use Rattle.policy_text.specs.Policies.{PolicyMeaning, Aggregate as Definition}
 use Rattle.policy_text.specs.Classes.{place_of}
 use Rattle.policy_text.specs.Lines.{next_of, after, rule_of}
 use Rattle.policy_text.specs.Spelling.{AreAllLines}
@@ -33,24 +33,24 @@ unfoldable pub names_subscriber : List Word → Bool
 names_subscriber words = name_follows (after (codes "for") words)
 
 -- a rule's line takes memory for the subscriber's name, and for the rule
-unfoldable pub rule_takes : Meaning → List Word → Bool
+unfoldable pub rule_takes : PolicyMeaning → List Word → Bool
 rule_takes policy words = nat_lt (length policy.rules) 4096 && (names_subscriber words || is_ok (rule_of policy.version policy.aggregates words))
 
 -- an aggregate's line takes memory for its name, and then for its key and the aggregate
-unfoldable pub aggregate_takes : Meaning → List Word → Bool
+unfoldable pub aggregate_takes : PolicyMeaning → List Word → Bool
 aggregate_takes policy words = nat_lt (length policy.aggregates) 256 && is_next (is_new_name policy.aggregates) words
 
-abbrev pub takes_by : Meaning → Result (Word × List Word) FaultKind → Bool
+abbrev pub takes_by : PolicyMeaning → Result (Word × List Word) FaultKind → Bool
 takes_by policy (Ok x) =
     if bytes_eq x.0 (codes "rule") then rule_takes policy x.1
     else (bytes_eq x.0 (codes "aggregate") && aggregate_takes policy x.1)
 takes_by policy (Err kind) = false
 
-unfoldable pub line_takes : Meaning → List Word → Bool
+unfoldable pub line_takes : PolicyMeaning → List Word → Bool
 line_takes policy words = takes_by policy (next_of words)
 
 -- a line that is skipped takes none, and nor does the header
-unfoldable pub step_takes : Option Meaning → List ℕ → Bool
+unfoldable pub step_takes : Option PolicyMeaning → List ℕ → Bool
 step_takes None line = false
 step_takes (Some policy) line = not (is_skipped (words_of line)) && line_takes policy (words_of line)
 
@@ -60,7 +60,7 @@ pub record TakesMemory (text : List ℕ) : Type 0 where
   pub before : List (List ℕ)
   pub line : List ℕ
   pub others : List (List ℕ)
-  pub so_far : Meaning
+  pub so_far : PolicyMeaning
   pub lines_are : lines_of text ≡ before ++ line ∷ others
   pub spelled : AreAllLines before so_far
   pub counts : is_skipped (words_of line) ≡ false

@@ -5,11 +5,11 @@ use Rattle.std.specs.Str.{bytes_eq}
 use Rattle.sequences.specs.Results.{◌>>=◌}
 use Rattle.policy_text.specs.declared.fault.FaultKind.{FaultKind}
 use Rattle.policy_text.specs.declared.fault.FaultKind.TheVariants.{NoHeader}
-use Rattle.policy_text.specs.declared.fault.PolicyFault.{PolicyFault}
+use Rattle.policy_text.specs.declared.fault.Fault.{Fault}
 use Rattle.policy_text.specs.declared.version.Version.{Version}
 use Rattle.policy_text.specs.declared.version.Version.TheVariants.{One, Two}
 use Rattle.policy_text.specs.Words.{Word, words_of, lines_of, is_skipped}
-use Rattle.policy_text.specs.Policies.{Meaning, without_lines}
+use Rattle.policy_text.specs.Policies.{PolicyMeaning, without_lines}
 use Rattle.policy_text.specs.Results.{at_line, then_read}
 use Rattle.policy_text.specs.Lines.{line_of}
 
@@ -25,28 +25,28 @@ version_of (w ∷ v ∷ []) = if bytes_eq w (codes "policy") then numbered_versi
 version_of (w ∷ v ∷ u ∷ words) = None
 
 -- the policy after a header of this version
-abbrev pub after_header : Option Version → Result Meaning FaultKind
+abbrev pub after_header : Option Version → Result PolicyMeaning FaultKind
 after_header None = Err NoHeader
 after_header (Some version) = Ok (without_lines version)
 
 -- the policy after a line that isn't skipped, of which the first is the header
-unfoldable pub step : Option Meaning → List Word → Result Meaning FaultKind
+unfoldable pub step : Option PolicyMeaning → List Word → Result PolicyMeaning FaultKind
 step None words = after_header (version_of words)
 step (Some policy) words = line_of policy words
 
 -- the same of a line that may be skipped; before the header there is no policy
-unfoldable pub line_step : Option Meaning → List ℕ → Result (Option Meaning) FaultKind
+unfoldable pub line_step : Option PolicyMeaning → List ℕ → Result (Option PolicyMeaning) FaultKind
 line_step so_far line =
     if is_skipped (words_of line) then Ok so_far
     else (step so_far (words_of line) >>= λ policy. Ok (Some policy))
 
 -- the policy after these lines, of which the first has number n
-unfoldable pub read_lines : Option Meaning → ℕ → List (List ℕ) → Result Meaning PolicyFault
+unfoldable pub read_lines : Option PolicyMeaning → ℕ → List (List ℕ) → Result PolicyMeaning Fault
 read_lines None n [] = Err (record { line = 1; kind = NoHeader })
 read_lines (Some policy) n [] = Ok policy
 read_lines so_far n (line ∷ others) =
     if is_skipped (words_of line) then read_lines so_far (n + 1) others
     else then_read (at_line n (step so_far (words_of line))) (λ policy. read_lines (Some policy) (n + 1) others)
 
-unfoldable pub policy_of : List ℕ → Result Meaning PolicyFault
+unfoldable pub policy_of : List ℕ → Result PolicyMeaning Fault
 policy_of text = read_lines None 1 (lines_of text)

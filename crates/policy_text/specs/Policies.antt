@@ -29,21 +29,21 @@ pub record IsRanged (key interval grace : ℕ) : Type 0 where
   pub grace_high : grace ≤ 86400
 
 -- the version that the header names, and the aggregates and the rules in the order of the text
-pub record Meaning : Type 0 where
+pub record PolicyMeaning : Type 0 where
   pub version : Version
   pub aggregates : List Aggregate
   pub rules : List Rule
 
 -- the policy of a header alone
-abbrev pub without_lines : Version → Meaning
+abbrev pub without_lines : Version → PolicyMeaning
 without_lines version = record { version = version; aggregates = []; rules = [] }
 
 -- the policy where none is given, that of `policy 1` alone
-abbrev pub nothing : Meaning
+abbrev pub nothing : PolicyMeaning
 nothing = without_lines One
 
-abbrev pub with_aggregate : Meaning → Aggregate → Meaning
+abbrev pub with_aggregate : PolicyMeaning → Aggregate → PolicyMeaning
 with_aggregate policy a = record { version = policy.version; aggregates = policy.aggregates ++ a ∷ []; rules = policy.rules }
 
-abbrev pub with_rule : Meaning → Rule → Meaning
+abbrev pub with_rule : PolicyMeaning → Rule → PolicyMeaning
 with_rule policy rule = record { version = policy.version; aggregates = policy.aggregates; rules = policy.rules ++ rule ∷ [] }

@@ -11,7 +11,7 @@ use Rattle.policy_text.specs.declared.rule.Action.TheVariants.{Pass, Withhold, A
 use Rattle.policy_text.specs.declared.version.Version.{Version}
 use Rattle.policy_text.specs.declared.version.Version.TheVariants.{One, Two}
 use Rattle.policy_text.specs.Words.{Word}
-use Rattle.policy_text.specs.Policies.{Meaning, Aggregate as Definition}
+use Rattle.policy_text.specs.Policies.{PolicyMeaning, Aggregate as Definition}
 use Rattle.policy_text.specs.Classes.{star}
 use Rattle.policy_text.specs.Grammar.{name_at, IsPolicy}
 use Rattle.policy_text.specs.Parsing.{policy_of}
@@ -60,12 +60,12 @@ abbrev pub line_text : List Word → List ℕ
 line_text words = join_with_byte 32 words ++ 10 ∷ []
 
 -- the header, the aggregates and the rules
-abbrev pub policy_lines : Meaning → List (List Word)
+abbrev pub policy_lines : PolicyMeaning → List (List Word)
 policy_lines policy = header policy.version ∷ (map aggregate_words policy.aggregates ++ map (rule_words policy.aggregates) policy.rules)
 
-unfoldable pub policy_text : Meaning → List ℕ
+unfoldable pub policy_text : PolicyMeaning → List ℕ
 policy_text policy = flat_map line_text (policy_lines policy)
 
 -- what is printed is read back
-abbrev pub ReadsBack : Type 0
-ReadsBack = (policy : Meaning) → IsPolicy policy → policy_of (policy_text policy) ≡ Ok policy
+abbrev pub PoliciesReadBack : Type 0
+PoliciesReadBack = (policy : PolicyMeaning) → IsPolicy policy → policy_of (policy_text policy) ≡ Ok policy

@@ -6,7 +6,7 @@ use Rattle.flow_prefix.specs.Text.{IsPrefixText}
 use Rattle.policy_text.specs.declared.rule.Rule.{Rule}
 use Rattle.policy_text.specs.declared.version.Version.{Version}
 use Rattle.policy_text.specs.Words.{Word, words_of, lines_of, is_skipped}
-use Rattle.policy_text.specs.Policies.{Meaning, without_lines, with_rule, with_aggregate, Aggregate as Definition}
+use Rattle.policy_text.specs.Policies.{PolicyMeaning, without_lines, with_rule, with_aggregate, Aggregate as Definition}
 use Rattle.policy_text.specs.Classes.{star}
 use Rattle.policy_text.specs.Grammar.{IsRule, IsAggregate}
 use Rattle.policy_text.specs.Printing.{word_or_star, itself, action_words, aggregate_words, header}
@@ -32,7 +32,7 @@ pub record SpellsRule (version : Version) (aggregates : List Definition) (words 
   pub words_are : words ≡ rule_tail aggregates r from to
 
 -- a line of a rule: there are at most 4096
-pub record AddsRule (old : Meaning) (words : List Word) (new : Meaning) : Type 0 where
+pub record AddsRule (old : PolicyMeaning) (words : List Word) (new : PolicyMeaning) : Type 0 where
   pub tail : List Word
   pub rule : Rule
   pub words_are : words ≡ codes "rule" ∷ tail
@@ -41,7 +41,7 @@ pub record AddsRule (old : Meaning) (words : List Word) (new : Meaning) : Type 0
   pub added : with_rule old rule ≡ new
 
 -- a line of an aggregate: there are at most 256
-pub record AddsAggregate (old : Meaning) (words : List Word) (new : Meaning) : Type 0 where
+pub record AddsAggregate (old : PolicyMeaning) (words : List Word) (new : PolicyMeaning) : Type 0 where
   pub aggregate : Definition
   pub words_are : words ≡ aggregate_words aggregate
   pub room : length old.aggregates < 256
@@ -49,25 +49,25 @@ pub record AddsAggregate (old : Meaning) (words : List Word) (new : Meaning) : T
   pub added : with_aggregate old aggregate ≡ new
 
 -- a line without words and a comment change nothing
-abbrev pub AfterLine : Meaning → List Word → Meaning → Type 0
+abbrev pub AfterLine : PolicyMeaning → List Word → PolicyMeaning → Type 0
 AfterLine old words new = ((is_skipped words ≡ true) × (old ≡ new)) ⊎ ((is_skipped words ≡ false) × (AddsRule old words new ⊎ AddsAggregate old words new))
 
 -- the lines lead from one policy to the other
-abbrev pub AreLines : Meaning → List (List ℕ) → Meaning → Type 0
+abbrev pub AreLines : PolicyMeaning → List (List ℕ) → PolicyMeaning → Type 0
 AreLines old [] new = old ≡ new
-AreLines old (line ∷ lines) new = (mid : Meaning) × AfterLine old (words_of line) mid × AreLines mid lines new
+AreLines old (line ∷ lines) new = (mid : PolicyMeaning) × AfterLine old (words_of line) mid × AreLines mid lines new
 
 -- the header is the first line that isn't skipped, and names the version
-abbrev pub AreAllLines : List (List ℕ) → Meaning → Type 0
+abbrev pub AreAllLines : List (List ℕ) → PolicyMeaning → Type 0
 AreAllLines [] new = ⊥
 AreAllLines (line ∷ lines) new =
     ((is_skipped (words_of line) ≡ true) × AreAllLines lines new)
     ⊎ ((is_skipped (words_of line) ≡ false) × (version : Version) × (words_of line ≡ header version) × AreLines (without_lines version) lines new)
 
 -- the text spells the policy
-abbrev pub Spells : List ℕ → Meaning → Type 0
+abbrev pub Spells : List ℕ → PolicyMeaning → Type 0
 Spells text policy = AreAllLines (lines_of text) policy
 
 -- no text spells two policies
 abbrev pub OnePolicy : Type 0
-OnePolicy = (text : List ℕ) (p q : Meaning) → Spells text p → Spells text q → p ≡ q
+OnePolicy = (text : List ℕ) (p q : PolicyMeaning) → Spells text p → Spells text q → p ≡ q

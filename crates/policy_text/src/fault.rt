@@ -83,16 +83,16 @@ impl<T: Drop> From<AllocFailed<T>> for FaultKind {
 /// Why a text is no policy: the first faulty line, counted from 1, and what is wrong with the first word
 /// in it that doesn't fit. The line is 0 where memory ran out. Its text is the kind's name.
 #[derive(Clone, Copy, Debug, PartialEq, Eq)]
-pub struct PolicyFault {
+pub struct Fault {
     /// The number of the faulty line, from 1. It is 0 where memory ran out.
     pub line: usize,
     /// What is wrong in it.
     pub kind: FaultKind,
 }
 
-impl Error for PolicyFault {}
+impl Error for Fault {}
 
-impl Display for PolicyFault {
+impl Display for Fault {
     ghost use Rattle.std.specs.Prelude.{Option, Some};
     ghost use Rattle.policy_text.specs.FaultTexts.{text_of_kind};
 

@@ -1,11 +1,11 @@
 //! Laws over the definitions that the calls of this crate cite: no code stands behind them.
-ghost use Rattle.policy_text.specs.Printing.{ReadsBack};
+ghost use Rattle.policy_text.specs.Printing.{PoliciesReadBack};
 ghost use Rattle.policy_text.specs.Spelling.{OnePolicy};
 ghost use Rattle.policy_text.specs.FirstFault.{FirstFault, PolicyOrFault};
 
 /// The printed text of a policy is read as that policy.
 pub fn print_then_parse()
-    ensures { ReadsBack }
+    ensures { PoliciesReadBack }
 {}
 
 /// No text spells two policies.

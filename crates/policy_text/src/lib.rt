@@ -7,7 +7,7 @@
 //! - `rule`: [`Rule`] and [`Action`], plain data.
 //! - `aggregate`: [`AggregateDef`], whose ranges its type keeps.
 //! - `name`: [`Name`] of a subscriber or an aggregate, and the test [`is_name`].
-//! - `fault`: [`PolicyFault`] and [`FaultKind`], why a text is no policy.
+//! - `fault`: [`Fault`] and [`FaultKind`], why a text is no policy.
 //! - `laws`: [`print_then_parse`], [`one_policy`] and [`first_fault`], proved over the definitions.
 //! - `words`, `classes`, `lines`: how a line is read, word by word.
 //!
@@ -34,7 +34,7 @@ mod version;
 mod words;
 
 pub use aggregate::AggregateDef;
-pub use fault::{FaultKind, PolicyFault};
+pub use fault::{Fault, FaultKind};
 pub use laws::{first_fault, one_policy, print_then_parse};
 pub use name::{Name, is_name};
 pub use policy::Policy;

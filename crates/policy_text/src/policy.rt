@@ -1,7 +1,7 @@
 //! Policies: read from their texts, line by line, and written as texts.
 ghost use Rattle.std.specs.Prelude.{◌≡◌, false, true, Ok, IfOk, IfErr, string_bytes};
 ghost use Rattle.policy_text.specs.Grammar.{IsPolicy};
-ghost use Rattle.policy_text.specs.Policies.{Meaning, without_lines};
+ghost use Rattle.policy_text.specs.Policies.{PolicyMeaning, without_lines};
 ghost use Rattle.policy_text.specs.Spelling.{Spells};
 ghost use Rattle.policy_text.specs.Printing.{policy_text};
 ghost use Rattle.policy_text.specs.FirstFault.{IsFirstFault};
@@ -12,7 +12,7 @@ ghost use Rattle.policy_text.specs.Parsing.{numbered_version, version_of, line_s
 ghost use Rattle.policy_text.specs.Memory.{rule_takes, aggregate_takes, line_takes, step_takes, TakesMemory};
 
 use crate::aggregate::AggregateDef;
-use crate::fault::{FaultKind, PolicyFault};
+use crate::fault::{Fault, FaultKind};
 use crate::lines::{read_aggregate, read_rule};
 use crate::print::policy_to_text;
 use crate::rule::Rule;
@@ -49,10 +49,10 @@ impl Drop for Policy {
 }
 
 impl Model for Policy {
-    ghost use Rattle.policy_text.specs.Policies.{Meaning};
+    ghost use Rattle.policy_text.specs.Policies.{PolicyMeaning};
     ghost use Rattle.policy_text.specs.Grammar.{IsPolicy};
 
-    ghost Value = { Meaning };
+    ghost Value = { PolicyMeaning };
 
     ghost view = { λ p. record { version = p.version; aggregates = p.aggregates.items; rules = p.rules.items } };
 
@@ -76,7 +76,7 @@ impl Policy {
     /// A policy is read, and printed again. A text that is no policy is refused, and the fault says why:
     ///
     /// ```rust
-    /// use policy_text::{FaultKind, Policy, PolicyFault};
+    /// use policy_text::{FaultKind, Policy, Fault};
     ///
     /// let text = "policy 1\n\
     ///     rule for acme in * from 192.0.2.0/24 to * pass\n\
@@ -87,17 +87,17 @@ impl Policy {
     /// // 192.0.2.1 has a bit past the first 24.
     /// let wrong = "policy 1\nrule for acme in * from 192.0.2.1/24 to * pass\n";
     /// let found = Policy::parse(alloc, wrong).err();
-    /// let fault = PolicyFault {
+    /// let fault = Fault {
     ///     line: 2,
     ///     kind: FaultKind::BadPrefix,
     /// };
     /// assert!(rt; found == Some(fault));
     /// ```
-    pub fn parse(alloc: Global, text: &str) -> Result<Policy, PolicyFault>
+    pub fn parse(alloc: Global, text: &str) -> Result<Policy, Fault>
         // What is read is spelled so.
         ensures found { IfOk result (λ policy. Spells text.now policy) }
         // What is spelled so is read, unless memory runs out.
-        ensures only { (policy : Meaning) → Spells text.now policy
+        ensures only { (policy : PolicyMeaning) → Spells text.now policy
             → Parses (λ p. p) result (Ok policy) }
         // What is refused has this first fault, unless memory ran out.
         ensures first { IfErr result (λ fault. is_memory fault.kind ≡ false
@@ -112,7 +112,7 @@ impl Policy {
     }
 
     /// The policy of a text, or its first fault.
-    fn read(alloc: Global, text: &str) -> Result<Policy, PolicyFault>
+    fn read(alloc: Global, text: &str) -> Result<Policy, Fault>
         ensures exact { Parses (λ policy. policy) result (policy_of text.now) }
         ensures memory { IfErr result (λ fault. is_memory fault.kind ≡ true
             → TakesMemory text.now) }
@@ -178,7 +178,7 @@ impl Policy {
         ensures spelled { IfOk result (λ text. Spells (string_bytes text) self.now) }
         ensures reads_back { IfOk result (λ text. policy_of (string_bytes text) ≡ Ok self.now) }
     {
-        let _rules = &self.rules;
+        let _for_proof = &self.rules;
         policy_to_text(alloc, self)
     }
 
@@ -256,7 +256,7 @@ fn read_line(
 }
 
 /// The fault of a line; want of memory has no line.
-fn fault_at(line: usize, kind: FaultKind) -> PolicyFault
+fn fault_at(line: usize, kind: FaultKind) -> Fault
     ensures { result ≡ fault_at line kind }
 {
     let line = if kind == FaultKind::OutOfMemory {
@@ -264,7 +264,7 @@ fn fault_at(line: usize, kind: FaultKind) -> PolicyFault
     } else {
         line
     };
-    PolicyFault { line, kind }
+    Fault { line, kind }
 }
 
 /// Whether the line has no words, or begins with `#`.

@@ -3,7 +3,7 @@ ghost use Rattle.std.specs.Prelude.{◌≡◌, ◌∷◌, List, ℕ, ◌<◌, �
 ghost use Rattle.std.specs.Option.{option_map};
 ghost use Rattle.policy_text.specs.Words.{words_of, first_of, is_blank};
 ghost use Rattle.policy_text.specs.Results.{Gives, is_memory};
-ghost use Rattle.policy_text.specs.Lines.{next_of, after, ended};
+ghost use Rattle.policy_text.specs.Lines.{next_of, after, end_of_words};
 
 use crate::fault::FaultKind;
 use numerals::is_word;
@@ -68,9 +68,9 @@ impl<'a> Words<'a> {
     }
 
     /// That no word is left.
-    #[tactic(auto, unfolding(crate::specs::Lines::ended))]
+    #[tactic(auto, unfolding(crate::specs::Lines::end_of_words))]
     pub(crate) fn end(&mut self) -> Result<(), FaultKind>
-        ensures value { Gives (λ _. tt) result (ended self.old) }
+        ensures value { Gives (λ _. tt) result (end_of_words self.old) }
         ensures no_memory { IfErr result (λ kind. is_memory kind ≡ false) }
     {
         match self.take() {

@@ -4,10 +4,10 @@ use Rattle.sequences.specs.Results.{◌>>=◌}
 use Rattle.ipfix_message.specs.declared.header.Header.{Header}
 use Rattle.ipfix_message.specs.Reading.{header_of}
 use Rattle.ipfix_session.specs.declared.read.Gap.{Gap}
-use Rattle.ipfix_session.specs.declared.read_error.ReadError.{ReadError}
+use Rattle.ipfix_session.specs.declared.fault.Fault.{Fault as ReadError}
 use Rattle.ipfix_session.specs.Contents.{Contents}
 use Rattle.ipfix_session.specs.Meaning.{Meaning, expected_number, gap_between, gap_of, meaning_of}
-use Rattle.prepared_message.specs.Preparation.{Preparation, AgreesWith, IsKept}
+use Rattle.prepared_message.specs.Preparation.{Preparation, AgreesWith, IsPreparedWith}
 
 -- contents that were read
 abbrev pub read_as : Contents → Result Contents ReadError
@@ -17,7 +17,7 @@ read_as c = Ok c
 abbrev pub meaning_as : Contents → Header → Option Gap → Result Meaning ReadError
 meaning_as c h gap = Ok (record { header = h; records = c.records; skips = c.skips; gap = gap })
 
-pub is_meant : (older : List (List ℕ)) (p : Preparation) (h : Header) (count : ℕ) (gap : Option Gap) → IsKept p h count → AgreesWith older p
+pub is_meant : (older : List (List ℕ)) (p : Preparation) (h : Header) (count : ℕ) (gap : Option Gap) → IsPreparedWith p h count → AgreesWith older p
     → gap ≡ gap_between (expected_number h.domain older) h.sequence → meaning_of older p.message ≡ meaning_as p.contents h gap
 unfolding meaning_of
 is_meant older p h count gap kept agrees gap_is =

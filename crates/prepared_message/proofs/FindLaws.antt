@@ -5,11 +5,11 @@ use Rattle.std.specs.List.{AllByRecursion}
 use Rattle.sequences.specs.Results.{◌>>=◌}
 use Rattle.ipfix_template.specs.declared.template.Template.{Template}
 use Rattle.ipfix_message.specs.declared.item.Item.{Item}
-use Rattle.ipfix_message.specs.declared.decode_error.DecodeError.{DecodeError}
-use Rattle.ipfix_message.specs.declared.decode_error.DecodeError.TheVariants as decode
+use Rattle.ipfix_message.specs.declared.fault.Fault.{Fault as DecodeError}
+use Rattle.ipfix_message.specs.declared.fault.Fault.TheVariants as decode
 use Rattle.ipfix_message.specs.Reading.{read_header, after_header, items_of}
-use Rattle.ipfix_session.specs.declared.read_error.ReadError.{ReadError}
-use Rattle.ipfix_session.specs.Answers.{held}
+use Rattle.ipfix_session.specs.declared.fault.Fault.{Fault as ReadError}
+use Rattle.ipfix_session.specs.Answers.{as_contents}
 use Rattle.ipfix_session.specs.Contents.{Contents, contents_after}
 use Rattle.ipfix_session.specs.InForce.{template_in_force}
 use Rattle.ipfix_session.specs.Meaning.{domain_of, items_of_domain, contents_of}
@@ -19,11 +19,11 @@ use Rattle.ipfix_session.proofs.SessionSteps.{contents_are}
 use Rattle.ipfix_session.proofs.AgreementLaws.{same_contents}
 use Rattle.ipfix_session.proofs.RecordCounts.{HoldAtMost, few_in}
 use Rattle.prepared_message.specs.declared.found.Found.{Found}
-use Rattle.prepared_message.specs.declared.fault.PrepareFault.{PrepareFault}
-use Rattle.prepared_message.specs.declared.fault.PrepareFault.TheVariants.{HasTemplates, Malformed, OutOfMemory}
+use Rattle.prepared_message.specs.declared.fault.Fault.{Fault}
+use Rattle.prepared_message.specs.declared.fault.Fault.TheVariants.{HasTemplates, Malformed, OutOfMemory}
 use Rattle.prepared_message.specs.SetIds.{has_template_set}
-use Rattle.prepared_message.specs.Seen.{seen}
-use Rattle.prepared_message.specs.Uses.{TablesAgree, AreInForce, known_in, used_by}
+use Rattle.prepared_message.specs.Seen.{used_pair}
+use Rattle.prepared_message.specs.Uses.{TablesAgree, AreUsesInForce, known_in, used_by}
 use Rattle.prepared_message.specs.Preparation.{Preparation, IsPrepared}
 use Rattle.prepared_message.specs.Finding.{IsFound}
 use Rattle.prepared_message.specs.Faults.{fault_of_decoding, without_templates, items_wanted, contents_wanted, prepared_from, Fails}
@@ -66,7 +66,7 @@ wanted message said is = by_items (items_of message) (has_template_set message) 
 -- ---- what was found
 
 -- a message holds few records
-pub few_found : (known : List (ℕ × List (ℕ × Template))) (message : List ℕ) (f : Found) → IsFound known message f → length (held f.contents).records ≤ 65535
+pub few_found : (known : List (ℕ × List (ℕ × Template))) (message : List ℕ) (f : Found) → IsFound known message f → length (as_contents f.contents).records ≤ 65535
 few_found known message f found =
     omega (
       arith,
@@ -76,14 +76,14 @@ few_found known message f found =
     )
 
 agree_found : (known : List (ℕ × List (ℕ × Template))) (message : List ℕ) (f : Found) → (found : IsFound known message f) → (older : List (List ℕ))
-    → AreInForce (domain_of message) older (map seen f.uses.items) → AgreeOn (in_force_after (domain_of message) older) (known_in (domain_of message) known) found.said
+    → AreUsesInForce (domain_of message) older (map used_pair f.uses.items) → AgreeOn (in_force_after (domain_of message) older) (known_in (domain_of message) known) found.said
 agree_found known message f found older all =
     agree_from (in_force_after (domain_of message) older) (known_in (domain_of message) known) None found.said tt
     (subst (λ (us : List (ℕ × Option Template)). AllByRecursion (Has (in_force_after (domain_of message) older)) us) found.used all)
 
 -- it agrees with messages exactly where the table by which it was read does
 pub used_found : (known : List (ℕ × List (ℕ × Template))) (message : List ℕ) (f : Found) → IsFound known message f → (older : List (List ℕ))
-    → AreInForce (domain_of message) older (map seen f.uses.items) ↔ TablesAgree known older message
+    → AreUsesInForce (domain_of message) older (map used_pair f.uses.items) ↔ TablesAgree known older message
 used_found known message f found older = (
   λ all. subst (λ (r : Result (List Item) DecodeError). IfOk r (AgreeOn g k)) (sym found.items) (agree_found known message f found older all),
   λ agree. subst (λ (us : List (ℕ × Option Template)). AllByRecursion (Has g) us) (sym found.used)
@@ -98,7 +98,7 @@ used_found known message f found older = (
 
 -- it is prepared by what was found
 pub prepared_found : (known : List (ℕ × List (ℕ × Template))) (message : List ℕ) (f : Found) → IsFound known message f
-    → IsPrepared (record { message = message; contents = held f.contents; used = map seen f.uses.items })
+    → IsPrepared (record { message = message; contents = as_contents f.contents; used = map used_pair f.uses.items })
 prepared_found known message f found =
     record {
       no_templates = subst (λ (r : Result (List Item) DecodeError). IfOk r BringNoTemplates) (sym found.items) found.unchanging;

@@ -8,8 +8,8 @@ use Rattle.sequences.specs.Sequence.{Front, End, Fault, Next, with_front, read_o
 use Rattle.sequences.proofs.SequenceLaws.{Lessens, takes_some, read_all-step}
 use Rattle.sequences.proofs.ListLaws.{AllByRecursion-append}
 use Rattle.ipfix_message.specs.declared.header.Header.{Header}
-use Rattle.ipfix_message.specs.declared.decode_error.DecodeError.{DecodeError}
-use Rattle.ipfix_message.specs.declared.decode_error.DecodeError.TheVariants.{BadSetLength}
+use Rattle.ipfix_message.specs.declared.fault.Fault.{Fault as DecodeError}
+use Rattle.ipfix_message.specs.declared.fault.Fault.TheVariants.{BadSetLength}
 use Rattle.ipfix_message.specs.declared.item.Item.{Item}
 use Rattle.ipfix_message.specs.declared.item.Item.TheVariants.{DataSet, Skipped}
 use Rattle.ipfix_message.specs.Reading.{read_header, template_front, set_items, found_set, set_front, after_header, items_of}

@@ -23,7 +23,7 @@ use Rattle.ipfix_session.specs.Keeping.{at_key, Keeps}
 use Rattle.ipfix_session.specs.Unchanging.{AgreesOn, AgreeOn}
 use Rattle.prepared_message.specs.declared.used.Used.{Used}
 use Rattle.prepared_message.specs.Uses.{data_set_of, is_again, used_by}
-use Rattle.prepared_message.specs.Seen.{seen}
+use Rattle.prepared_message.specs.Seen.{used_pair}
 
 -- an ID has this template, or none
 abbrev pub Has : (ℕ → Option Template) → ℕ × Option Template → Type 0
@@ -35,15 +35,15 @@ some_is : (a b : ℕ) → Some a ≡ Some b → a ≡ b
 some_is a b e = cc
 
 pub put_new : (found : ℕ → Option Template) (before : Option ℕ) (item : Item) (id : ℕ) (xs : List Used) (x : Used) (items : List Item)
-    → data_set_of item ≡ Some id → is_again before id ≡ false → seen x ≡ (id, found id)
-    → map seen (xs ++ x ∷ []) ++ used_by found (Some id) items ≡ map seen xs ++ used_by found before (item ∷ items)
+    → data_set_of item ≡ Some id → is_again before id ≡ false → used_pair x ≡ (id, found id)
+    → map used_pair (xs ++ x ∷ []) ++ used_by found (Some id) items ≡ map used_pair xs ++ used_by found before (item ∷ items)
 unfolding used_by
 put_new found before (DataSet other start len) id xs x items is fresh shown =
-    ap (λ (us : List (ℕ × Option Template)). us ++ used_by found (Some id) items) (map-append seen xs (x ∷ []))
-    ∙ append_assoc (map seen xs) (map seen (x ∷ [])) (used_by found (Some id) items)
-    ∙ ap (λ (u : ℕ × Option Template). map seen xs ++ u ∷ used_by found (Some id) items) shown
-    ∙ ap (λ (b : Bool). map seen xs ++ cond b (used_by found before items) ((id, found id) ∷ used_by found (Some id) items)) (sym fresh)
-    ∙ ap (λ (n : ℕ). map seen xs ++ used_by found before (DataSet n start len ∷ items)) (sym (some_is other id is))
+    ap (λ (us : List (ℕ × Option Template)). us ++ used_by found (Some id) items) (map-append used_pair xs (x ∷ []))
+    ∙ append_assoc (map used_pair xs) (map used_pair (x ∷ [])) (used_by found (Some id) items)
+    ∙ ap (λ (u : ℕ × Option Template). map used_pair xs ++ u ∷ used_by found (Some id) items) shown
+    ∙ ap (λ (b : Bool). map used_pair xs ++ cond b (used_by found before items) ((id, found id) ∷ used_by found (Some id) items)) (sym fresh)
+    ∙ ap (λ (n : ℕ). map used_pair xs ++ used_by found before (DataSet n start len ∷ items)) (sym (some_is other id is))
 put_new found before (Define other t) id xs x items is fresh shown = absurd cc
 put_new found before (Withdraw other) id xs x items is fresh shown = absurd cc
 put_new found before (WithdrawAll options) id xs x items is fresh shown = absurd cc
@@ -119,18 +119,18 @@ agree_to g found before (DataSet id start len ∷ items) agree =
 
 -- ---- the list of those that were used
 
-pub holds_there : (P : ℕ × Option Template → Type 0) (uses : List Used) (i : ℕ) (x : Used) → i < length uses → x ≡ get_or uses i x → AllByRecursion P (map seen uses) → P (seen x)
+pub holds_there : (P : ℕ × Option Template → Type 0) (uses : List Used) (i : ℕ) (x : Used) → i < length uses → x ≡ get_or uses i x → AllByRecursion P (map used_pair uses) → P (used_pair x)
 holds_there P [] i x low is all = absurd (omega (arith, low))
-holds_there P (u ∷ us) zero x low is all = subst (λ (y : Used). P (seen y)) (sym is) all.0
+holds_there P (u ∷ us) zero x low is all = subst (λ (y : Used). P (used_pair y)) (sym is) all.0
 holds_there P (u ∷ us) (suc i) x low is all = holds_there P us i x (omega (arith, low)) is all.1
 
 -- one more
-pub all_more : (P : ℕ × Option Template → Type 0) (uses : List Used) (i : ℕ) (x : Used) → i < length uses → x ≡ get_or uses i x → AllByRecursion P (map seen (take i uses)) → P (seen x) → AllByRecursion P (map seen (take (i + 1) uses))
+pub all_more : (P : ℕ × Option Template → Type 0) (uses : List Used) (i : ℕ) (x : Used) → i < length uses → x ≡ get_or uses i x → AllByRecursion P (map used_pair (take i uses)) → P (used_pair x) → AllByRecursion P (map used_pair (take (i + 1) uses))
 all_more P uses i x low is all this =
-    subst (λ (us : List (ℕ × Option Template)). AllByRecursion P us) (sym more) (AllByRecursion-append P (map seen (take i uses)) (seen x ∷ []) all (this, tt))
+    subst (λ (us : List (ℕ × Option Template)). AllByRecursion P us) (sym more) (AllByRecursion-append P (map used_pair (take i uses)) (used_pair x ∷ []) all (this, tt))
   where
-    more : map seen (take (i + 1) uses) ≡ map seen (take i uses) ++ seen x ∷ []
-    more = ap (map seen) (take_more uses i x low ∙ ap (λ (y : Used). take i uses ++ y ∷ []) (sym is)) ∙ map-append seen (take i uses) (x ∷ [])
+    more : map used_pair (take (i + 1) uses) ≡ map used_pair (take i uses) ++ used_pair x ∷ []
+    more = ap (map used_pair) (take_more uses i x low ∙ ap (λ (y : Used). take i uses ++ y ∷ []) (sym is)) ∙ map-append used_pair (take i uses) (x ∷ [])
 
 -- what is used by one more item
 pub used_more : (found : ℕ → Option Template) (said : List Item) (i : ℕ) (item : Item) (before next : Option ℕ) (us vs : List (ℕ × Option Template)) (whole : List (ℕ × Option Template))

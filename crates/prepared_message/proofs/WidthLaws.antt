@@ -7,18 +7,18 @@ use Rattle.sequences.proofs.ListLaws.{drop_read}
 use Rattle.ipfix_template.specs.declared.template.Template.{Template}
 use Rattle.ipfix_message.specs.declared.item.Item.{Item}
 use Rattle.ipfix_message.specs.declared.item.Item.TheVariants.{Define, Withdraw, WithdrawAll, Refused, DataSet, Skipped}
-use Rattle.ipfix_message.specs.declared.decode_error.DecodeError.{DecodeError}
+use Rattle.ipfix_message.specs.declared.fault.Fault.{Fault as DecodeError}
 use Rattle.ipfix_message.specs.declared.header.Header.{Header}
 use Rattle.ipfix_message.specs.Reading.{header_of, items_of}
 use Rattle.prepared_message.specs.declared.width.Width.{Width}
 use Rattle.prepared_message.specs.declared.width.TheConstants.{VALUES_AN_OCTET}
-use Rattle.prepared_message.specs.Widths.{width_of, set_values, values_of, given, given_or, widths_in, IsTooWide}
+use Rattle.prepared_message.specs.Widths.{width_of, set_values, values_of, with_width, given_or, widths_in, IsTooWide}
 
 -- templates that are the same ID by ID have the same values
 values_same : (f g : ℕ → Option Width) → ((id : ℕ) → f id ≡ g id) → (said : List Item) → values_of f said ≡ values_of g said
 unfolding values_of
 values_same f g same [] = refl
-values_same f g same (Define id t ∷ said) = values_same (given id (width_of t) f) (given id (width_of t) g) (λ other. ap (λ w. cond (other == id) (Some (width_of t)) w) (same other)) said
+values_same f g same (Define id t ∷ said) = values_same (with_width id (width_of t) f) (with_width id (width_of t) g) (λ other. ap (λ w. cond (other == id) (Some (width_of t)) w) (same other)) said
 values_same f g same (DataSet id start octets ∷ said) =
     ap (λ w. set_values w octets + values_of f said) (same id) ∙ ap (λ n. set_values (g id) octets + n) (values_same f g same said)
 values_same f g same (Withdraw id ∷ said) = values_same f g same said
@@ -35,7 +35,7 @@ defines : (old new known : ℕ → Option Width) (id : ℕ) (t : Template) → (
     → values_of (given_or new known) said ≡ values_of (given_or old known) (Define id t ∷ said)
 unfolding values_of
 defines old new known id t is said =
-    values_same (given_or new known) (given id (width_of t) (given_or old known)) (λ other. ap (λ x. option_or x (known other)) (is other) ∙ or_given (other == id) (old other) (known other) (width_of t)) said
+    values_same (given_or new known) (with_width id (width_of t) (given_or old known)) (λ other. ap (λ x. option_or x (known other)) (is other) ∙ or_given (other == id) (old other) (known other) (width_of t)) said
 
 brings : (f : ℕ → Option Width) (id start octets : ℕ) (said : List Item) → values_of f (DataSet id start octets ∷ said) ≡ set_values (f id) octets + values_of f said
 unfolding values_of

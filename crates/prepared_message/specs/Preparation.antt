@@ -8,7 +8,7 @@ use Rattle.ipfix_session.specs.Meaning.{domain_of, contents_of}
 use Rattle.ipfix_session.specs.Unchanging.{HasNoTemplates}
 use Rattle.mediator_shares.specs.Judgements.{IsJudgementOf}
 use Rattle.mediator_shares.specs.declared.judgement.Judgement.{Judgement}
-use Rattle.prepared_message.specs.Uses.{AreInForce}
+use Rattle.prepared_message.specs.Uses.{AreUsesInForce}
 
 -- the message, what it was found to hold, and the IDs of its Data Sets with the templates by which it was read
 pub record Preparation : Type 0 where
@@ -18,7 +18,7 @@ pub record Preparation : Type 0 where
 
 -- the templates that it used are in force after messages, which stand newest first
 abbrev pub AgreesWith : List (List ℕ) → Preparation → Type 0
-AgreesWith older p = AreInForce (domain_of p.message) older p.used
+AgreesWith older p = AreUsesInForce (domain_of p.message) older p.used
 
 -- the message brings no template, and wherever those that it used are in force it holds what was found
 pub record IsPrepared (p : Preparation) : Type 0 where
@@ -26,11 +26,11 @@ pub record IsPrepared (p : Preparation) : Type 0 where
   pub holds : (older : List (List ℕ)) → AgreesWith older p → contents_of older p.message ≡ Ok p.contents
 
 -- beside it stand the message's header and how many records there are
-pub record IsKept (p : Preparation) (header : Header) (count : ℕ) : Type 0 where
+pub record IsPreparedWith (p : Preparation) (header : Header) (count : ℕ) : Type 0 where
   pub prepared : IsPrepared p
   pub headed : header_of p.message ≡ header
   pub counted : length p.contents.records ≡ count
 
 -- what was judged of the records, if it was
-abbrev pub IsJudged : Header → Contents → Option Judgement → Type 0
-IsJudged header contents judgement = IfSome judgement (IsJudgementOf header.domain contents.records)
+abbrev pub AreRecordsJudged : Header → Contents → Option Judgement → Type 0
+AreRecordsJudged header contents judgement = IfSome judgement (IsJudgementOf header.domain contents.records)

@@ -6,5 +6,5 @@ use Rattle.ipfix_template.specs.declared.template.Template.{Template}
 use Rattle.prepared_message.specs.declared.used.Used.{Used}
 
 -- the ID and its template
-abbrev pub seen : Used → ℕ × Option Template
-seen used = (used.id, option_map arc_value used.template)
+abbrev pub used_pair : Used → ℕ × Option Template
+used_pair used = (used.id, option_map arc_value used.template)

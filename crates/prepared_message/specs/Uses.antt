@@ -46,8 +46,8 @@ used_by found before (Refused id why ∷ items) = used_by found before items
 used_by found before (Skipped set ∷ items) = used_by found before items
 
 -- an ID of a domain has this template, or none, after messages
-abbrev pub IsInForce : ℕ → List (List ℕ) → ℕ × Option Template → Type 0
-IsInForce domain older used = in_force_after domain older used.0 ≡ used.1
+abbrev pub IsUseInForce : ℕ → List (List ℕ) → ℕ × Option Template → Type 0
+IsUseInForce domain older used = in_force_after domain older used.0 ≡ used.1
 
-abbrev pub AreInForce : ℕ → List (List ℕ) → List (ℕ × Option Template) → Type 0
-AreInForce domain older uses = AllByRecursion (IsInForce domain older) uses
+abbrev pub AreUsesInForce : ℕ → List (List ℕ) → List (ℕ × Option Template) → Type 0
+AreUsesInForce domain older uses = AllByRecursion (IsUseInForce domain older) uses

@@ -23,8 +23,8 @@ set_values None octets = 0
 set_values (Some w) octets = w.fields * (octets / max w.shortest 1) + w.fields
 
 -- by the template that an ID is given, and else as before
-abbrev pub given : ℕ → Width → (ℕ → Option Width) → ℕ → Option Width
-given id w known other = if other == id then Some w else known other
+abbrev pub with_width : ℕ → Width → (ℕ → Option Width) → ℕ → Option Width
+with_width id w known other = if other == id then Some w else known other
 
 -- by the first of two, and else by the second
 abbrev pub given_or : (ℕ → Option Width) → (ℕ → Option Width) → ℕ → Option Width
@@ -33,7 +33,7 @@ given_or first known id = option_or (first id) (known id)
 -- of all Data Sets of a message, each by the template that its ID was given last; templates that a message withdraws count on
 unfoldable pub values_of : (ℕ → Option Width) → List Item → ℕ
 values_of known [] = 0
-values_of known (Define id t ∷ said) = values_of (given id (width_of t) known) said
+values_of known (Define id t ∷ said) = values_of (with_width id (width_of t) known) said
 values_of known (DataSet id start octets ∷ said) = set_values (known id) octets + values_of known said
 values_of known (Withdraw id ∷ said) = values_of known said
 values_of known (WithdrawAll options ∷ said) = values_of known said

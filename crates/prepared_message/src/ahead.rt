@@ -3,7 +3,7 @@ ghost use Rattle.std.specs.Prelude.{◌≡◌, true, IfOk, IfSome, IsTrue};
 ghost use Rattle.mediator_shares.specs.Judgements.{IsJudgementOf};
 ghost use Rattle.prepared_message.specs.Holding.{IsAheadOf};
 
-use crate::fault::PrepareFault;
+use crate::fault::Fault;
 use crate::snapshot::Snapshot;
 use bytes::Bytes;
 use ipfix_message::{items, read_header};
@@ -51,13 +51,13 @@ impl JudgedAhead {
     /// of it changes.
     ///
     /// # Errors
-    /// [`PrepareFault::Malformed`] where the octets are no message, or a data record goes past its set by these
-    /// templates; or [`PrepareFault::OutOfMemory`].
+    /// [`Fault::Malformed`] where the octets are no message, or a data record goes past its set by these
+    /// templates; or [`Fault::OutOfMemory`].
     pub fn of(
         snapshot: &Snapshot,
         message: &Bytes,
         workspace: &mut Workspace,
-    ) -> Result<Option<JudgedAhead>, PrepareFault>
+    ) -> Result<Option<JudgedAhead>, Fault>
         ensures { IfOk result (λ found. IfSome found (IsAheadOf message.now)) }
     {
         let Some(terms) = &snapshot.terms else {

@@ -1,13 +1,13 @@
-//! Why a message is not prepared, and why a prepared one is not taken in.
+//! Why a message is not prepared.
 
-use ipfix_message::DecodeError;
-use ipfix_session::ReadError;
+use ipfix_message::Fault as DecodeError;
+use ipfix_session::Fault as ReadError;
 use std::alloc::{AllocError, AllocFailed};
 use thiserror::Error;
 
 /// Why a message is not prepared. Where the octets are a message, a set of templates is named before any other fault.
 #[derive(Clone, Copy, Debug, PartialEq, Eq, Error)]
-pub enum PrepareFault {
+pub enum Fault {
     /// The message has a Template Set or an Options Template Set: a set with the ID 2 or 3 (RFC 7011, section 3.3.2).
     #[error("HasTemplates")]
     HasTemplates,
@@ -19,79 +19,56 @@ pub enum PrepareFault {
     OutOfMemory,
 }
 
-impl From<AllocError> for PrepareFault {
+impl From<AllocError> for Fault {
     ghost use Rattle.std.specs.Prelude.{◌≡◌};
-    ghost use Rattle.prepared_message.specs.declared.fault.PrepareFault.TheVariants.{OutOfMemory};
+    ghost use Rattle.prepared_message.specs.declared.fault.Fault.TheVariants.{OutOfMemory};
 
     ghost from_gives = { λ _ e. e ≡ OutOfMemory };
 
-    fn from(_e: AllocError) -> PrepareFault {
-        PrepareFault::OutOfMemory
+    fn from(_e: AllocError) -> Fault {
+        Fault::OutOfMemory
     }
 }
 
-impl<T: Drop> From<AllocFailed<T>> for PrepareFault {
+impl<T: Drop> From<AllocFailed<T>> for Fault {
     ghost use Rattle.std.specs.Prelude.{◌≡◌};
-    ghost use Rattle.prepared_message.specs.declared.fault.PrepareFault.TheVariants.{OutOfMemory};
+    ghost use Rattle.prepared_message.specs.declared.fault.Fault.TheVariants.{OutOfMemory};
 
     ghost from_gives = { λ _ e. e ≡ OutOfMemory };
 
-    fn from(_e: AllocFailed<T>) -> PrepareFault {
-        PrepareFault::OutOfMemory
+    fn from(_e: AllocFailed<T>) -> Fault {
+        Fault::OutOfMemory
     }
 }
 
-impl From<DecodeError> for PrepareFault {
+impl From<DecodeError> for Fault {
     ghost use Rattle.std.specs.Prelude.{◌≡◌};
     ghost use Rattle.prepared_message.specs.Faults.{fault_of_decoding};
 
     ghost from_gives = { λ d e. e ≡ fault_of_decoding d };
 
-    fn from(fault: DecodeError) -> PrepareFault {
+    fn from(fault: DecodeError) -> Fault {
         match fault {
-            DecodeError::OutOfMemory => PrepareFault::OutOfMemory,
+            DecodeError::OutOfMemory => Fault::OutOfMemory,
             DecodeError::ShortHeader
             | DecodeError::BadVersion
             | DecodeError::BadLength
             | DecodeError::BadSetLength
-            | DecodeError::TemplateOverrun => PrepareFault::Malformed,
+            | DecodeError::TemplateOverrun => Fault::Malformed,
         }
     }
 }
 
-impl From<ReadError> for PrepareFault {
+impl From<ReadError> for Fault {
     ghost use Rattle.std.specs.Prelude.{◌≡◌};
     ghost use Rattle.prepared_message.specs.Faults.{fault_of_reading};
 
     ghost from_gives = { λ r e. e ≡ fault_of_reading r };
 
-    fn from(fault: ReadError) -> PrepareFault {
+    fn from(fault: ReadError) -> Fault {
         match fault {
-            ReadError::OutOfMemory => PrepareFault::OutOfMemory,
-            ReadError::Malformed(_) | ReadError::RecordOverrun => PrepareFault::Malformed,
+            ReadError::OutOfMemory => Fault::OutOfMemory,
+            ReadError::Malformed(_) | ReadError::RecordOverrun => Fault::Malformed,
         }
-    }
-}
-
-/// Why a session doesn't take in a prepared message. Nothing has changed then.
-#[derive(Clone, Copy, Debug, PartialEq, Eq, Error)]
-pub enum ApplyFault {
-    /// An ID of the message has another template in the session than in the snapshot, or only one of them has one. The
-    /// message can be prepared anew.
-    #[error("Stale")]
-    Stale,
-    /// Want of memory. It says nothing of the message.
-    #[error("OutOfMemory")]
-    OutOfMemory,
-}
-
-impl From<AllocError> for ApplyFault {
-    ghost use Rattle.std.specs.Prelude.{◌≡◌};
-    ghost use Rattle.prepared_message.specs.declared.fault.ApplyFault.TheVariants.{OutOfMemory};
-
-    ghost from_gives = { λ _ e. e ≡ OutOfMemory };
-
-    fn from(_e: AllocError) -> ApplyFault {
-        ApplyFault::OutOfMemory
     }
 }

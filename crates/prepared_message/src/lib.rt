@@ -7,7 +7,7 @@
 //! - [`prepared`]: `Prepared`, a message that was read against a snapshot: `prepare`; `apply_to` and `reading_in` for the
 //!   session that takes it in; `take_judgement`, what was judged.
 //! - [`ahead`]: `JudgedAhead`, what was judged of a message that its session reads itself, since it brings templates.
-//! - [`fault`]: `PrepareFault` and `ApplyFault`, why a message is not prepared, and why it is not taken in.
+//! - [`fault`]: `Fault`, why a message is not prepared.
 //! - [`width`]: how many values the Data Sets of a message may have: `Snapshot::is_too_wide`, and `VALUES_AN_OCTET`.
 //! - [`counting`]: how many of its records may count in aggregates: `counts_too_many` of `Prepared` and `JudgedAhead`, and
 //!   `MOST_COUNTS`.
@@ -18,9 +18,9 @@
 //! Proved: `prepare` answers the records and skips that the message holds after the messages that the snapshot stands for, or
 //! which fault it has (`gives`). Its type keeps that the message brings no template, and holds these contents wherever the
 //! templates that it used are in force. `apply_to` answers what `Session::apply` answers to the message (`means`), and the
-//! session then stands for it too (`stands`); `reading_in` gives what `Session::read` gives (`reading`). Both answer Stale
-//! only where an ID of the message has another template, or none, in the session (`stale`), and where they answer a fault
-//! nothing has changed (`err`).
+//! session then stands for it too (`stands`); `reading_in` gives what `Session::read` gives (`reading`). Both answer `None`
+//! only where an ID of the message has another template, or none, in the session (`stale`). Nothing has changed then
+//! (`none`), nor for want of memory (`err`).
 //! What `take_judgement` gives are the shares of the message's records by the terms of which it speaks (`judgement`). What
 //! `JudgedAhead::judgement_of` gives are the shares of those records that it is asked about. `Snapshot::is_too_wide` is exact.
 //! Where `counts_too_many` answers that they are, the message holds so many by some templates and on some terms.
@@ -38,7 +38,7 @@ pub mod width;
 
 pub use ahead::JudgedAhead;
 pub use counting::MOST_COUNTS;
-pub use fault::{ApplyFault, PrepareFault};
+pub use fault::Fault;
 pub use prepared::Prepared;
 pub use snapshot::Snapshot;
 pub use width::VALUES_AN_OCTET;

@@ -1,15 +1,15 @@
 //! A message that was read against a snapshot of its session's templates, to be taken in later.
-ghost use Rattle.std.specs.Prelude.{◌≡◌, ◌≤◌, ◌^◌, ◌↔◌, ℕ, List, ◌∷◌, Ok, IsTrue, IfOk, IfSome, OnOk, OnErr, length};
-ghost use Rattle.ipfix_session.specs.Answers.{held, shown};
+ghost use Rattle.std.specs.Prelude.{◌≡◌, ◌≤◌, ◌^◌, ◌↔◌, ℕ, List, ◌∷◌, Ok, IsTrue, IfOk, IfSome, IfNone, OnSome, OnErr, length};
+ghost use Rattle.ipfix_session.specs.Answers.{as_contents, as_meaning};
 ghost use Rattle.ipfix_session.specs.Meaning.{domain_of, meaning_of};
 ghost use Rattle.ipfix_session.specs.ReadAhead.{IsReadingOf};
 ghost use Rattle.ipfix_session.specs.Standing.{StandsFor, Knows};
-ghost use Rattle.prepared_message.specs.Faults.{Gives, IsStaleOnly, prepared_from};
-ghost use Rattle.prepared_message.specs.Preparation.{AgreesWith, IsPrepared, IsJudged};
+ghost use Rattle.prepared_message.specs.Faults.{Gives, prepared_from};
+ghost use Rattle.prepared_message.specs.Preparation.{AgreesWith, IsPrepared, AreRecordsJudged};
 ghost use Rattle.mediator_shares.specs.Judgements.{IsJudgementOf};
 ghost use Rattle.prepared_message.specs.Uses.{TablesAgree};
 
-use crate::fault::{ApplyFault, PrepareFault};
+use crate::fault::Fault;
 use crate::found::{Found, read_by};
 use crate::snapshot::Snapshot;
 use crate::used::{Used, are_in_force};
@@ -57,18 +57,18 @@ impl Model for Prepared {
 
     ghost use Rattle.std.specs.Prelude.{◌≡◌, map, length};
     ghost use Rattle.ipfix_message.specs.Reading.{header_of};
-    ghost use Rattle.ipfix_session.specs.Answers.{held};
-    ghost use Rattle.prepared_message.specs.Seen.{seen};
-    ghost use Rattle.prepared_message.specs.Preparation.{IsKept, IsJudged};
+    ghost use Rattle.ipfix_session.specs.Answers.{as_contents};
+    ghost use Rattle.prepared_message.specs.Seen.{used_pair};
+    ghost use Rattle.prepared_message.specs.Preparation.{IsPreparedWith, AreRecordsJudged};
 
-    ghost view = { λ p. record { message = p.message; contents = held p.contents; used = map seen p.uses.items } };
+    ghost view = { λ p. record { message = p.message; contents = as_contents p.contents; used = map used_pair p.uses.items } };
 
-    ghost invariant = { λ p. IsKept (record {
+    ghost invariant = { λ p. IsPreparedWith (record {
       message = p.message;
-      contents = held p.contents;
-      used = map seen p.uses.items;
+      contents = as_contents p.contents;
+      used = map used_pair p.uses.items;
     }) p.header p.count
-        × IsJudged p.header (held p.contents) p.judgement };
+        × AreRecordsJudged p.header (as_contents p.contents) p.judgement };
 }
 
 impl Prepared {
@@ -76,10 +76,10 @@ impl Prepared {
     /// copied. Where the snapshot has terms, the records are judged on them too, which shows in no other answer.
     ///
     /// # Errors
-    /// [`PrepareFault::HasTemplates`] where the octets are a message with a set of the ID 2 or 3;
-    /// [`PrepareFault::Malformed`] where they are no message, or a data record goes past its set; or
-    /// [`PrepareFault::OutOfMemory`].
-    pub fn prepare(snapshot: &Snapshot, message: Bytes) -> Result<Prepared, PrepareFault>
+    /// [`Fault::HasTemplates`] where the octets are a message with a set of the ID 2 or 3;
+    /// [`Fault::Malformed`] where they are no message, or a data record goes past its set; or
+    /// [`Fault::OutOfMemory`].
+    pub fn prepare(snapshot: &Snapshot, message: Bytes) -> Result<Prepared, Fault>
         // The answer is what the message holds after the messages that the snapshot stands for, or which fault it has.
         ensures gives { (older : List (List ℕ)) → Knows snapshot.now older
             → Gives (λ p. p.contents) result (prepared_from older message) }
@@ -101,7 +101,7 @@ impl Prepared {
         snapshot: &Snapshot,
         message: Bytes,
         workspace: &mut Workspace,
-    ) -> Result<Prepared, PrepareFault>
+    ) -> Result<Prepared, Fault>
         ensures gives { (older : List (List ℕ)) → Knows snapshot.now older
             → Gives (λ p. p.contents) result (prepared_from older message) }
         ensures whole { IfOk result (λ p. p.message ≡ message) }
@@ -172,63 +172,84 @@ impl Prepared {
     /// Takes the message in as the next one of `session`, and answers what it means, as [`Session::apply`] does for the
     /// same octets.
     ///
+    /// `None` says that it is stale, and can be prepared anew: an ID of the message has another template in the session
+    /// than in the snapshot, or only one of them has one. Nothing has changed then.
+    ///
     /// # Errors
-    /// [`ApplyFault::Stale`] where an ID of the message has another template in the session than in the snapshot, or
-    /// only one of them has one; or [`ApplyFault::OutOfMemory`]. Nothing has changed then.
-    pub fn apply_to(&self, session: &mut Session) -> Result<Read, ApplyFault>
+    /// Want of memory, and then nothing has changed.
+    pub fn apply_to(&self, session: &mut Session) -> Result<Option<Read>, AllocError>
         ensures means { (older : List (List ℕ)) → StandsFor session.old older
-            → IfOk result (λ r. meaning_of older self.now.message ≡ Ok (shown r)) }
+            → IfOk result (λ answer. IfSome answer
+            (λ r. meaning_of older self.now.message ≡ Ok (as_meaning r))) }
         ensures stands { (older : List (List ℕ)) → StandsFor session.old older
-            → OnOk result (StandsFor session.new (self.now.message ∷ older)) }
+            → IfOk result (λ answer. OnSome answer
+            (StandsFor session.new (self.now.message ∷ older))) }
         ensures stale { (older : List (List ℕ)) → StandsFor session.old older
-            → IsStaleOnly result (AgreesWith older self.now) }
+            → IfOk result (λ answer. IfNone answer (AgreesWith older self.now → ⊥)) }
+        ensures none { IfOk result (λ answer. IfNone answer
+            (session.new.standing ≡ session.old.standing)) }
         ensures err { OnErr result (session.new.standing ≡ session.old.standing) }
     {
-        let records = self.records_in(session)?;
-        let skips = self.contents.skips;
-        let gap = session.note(&self.header, self.count, skips.unknown != 0)?;
-        Ok(Read {
-            header: self.header,
-            records,
-            skips,
-            gap,
-        })
+        match self.records_in(session)? {
+            Some(records) => {
+                let skips = self.contents.skips;
+                let gap = session.note(&self.header, self.count, skips.unknown != 0)?;
+                Ok(Some(Read {
+                    header: self.header,
+                    records,
+                    skips,
+                    gap,
+                }))
+            }
+            None => Ok(None),
+        }
     }
 
     /// What was read of the message, as the next one of `session`: what [`Session::read`] gives for the same octets, to
     /// be handed to [`make_room`](Session::make_room) and [`keep`](Session::keep).
     ///
-    /// # Errors
-    /// [`ApplyFault::Stale`] where an ID of the message has another template in the session than in the snapshot, or
-    /// only one of them has one; or [`ApplyFault::OutOfMemory`].
-    pub fn reading_in(&self, session: &Session) -> Result<Reading, ApplyFault>
-        ensures reading { (older : List (List ℕ)) → StandsFor session.now older
-            → IfOk result (IsReadingOf older self.now.message) }
-        ensures domain { IfOk result (λ r. r.meaning.header.domain ≡ domain_of self.now.message) }
-        ensures records { IfOk result (λ r. r.meaning.records ≡ self.now.contents.records) }
-        ensures stale { (older : List (List ℕ)) → StandsFor session.now older
-            → IsStaleOnly result (AgreesWith older self.now) }
-    {
-        let records = self.records_in(session)?;
-        Ok(session.reading_of(self.header, records, self.contents.skips))
-    }
-
-    /// The records of the message, where `session` has the templates that the message used. No octet of them is copied.
+    /// `None` says that it is stale, and can be prepared anew: an ID of the message has another template in the session
+    /// than in the snapshot, or only one of them has one.
     ///
     /// # Errors
-    /// [`ApplyFault::Stale`] where an ID of the message has another template in the session than in the snapshot, or
-    /// only one of them has one; or [`ApplyFault::OutOfMemory`].
-    fn records_in(&self, session: &Session) -> Result<Records, ApplyFault>
-        ensures records { IfOk result (λ r. r ≡ self.now.contents.records) }
-        ensures agrees { (older : List (List ℕ)) → StandsFor session.now older
-            → OnOk result (AgreesWith older self.now) }
+    /// Want of memory.
+    pub fn reading_in(&self, session: &Session) -> Result<Option<Reading>, AllocError>
+        ensures reading { (older : List (List ℕ)) → StandsFor session.now older
+            → IfOk result (λ answer. IfSome answer (IsReadingOf older self.now.message)) }
+        ensures domain { IfOk result (λ answer. IfSome answer
+            (λ r. r.meaning.header.domain ≡ domain_of self.now.message)) }
+        ensures records { IfOk result (λ answer. IfSome answer
+            (λ r. r.meaning.records ≡ self.now.contents.records)) }
         ensures stale { (older : List (List ℕ)) → StandsFor session.now older
-            → IsStaleOnly result (AgreesWith older self.now) }
+            → IfOk result (λ answer. IfNone answer (AgreesWith older self.now → ⊥)) }
+    {
+        match self.records_in(session)? {
+            Some(records) => Ok(Some(session.reading_of(
+                self.header,
+                records,
+                self.contents.skips,
+            ))),
+            None => Ok(None),
+        }
+    }
+
+    /// The records of the message, where `session` has the templates that the message used, and else `None`. No octet of
+    /// them is copied.
+    ///
+    /// # Errors
+    /// Want of memory.
+    fn records_in(&self, session: &Session) -> Result<Option<Records>, AllocError>
+        ensures records { IfOk result (λ answer. IfSome answer
+            (λ r. r ≡ self.now.contents.records)) }
+        ensures agrees { (older : List (List ℕ)) → StandsFor session.now older
+            → IfOk result (λ answer. OnSome answer (AgreesWith older self.now)) }
+        ensures stale { (older : List (List ℕ)) → StandsFor session.now older
+            → IfOk result (λ answer. IfNone answer (AgreesWith older self.now → ⊥)) }
     {
         if !self.agrees_with(session) {
-            return Err(ApplyFault::Stale);
+            return Ok(None);
         }
-        Ok(self.contents.records.clone()?)
+        Ok(Some(self.contents.records.clone()?))
     }
 
     /// Whether each ID of a Data Set of the message has in `session` the template that it had in the snapshot, or none
@@ -256,7 +277,7 @@ fn judged(
     contents: &Contents,
 ) -> Result<Option<Judgement>, AllocError>
     requires few { length contents.now.records ≤ 2 ^ 32 }
-    ensures { IfOk result (IsJudged header.now (held contents.now)) }
+    ensures { IfOk result (AreRecordsJudged header.now (as_contents contents.now)) }
 {
     match &snapshot.terms {
         Some(terms) => {

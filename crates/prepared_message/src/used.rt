@@ -4,8 +4,8 @@ ghost use Rattle.std.specs.Option.{option_copied, option_map};
 ghost use Rattle.std.specs.Arc.{arc_value};
 ghost use Rattle.ipfix_message.specs.declared.item.Item.{Item};
 ghost use Rattle.ipfix_session.specs.Standing.{StandsFor};
-ghost use Rattle.prepared_message.specs.Uses.{IsInForce, AreInForce, known_in, data_set_of, is_again, used_by};
-ghost use Rattle.prepared_message.specs.Seen.{seen};
+ghost use Rattle.prepared_message.specs.Uses.{IsUseInForce, AreUsesInForce, known_in, data_set_of, is_again, used_by};
+ghost use Rattle.prepared_message.specs.Seen.{used_pair};
 
 use ipfix_message::Item;
 use ipfix_session::{Session, Templates};
@@ -23,7 +23,7 @@ pub(crate) struct Used {
 impl Used {
     /// The template that the ID had, or `None`.
     fn template(&self) -> Option<&Template>
-        ensures { option_copied result ≡ (seen self.now).1 }
+        ensures { option_copied result ≡ (used_pair self.now).1 }
     {
         match &self.template {
             Some(shared) => Some(shared),
@@ -34,7 +34,7 @@ impl Used {
     /// Whether the ID has the same template in the Observation Domain `domain` of `session`, or none where it had none.
     fn is_in_force(&self, domain: u32, session: &Session) -> bool
         ensures { (older : List (List ℕ)) → StandsFor session.now older
-            → IsTrue result ↔ IsInForce domain older (seen self.now) }
+            → IsTrue result ↔ IsUseInForce domain older (used_pair self.now) }
     {
         are_same(session.template(domain, self.id), self.template())
     }
@@ -57,7 +57,7 @@ fn are_same(kept: Option<&Template>, used: Option<&Template>) -> bool
 /// had none.
 pub(crate) fn are_in_force(uses: &[Used], domain: u32, session: &Session) -> bool
     ensures { (older : List (List ℕ)) → StandsFor session.now older
-        → IsTrue result ↔ AreInForce domain older (map seen uses.now) }
+        → IsTrue result ↔ AreUsesInForce domain older (map used_pair uses.now) }
 {
     for used in uses {
         if !used.is_in_force(domain, session) {
@@ -80,7 +80,7 @@ pub(crate) fn used_by(
     said: &[Item],
 ) -> Result<Vec<Used>, AllocError>
     ensures { IfOk result (λ uses.
-        map seen uses.items ≡ used_by (known_in domain templates.now) None said.now) }
+        map used_pair uses.items ≡ used_by (known_in domain templates.now) None said.now) }
 {
     let mut uses = Vec::new(alloc);
     let mut before = None;
@@ -103,8 +103,8 @@ fn put_used(
     before: &mut Option<u16>,
     uses: &mut Vec<Used>,
 ) -> Result<(), AllocError>
-    ensures { OnOk result ((items : List Item) → map seen uses.new.items
-        ++ used_by (known_in domain templates.now) before.new items ≡ map seen uses.old.items
+    ensures { OnOk result ((items : List Item) → map used_pair uses.new.items
+        ++ used_by (known_in domain templates.now) before.new items ≡ map used_pair uses.old.items
         ++ used_by (known_in domain templates.now) before.old (item.now ∷ items)) }
 {
     match data_set_of(item) {
@@ -143,7 +143,7 @@ fn is_again(before: Option<u16>, id: u16) -> bool
 /// # Errors
 /// Want of memory.
 fn used_of(templates: &Templates, domain: u32, id: u16) -> Result<Used, AllocError>
-    ensures { IfOk result (λ used. seen used ≡ (id, known_in domain templates.now id)) }
+    ensures { IfOk result (λ used. used_pair used ≡ (id, known_in domain templates.now id)) }
 {
     let template = match templates.shared(domain, id) {
         Some(shared) => Some(shared.clone()?),

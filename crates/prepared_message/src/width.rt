@@ -5,7 +5,7 @@ ghost use Rattle.std.specs.BTreeMap.{get};
 ghost use Rattle.prepared_message.specs.Widths.{width_of, set_values, values_of, given_or, widths_in, IsTooWide};
 ghost use Rattle.prepared_message.specs.declared.width.TheConstants.{VALUES_AN_OCTET};
 
-use crate::fault::PrepareFault;
+use crate::fault::Fault;
 use crate::snapshot::Snapshot;
 use bytes::Bytes;
 use ipfix_message::{Item, items, read_header};
@@ -53,8 +53,8 @@ impl Snapshot {
     /// The template of each is the one that its ID was given last, in the message or else in the session.
     ///
     /// # Errors
-    /// [`PrepareFault::Malformed`] where the octets are no message; or [`PrepareFault::OutOfMemory`].
-    pub fn is_too_wide(&self, message: &Bytes) -> Result<bool, PrepareFault>
+    /// [`Fault::Malformed`] where the octets are no message; or [`Fault::OutOfMemory`].
+    pub fn is_too_wide(&self, message: &Bytes) -> Result<bool, Fault>
         ensures { IfOk result (λ wide. IsTrue wide ↔ IsTooWide self.now message.now) }
     {
         let octets: &[u8] = message;

@@ -19,9 +19,9 @@ use Rattle.replay_text.specs.declared.verb.Verb.TheVariants as verb
 use Rattle.replay_text.specs.LineEnds.{with_line_ends}
 use Rattle.replay_text.specs.Sayings.{Saying}
 use Rattle.replay_text.specs.Sayings.Saying.{to_open, to_close, to_receive, to_edit, to_subscribe, to_unsubscribe, to_advance, to_pull, to_tell_status, to_drain_audit}
-use Rattle.replay_text.specs.Words.{Word, Left, next_word, next_number, last_number, last_word, ended}
+use Rattle.replay_text.specs.Words.{Word, Left, next_word, next_number, last_number, last_word, end_of_line}
 use Rattle.replay_text.specs.Lines.{greatest, verb_of, call_by, call_of, receive_of, edit_of, pull_of}
-use Rattle.replay_text.specs.Grammar.{words_text, IsNumberLine, IsReceiveLine, IsEditLine, IsSubscribeLine, IsPullLine, IsLineOf}
+use Rattle.replay_text.specs.Grammar.{words_text, IsNumberLine, IsReceiveLine, IsEditLine, IsSubscribeCall, IsPullLine, IsLineOf}
 use Rattle.replay_text.proofs.SpaceLaws.{behind, IsNext, IsLast, IsLastWord, next_word-found, next_word-only, next_number-found, next_number-only, ended-found, ended-only, last_number-found, last_number-only, last_word-found, last_word-only, last_word-none}
 
 -- ---- names
@@ -138,9 +138,9 @@ by_number name most left f said small line_of e =
     let P : Saying → Type 0 = λ s. IsLineOf s (name ++ behind left) in
     subst P found.1 (line_of found.0 (name ++ behind left) found.2)
 
-open_found : (left : Left) (said : Saying) → (ended left >>= λ done. Some to_open) ≡ Some said → IsLineOf said (codes "open" ++ behind left)
+open_found : (left : Left) (said : Saying) → (end_of_line left >>= λ done. Some to_open) ≡ Some said → IsLineOf said (codes "open" ++ behind left)
 open_found left said e =
-    let done = bind_some (ended left) _ said e in
+    let done = bind_some (end_of_line left) _ said e in
     let P : Saying → Type 0 = λ s. IsLineOf s (codes "open" ++ behind left) in
     subst P (same_Some to_open said done.2) (ap (λ (l : Left). codes "open" ++ behind l) (ended-found left done.0 done.1))
 
@@ -194,7 +194,7 @@ edit_found (Some text) said e =
     let P : Saying → Type 0 = λ s. IsLineOf s (codes "edit" ++ 32 ∷ text) in
     subst P (same_Some (to_edit (with_line_ends text)) said e) (text, refl, refl)
 
-subscribe_line : (left : Left) (name : List ℕ) → IsLastWord left name → IsSubscribeLine name (codes "subscribe" ++ behind left)
+subscribe_line : (left : Left) (name : List ℕ) → IsLastWord left name → IsSubscribeCall name (codes "subscribe" ++ behind left)
 subscribe_line left name (inl (end, empty)) = inl (empty, ap (λ (l : Left). codes "subscribe" ++ behind l) end)
 subscribe_line left name (inr (word, is)) = inr (word, ap (λ (l : Left). codes "subscribe" ++ behind l) is)
 
@@ -313,7 +313,7 @@ subscribe_read : (left : Left) (name : List ℕ) → last_word left ≡ Some nam
 unfolding call_by
 subscribe_read left name last = rw last refl
 
-subscribe_only : (name line : List ℕ) → IsSubscribeLine name line → call_of line ≡ Some (to_subscribe name)
+subscribe_only : (name line : List ℕ) → IsSubscribeCall name line → call_of line ≡ Some (to_subscribe name)
 subscribe_only name line (inl (empty, is)) = by_name verb.Subscribe None line (to_subscribe name) is (subscribe_read None name (last_word-none ∙ ap Some (sym empty)))
 subscribe_only name line (inr (word, is)) = by_name verb.Subscribe (Some name) line (to_subscribe name) is (subscribe_read (Some name) name (last_word-only name word))
 

@@ -14,7 +14,7 @@ use Rattle.numerals.specs.Numerals.{number_of}
 use Rattle.numerals.proofs.NumeralLaws.{number_of-found, number_of-only}
 use Rattle.flow_prefix.specs.Reading.{cut_at}
 use Rattle.flow_prefix.proofs.CutLaws.{cut_at-middle, cut_at-text}
-use Rattle.replay_text.specs.Words.{Word, Left, up_to_space, next_word, next_number, last_number, last_word, ended}
+use Rattle.replay_text.specs.Words.{Word, Left, up_to_space, next_word, next_number, last_number, last_word, end_of_line}
 
 -- ---- the first octet of a kind
 
@@ -142,13 +142,13 @@ next_number-only most n after small bound =
 
 -- ---- the end of a line
 
-pub ended-found : (left : Left) (done : Unit {0}) → ended left ≡ Some done → left ≡ None
-unfolding ended
+pub ended-found : (left : Left) (done : Unit {0}) → end_of_line left ≡ Some done → left ≡ None
+unfolding end_of_line
 ended-found None done e = refl
 ended-found (Some rest) done e = absurd (none-some done e)
 
-pub ended-only : ended None ≡ Some tt
-unfolding ended
+pub ended-only : end_of_line None ≡ Some tt
+unfolding end_of_line
 ended-only = refl
 
 -- the number is all that is left
@@ -156,7 +156,7 @@ pub record IsLast (most : ℕ) (left : Left) (n : ℕ) : Type 0 where
   pub bound : n ≤ most
   pub text : left ≡ Some (decimal n)
 
-last_found : (most : ℕ) (left : Left) (n : ℕ) (number : ℕ × Left) (done : Unit {0}) → most < 2 ^ 64 → next_number most left ≡ Some number → ended number.1 ≡ Some done → number.0 ≡ n → IsLast most left n
+last_found : (most : ℕ) (left : Left) (n : ℕ) (number : ℕ × Left) (done : Unit {0}) → most < 2 ^ 64 → next_number most left ≡ Some number → end_of_line number.1 ≡ Some done → number.0 ≡ n → IsLast most left n
 last_found most left n number done small read end same =
     let found = next_number-found most left number.0 number.1 small read in
     let bound = found.bound in
@@ -169,7 +169,7 @@ pub last_number-found : (most : ℕ) (left : Left) (n : ℕ) → most < 2 ^ 64 �
 unfolding last_number
 last_number-found most left n small e =
     let number = bind_some (next_number most left) _ n e in
-    let done = bind_some (ended number.0.1) _ n number.2 in
+    let done = bind_some (end_of_line number.0.1) _ n number.2 in
     last_found most left n number.0 done.0 small number.1 done.1 (same_Some number.0.0 n done.2)
 
 pub last_number-only : (most n : ℕ) → most < 2 ^ 64 → n ≤ most → last_number most (Some (decimal n)) ≡ Some n
@@ -183,7 +183,7 @@ last_number-only most n small bound =
 abbrev pub IsLastWord : Left → List ℕ → Type 0
 IsLastWord left word = ((left ≡ None) × (word ≡ [])) ⊎ (Lacks 32 word × (left ≡ Some word))
 
-last_word_found : (rest word : List ℕ) (read : Word × Left) (done : Unit {0}) → next_word (Some rest) ≡ Some read → ended read.1 ≡ Some done → read.0 ≡ word → IsLastWord (Some rest) word
+last_word_found : (rest word : List ℕ) (read : Word × Left) (done : Unit {0}) → next_word (Some rest) ≡ Some read → end_of_line read.1 ≡ Some done → read.0 ≡ word → IsLastWord (Some rest) word
 last_word_found rest word read done is end same =
     let found = next_word-found rest read.0 read.1 is in
     let P : List ℕ → Type 0 = λ t. Lacks 32 t in
@@ -194,7 +194,7 @@ unfolding last_word
 last_word-found None word e = inl (refl, sym (same_Some [] word e))
 last_word-found (Some rest) word e =
     let read = bind_some (next_word (Some rest)) _ word e in
-    let done = bind_some (ended read.0.1) _ word read.2 in
+    let done = bind_some (end_of_line read.0.1) _ word read.2 in
     last_word_found rest word read.0 done.0 read.1 done.1 (same_Some read.0.0 word done.2)
 
 pub last_word-only : (word : List ℕ) → Lacks 32 word → last_word (Some word) ≡ Some word

@@ -3,16 +3,16 @@ use Rattle.std.specs.Prelude.{ℕ, Bool, true, false, List, [], ◌∷◌, ◌++
 use Rattle.std.specs.List.{flat_map}
 use Rattle.std.specs.Fmt.{decimal}
 use Rattle.hex.specs.Hex.{encode_lower}
-use Rattle.ipfix_message.specs.declared.decode_error.DecodeError.{DecodeError}
-use Rattle.ipfix_message.specs.declared.decode_error.DecodeError.TheVariants as decode
-use Rattle.ipfix_session.specs.declared.read_error.ReadError.{ReadError}
-use Rattle.ipfix_session.specs.declared.read_error.ReadError.TheVariants as read
+use Rattle.ipfix_message.specs.declared.fault.Fault.{Fault as DecodeError}
+use Rattle.ipfix_message.specs.declared.fault.Fault.TheVariants as decode
+use Rattle.ipfix_session.specs.declared.fault.Fault.{Fault as ReadError}
+use Rattle.ipfix_session.specs.declared.fault.Fault.TheVariants as read
 use Rattle.ipfix_session.specs.declared.read.Gap.{Gap}
 use Rattle.ipfix_session.specs.declared.read.Skips.{Skips}
 use Rattle.policy_text.specs.FaultTexts.{text_of_kind}
 use Rattle.disclosure_audit.specs.declared.entry.AuditEntry.{AuditEntry}
 use Rattle.disclosure_audit.specs.Lines.{line_of}
-use Rattle.mediator_state.specs.declared.fault.Fault.{Fault}
+use Rattle.mediator_state.specs.declared.fault.Fault.{Fault as MediatorFault}
 use Rattle.mediator_state.specs.declared.fault.Fault.TheVariants as fault
 use Rattle.mediator_state.specs.declared.receipt.Receipt.{Receipt}
 use Rattle.mediator_state.specs.declared.receipt.Status.{Status}
@@ -67,21 +67,24 @@ read_word read.RecordOverrun = codes "RecordOverrun"
 read_word read.OutOfMemory = codes "OutOfMemory"
 
 -- what is said of a fault behind its name
-abbrev pub fault_details : Fault → List ℕ
+abbrev pub fault_details : MediatorFault → List ℕ
 fault_details (fault.OutOfTurn expected) = codes " " ++ decimal expected
 fault_details (fault.Malformed why) = codes " " ++ read_word why
 fault_details (fault.Policy why) = codes " " ++ decimal why.line ++ codes " " ++ text_of_kind why.kind
 fault_details (fault.AlreadySubscribed sub) = codes " " ++ decimal sub
 fault_details (fault.ClockBack last) = codes " " ++ decimal last
 fault_details (fault.AuditFull need room) = codes " " ++ decimal need ++ codes " " ++ decimal room
+fault_details fault.BadLimits = []
 fault_details fault.UnknownSession = []
 fault_details fault.Stale = []
 fault_details fault.BadName = []
 fault_details fault.UnknownSub = []
+fault_details fault.NoHandle = []
+fault_details fault.HandedFull = []
 fault_details fault.JournalFull = []
 fault_details fault.OutOfMemory = []
 
-abbrev pub refusal_text : Fault → List ℕ
+abbrev pub refusal_text : MediatorFault → List ℕ
 refusal_text why = codes "err " ++ text_of_fault why ++ fault_details why
 
 -- ---- the lines of an answer

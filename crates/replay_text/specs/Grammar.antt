@@ -6,11 +6,11 @@ use Rattle.std.specs.Prelude.{◌==◌}
 use Rattle.std.specs.Fmt.{decimal}
 use Rattle.hex.specs.Hex.{decode_of}
 use Rattle.mediator_calls.specs.declared.limits.Limits.{Limits}
-use Rattle.replay_text.specs.declared.fault.CallsFault.{CallsFault}
-use Rattle.replay_text.specs.declared.fault.CallsFault.TheVariants.{Line, OutOfMemory}
+use Rattle.replay_text.specs.declared.fault.Fault.{Fault}
+use Rattle.replay_text.specs.declared.fault.Fault.TheVariants.{Line, OutOfMemory}
 use Rattle.replay_text.specs.LineEnds.{with_line_ends}
 use Rattle.replay_text.specs.Lines.{greatest}
-use Rattle.replay_text.specs.Lists.{Asked, nothing, default_limits, lines_of, is_skipped}
+use Rattle.replay_text.specs.Lists.{AskedCalls, nothing, default_limits, lines_of, is_skipped}
 use Rattle.replay_text.specs.Sayings.{Saying}
 use Rattle.replay_text.specs.Sayings.Saying.{to_open, to_close, to_receive, to_edit, to_subscribe, to_unsubscribe, to_advance, to_pull, to_tell_status, to_drain_audit}
 use Rattle.replay_text.specs.Words.{Word}
@@ -41,8 +41,8 @@ abbrev pub IsEditLine : List ℕ → List ℕ → Type 0
 IsEditLine text line = (written : List ℕ) × (text ≡ with_line_ends written) × (line ≡ words_text (codes "edit" ∷ written ∷ []))
 
 -- `subscribe WORD`; an empty name needs no word
-abbrev pub IsSubscribeLine : List ℕ → List ℕ → Type 0
-IsSubscribeLine name line = ((name ≡ []) × (line ≡ codes "subscribe")) ⊎ (IsWord name × (line ≡ words_text (codes "subscribe" ∷ name ∷ [])))
+abbrev pub IsSubscribeCall : List ℕ → List ℕ → Type 0
+IsSubscribeCall name line = ((name ≡ []) × (line ≡ codes "subscribe")) ⊎ (IsWord name × (line ≡ words_text (codes "subscribe" ∷ name ∷ [])))
 
 -- `pull SUB NOW TARGET`
 pub record IsPullLine (sub now target : ℕ) (line : List ℕ) : Type 0 where
@@ -57,7 +57,7 @@ IsLineOf to_open line = line ≡ codes "open"
 IsLineOf (to_close session) line = IsNumberLine (codes "close") (greatest 64) session line
 IsLineOf (to_receive session number octets) line = IsReceiveLine session number octets line
 IsLineOf (to_edit text) line = IsEditLine text line
-IsLineOf (to_subscribe name) line = IsSubscribeLine name line
+IsLineOf (to_subscribe name) line = IsSubscribeCall name line
 IsLineOf (to_unsubscribe sub) line = IsNumberLine (codes "unsubscribe") (greatest 64) sub line
 IsLineOf (to_advance t) line = IsNumberLine (codes "advance") (greatest 64) t line
 IsLineOf (to_pull sub now target) line = IsPullLine sub now target line
@@ -80,7 +80,7 @@ AreCalls (line ∷ lines) [] = (is_skipped line ≡ true) × AreCalls lines []
 AreCalls (line ∷ lines) (said ∷ calls) = ((is_skipped line ≡ true) × AreCalls lines (said ∷ calls)) ⊎ (IsLineOf said line × AreCalls lines calls)
 
 -- the lines are a list of calls: the first that asks for something may set the limits
-abbrev pub AreList : List (List ℕ) → Asked → Type 0
+abbrev pub AreList : List (List ℕ) → AskedCalls → Type 0
 AreList [] list = list ≡ nothing
 AreList (line ∷ lines) list =
     ((is_skipped line ≡ true) × AreList lines list)
@@ -88,17 +88,17 @@ AreList (line ∷ lines) list =
     ⊎ ((list.limits ≡ default_limits) × AreCalls (line ∷ lines) list.calls))
 
 -- the text is a list of these calls on a mediator with these limits
-abbrev pub Lists : List ℕ → Asked → Type 0
+abbrev pub Lists : List ℕ → AskedCalls → Type 0
 Lists text list = AreList (lines_of text) list
 
 -- the first line that asks for nothing: the lines before it are a list of calls, and with it they are none
 pub record IsFirstBadLine (text : List ℕ) (n : ℕ) : Type 0 where
   pub stands : 1 ≤ n
   pub within : n ≤ length (lines_of text)
-  pub before : (list : Asked) × AreList (take (n - 1) (lines_of text)) list
-  pub bad : (list : Asked) → AreList (take n (lines_of text)) list → ⊥
+  pub before : (list : AskedCalls) × AreList (take (n - 1) (lines_of text)) list
+  pub bad : (list : AskedCalls) → AreList (take n (lines_of text)) list → ⊥
 
 -- the fault is the text's first line that asks for nothing; want of memory says nothing
-abbrev pub IsFaultOf : CallsFault → List ℕ → Type 0
+abbrev pub IsFaultOf : Fault → List ℕ → Type 0
 IsFaultOf (Line n) text = IsFirstBadLine text n
 IsFaultOf OutOfMemory text = Unit {0}

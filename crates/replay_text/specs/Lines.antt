@@ -10,7 +10,7 @@ use Rattle.replay_text.specs.declared.verb.Verb.TheVariants as verb
 use Rattle.replay_text.specs.LineEnds.{with_line_ends}
 use Rattle.replay_text.specs.Sayings.{Saying}
 use Rattle.replay_text.specs.Sayings.Saying.{to_open, to_close, to_receive, to_edit, to_subscribe, to_unsubscribe, to_advance, to_pull, to_tell_status, to_drain_audit}
-use Rattle.replay_text.specs.Words.{Word, Left, next_word, next_number, last_number, last_word, ended}
+use Rattle.replay_text.specs.Words.{Word, Left, next_word, next_number, last_number, last_word, end_of_line}
 
 -- the greatest number of so many bits
 abbrev pub greatest : ℕ → ℕ
@@ -56,7 +56,7 @@ pull_of left = do
 
 -- a call by the word that names it, with what stands behind that word
 unfoldable pub call_by : Verb → Left → Option Saying
-call_by verb.Open left = ended left >>= λ done. Some to_open
+call_by verb.Open left = end_of_line left >>= λ done. Some to_open
 call_by verb.Close left = last_number (greatest 64) left >>= λ session. Some (to_close session)
 call_by verb.Receive left = receive_of left
 call_by verb.Edit left = edit_of left

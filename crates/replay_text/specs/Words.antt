@@ -29,15 +29,15 @@ next_number most left = do
   Some (n, word.1)
 
 -- that the line has ended
-unfoldable pub ended : Left → Option (Unit {0})
-ended None = Some tt
-ended (Some rest) = None
+unfoldable pub end_of_line : Left → Option (Unit {0})
+end_of_line None = Some tt
+end_of_line (Some rest) = None
 
 -- the one word that is left, as a number from 0 to most
 unfoldable pub last_number : ℕ → Left → Option ℕ
 last_number most left = do
   n ← next_number most left
-  done ← ended n.1
+  done ← end_of_line n.1
   Some n.0
 
 -- the one word that is left, or an empty one where the line has ended
@@ -45,5 +45,5 @@ unfoldable pub last_word : Left → Option Word
 last_word None = Some []
 last_word (Some rest) = do
   word ← next_word (Some rest)
-  done ← ended word.1
+  done ← end_of_line word.1
   Some word.0

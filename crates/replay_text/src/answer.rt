@@ -8,10 +8,10 @@ ghost use Rattle.replay_text.specs.Answers.{answer_text, answers_text, receipt_t
 
 use bytes::Bytes;
 use disclosure_audit::{AuditEntry, line};
-use ipfix_message::DecodeError;
-use ipfix_session::{Gap, ReadError, Skips};
+use ipfix_message::Fault as DecodeError;
+use ipfix_session::{Fault as ReadError, Gap, Skips};
 use mediator_calls::Reply;
-use mediator_state::{Fault, Receipt, Status};
+use mediator_state::{Fault as MediatorFault, Receipt, Status};
 use std::alloc::{AllocError, Global};
 use std::fmt::Write;
 
@@ -167,7 +167,7 @@ fn put_entries(alloc: Global, text: &mut String, entries: &[AuditEntry]) -> Resu
 ///
 /// # Errors
 /// Want of memory.
-pub fn refusal_text(alloc: Global, why: &Fault) -> Result<String, AllocError>
+pub fn refusal_text(alloc: Global, why: &MediatorFault) -> Result<String, AllocError>
     ensures { IfOk result (λ text. string_bytes text ≡ refusal_text why.now ++ 10 ∷ []) }
 {
     let mut text = format!(in alloc; "err {why}")?;
@@ -177,29 +177,32 @@ pub fn refusal_text(alloc: Global, why: &Fault) -> Result<String, AllocError>
 }
 
 /// What is said of a fault behind its name.
-fn put_details(text: &mut String, why: &Fault) -> Result<(), AllocError>
+fn put_details(text: &mut String, why: &MediatorFault) -> Result<(), AllocError>
     ensures { OnOk result (string_bytes text.new ≡ string_bytes text.old ++ fault_details why.now) }
 {
     match why {
-        Fault::OutOfTurn { expected } => write!(text, " {expected}"),
-        Fault::Malformed(why) => {
+        MediatorFault::OutOfTurn { expected } => write!(text, " {expected}"),
+        MediatorFault::Malformed(why) => {
             text.push_str(" ")?;
             text.push_str(read_word(*why))
         }
-        Fault::Policy(why) => {
+        MediatorFault::Policy(why) => {
             let line = why.line;
             let kind = why.kind;
             write!(text, " {line} {kind}")
         }
-        Fault::AlreadySubscribed { sub } => write!(text, " {sub}"),
-        Fault::ClockBack { last } => write!(text, " {last}"),
-        Fault::AuditFull { need, room } => write!(text, " {need} {room}"),
-        Fault::UnknownSession
-        | Fault::Stale
-        | Fault::BadName
-        | Fault::UnknownSub
-        | Fault::JournalFull
-        | Fault::OutOfMemory => Ok(()),
+        MediatorFault::AlreadySubscribed { sub } => write!(text, " {sub}"),
+        MediatorFault::ClockBack { last } => write!(text, " {last}"),
+        MediatorFault::AuditFull { need, room } => write!(text, " {need} {room}"),
+        MediatorFault::BadLimits
+        | MediatorFault::UnknownSession
+        | MediatorFault::Stale
+        | MediatorFault::BadName
+        | MediatorFault::UnknownSub
+        | MediatorFault::NoHandle
+        | MediatorFault::HandedFull
+        | MediatorFault::JournalFull
+        | MediatorFault::OutOfMemory => Ok(()),
     }
 }
 

@@ -1,10 +1,10 @@
 //! Reads a list of calls from a text.
 ghost use Rattle.std.specs.Prelude.{◌≡◌, Ok, IfErr, IfOk};
 ghost use Rattle.std.specs.Option.{option_map};
-ghost use Rattle.replay_text.specs.Lists.{Asked, Reads, asked, nothing, list_of, line_step, step, call_step, is_skipped};
+ghost use Rattle.replay_text.specs.Lists.{AskedCalls, Reads, asked_calls, nothing, list_of, line_step, step, call_step, is_skipped};
 ghost use Rattle.replay_text.specs.Grammar.{IsFaultOf, Lists};
 
-use crate::fault::CallsFault;
+use crate::fault::Fault;
 use crate::line::{read_call, read_limits};
 use crate::words::cut_at;
 use event_journal::{MOST_ENTRIES, MOST_OCTETS};
@@ -36,11 +36,11 @@ pub struct CallList {
 ///
 /// # Errors
 /// `Line` with the number of the first line that asks for nothing, or `OutOfMemory`.
-pub fn read_call_list(alloc: Global, text: &str) -> Result<CallList, CallsFault>
+pub fn read_call_list(alloc: Global, text: &str) -> Result<CallList, Fault>
     // What is read is listed so.
-    ensures found { IfOk result (λ list. Lists text.now (asked list)) }
+    ensures found { IfOk result (λ list. Lists text.now (asked_calls list)) }
     // What is listed so is read, unless memory runs out.
-    ensures only { (list : Asked) → Lists text.now list → Reads result (Ok list) }
+    ensures only { (list : AskedCalls) → Lists text.now list → Reads result (Ok list) }
     // What is refused has this first line that asks for nothing, unless memory ran out.
     ensures first { IfErr result (λ fault. IsFaultOf fault text.now) }
     // Which line it is.
@@ -50,7 +50,7 @@ pub fn read_call_list(alloc: Global, text: &str) -> Result<CallList, CallsFault>
 }
 
 /// Reads the lines of a text, one after another.
-fn read_lines(alloc: Global, text: &str) -> Result<CallList, CallsFault>
+fn read_lines(alloc: Global, text: &str) -> Result<CallList, Fault>
     ensures { Reads result (list_of text.now) }
 {
     let mut list = CallList::new(alloc);
@@ -60,21 +60,21 @@ fn read_lines(alloc: Global, text: &str) -> Result<CallList, CallsFault>
     'lines: while let Some((line, after)) = cut_at(rest, '\n') {
         started = match list.read_line(alloc, started, line)? {
             Some(started) => started,
-            None => return Err(CallsFault::Line(number)),
+            None => return Err(Fault::Line(number)),
         };
         number += 1;
         rest = after;
     }
     match list.read_line(alloc, started, rest)? {
         Some(_) => Ok(list),
-        None => Err(CallsFault::Line(number)),
+        None => Err(Fault::Line(number)),
     }
 }
 
 impl CallList {
     /// No calls yet.
     fn new(alloc: Global) -> CallList
-        ensures { asked result ≡ nothing }
+        ensures { asked_calls result ≡ nothing }
     {
         CallList {
             limits: DEFAULT_LIMITS,
@@ -90,8 +90,8 @@ impl CallList {
         started: bool,
         line: &str,
     ) -> Result<Option<bool>, AllocError>
-        ensures { IfOk result (λ read. option_map (λ started. (started, asked self.new)) read
-            ≡ line_step started (asked self.old) line.now) }
+        ensures { IfOk result (λ read. option_map (λ started. (started, asked_calls self.new)) read
+            ≡ line_step started (asked_calls self.old) line.now) }
     {
         if is_skipped(line) {
             return Ok(Some(started));
@@ -110,8 +110,8 @@ impl CallList {
         started: bool,
         line: &str,
     ) -> Result<Option<()>, AllocError>
-        ensures { IfOk result (λ read. option_map (λ _. asked self.new) read
-            ≡ step started (asked self.old) line.now) }
+        ensures { IfOk result (λ read. option_map (λ _. asked_calls self.new) read
+            ≡ step started (asked_calls self.old) line.now) }
     {
         if started {
             return self.add_call(alloc, line);
@@ -128,8 +128,8 @@ impl CallList {
     /// Adds the call that a line asks for. `None` where it asks for none.
     #[tactic(auto, unfolding(crate::specs::Lists::call_step))]
     fn add_call(&mut self, alloc: Global, line: &str) -> Result<Option<()>, AllocError>
-        ensures { IfOk result (λ read. option_map (λ _. asked self.new) read
-            ≡ call_step (asked self.old) line.now) }
+        ensures { IfOk result (λ read. option_map (λ _. asked_calls self.new) read
+            ≡ call_step (asked_calls self.old) line.now) }
     {
         let Some(call) = read_call(alloc, line)? else {
             return Ok(None);

@@ -6,16 +6,16 @@ use std::fmt::{self, Display, Formatter, Write};
 
 /// Why a text is no list of calls. Its text is `calls line` with the number, or `OutOfMemory`.
 #[derive(Clone, Copy, Debug, PartialEq, Eq)]
-pub enum CallsFault {
+pub enum Fault {
     /// The line of this number, from 1, asks for nothing that there is.
     Line(usize),
     /// Want of memory.
     OutOfMemory,
 }
 
-impl Error for CallsFault {}
+impl Error for Fault {}
 
-impl Display for CallsFault {
+impl Display for Fault {
     ghost use Rattle.replay_text.specs.FaultTexts.{text_of_calls_fault};
     ghost use Rattle.std.specs.Prelude.{Option, Some};
 
@@ -23,30 +23,30 @@ impl Display for CallsFault {
 
     fn fmt<W: Write>(&self, f: &mut Formatter<W>) -> fmt::Result {
         match self {
-            CallsFault::Line(number) => write!(f, "calls line {number}"),
-            CallsFault::OutOfMemory => f.write_str("OutOfMemory"),
+            Fault::Line(number) => write!(f, "calls line {number}"),
+            Fault::OutOfMemory => f.write_str("OutOfMemory"),
         }
     }
 }
 
-impl From<AllocError> for CallsFault {
+impl From<AllocError> for Fault {
     ghost use Rattle.std.specs.Prelude.{◌≡◌};
-    ghost use Rattle.replay_text.specs.declared.fault.CallsFault.TheVariants.{OutOfMemory};
+    ghost use Rattle.replay_text.specs.declared.fault.Fault.TheVariants.{OutOfMemory};
 
     ghost from_gives = { λ _ e. e ≡ OutOfMemory };
 
-    fn from(_e: AllocError) -> CallsFault {
-        CallsFault::OutOfMemory
+    fn from(_e: AllocError) -> Fault {
+        Fault::OutOfMemory
     }
 }
 
-impl<T: Drop> From<AllocFailed<T>> for CallsFault {
+impl<T: Drop> From<AllocFailed<T>> for Fault {
     ghost use Rattle.std.specs.Prelude.{◌≡◌};
-    ghost use Rattle.replay_text.specs.declared.fault.CallsFault.TheVariants.{OutOfMemory};
+    ghost use Rattle.replay_text.specs.declared.fault.Fault.TheVariants.{OutOfMemory};
 
     ghost from_gives = { λ _ e. e ≡ OutOfMemory };
 
-    fn from(_e: AllocFailed<T>) -> CallsFault {
-        CallsFault::OutOfMemory
+    fn from(_e: AllocFailed<T>) -> Fault {
+        Fault::OutOfMemory
     }
 }

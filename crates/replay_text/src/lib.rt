@@ -4,7 +4,7 @@
 //! - `answer`: [`answer_text`], the lines of a reply, and [`answers_text`], those of replies one after another; of their parts
 //!   [`refusal_text`], [`drained_text`] and [`cut_word`].
 //! - `line_ends`: [`with_line_ends`], a policy that stands in one line.
-//! - `fault`: [`CallsFault`], why a text is no list of calls.
+//! - `fault`: [`Fault`], why a text is no list of calls.
 //! - `words`: the words of a line, and [`read_number`], the number that a word writes.
 //! - `verb`, `line`: what a line's words ask for.
 //!
@@ -23,6 +23,6 @@ mod words;
 
 pub use answer::{answer_text, answers_text, cut_word, drained_text, refusal_text};
 pub use call_list::{CallList, read_call_list};
-pub use fault::CallsFault;
+pub use fault::Fault;
 pub use line_ends::with_line_ends;
 pub use words::read_number;

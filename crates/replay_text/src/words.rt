@@ -3,7 +3,7 @@ ghost use Rattle.std.specs.Prelude.{◌≡◌, ◌≢◌, ◌≤◌, ◌<◌, �
 ghost use Rattle.std.specs.Option.{option_map};
 ghost use Rattle.numerals.specs.Numerals.{number_of, has_leading_zero};
 ghost use Rattle.flow_prefix.specs.Reading.{cut_at};
-ghost use Rattle.replay_text.specs.Words.{next_word, next_number, last_number, last_word, ended};
+ghost use Rattle.replay_text.specs.Words.{next_word, next_number, last_number, last_word, end_of_line};
 
 use std::marker::Model;
 
@@ -66,9 +66,9 @@ impl<'a> Words<'a> {
     }
 
     /// That the line has ended.
-    #[tactic(auto, unfolding(crate::specs::Words::ended))]
+    #[tactic(auto, unfolding(crate::specs::Words::end_of_line))]
     pub(crate) fn end(&mut self) -> Option<()>
-        ensures { result ≡ ended self.old }
+        ensures { result ≡ end_of_line self.old }
     {
         match self.rest {
             Some(_) => None,

@@ -27,7 +27,7 @@ use Rattle.rule_table.specs.declared.addresses.Address.{Address}
 use Rattle.rule_table.specs.declared.addresses.Shape.{Shape}
 use Rattle.rule_table.specs.Addresses.{address_of, address_at, addresses_of, shape_of}
 use Rattle.rule_table.specs.Marks.{name_mark, who_mark, inside_mark, prefix_mark, domain_mark, element_mark, element_of, condition_marks, present, or_alone, marks_of}
-use Rattle.rule_table.specs.Asked.{asked_at, asked_of, asked_elements, with_asked, asked_by, asked}
+use Rattle.rule_table.specs.Asked.{asked_at, asked_of, asked_elements, with_asked, asked_by, asked_marks}
 use Rattle.rule_table.specs.Candidates.{touches, has_element, may_match}
 use Rattle.rule_table.proofs.Members.{Passing, passing, given, joined, mapped, member}
 
@@ -173,16 +173,16 @@ alone_or P who (x ∷ xs) alone each m c = each m c
 
 for_whom : (name : List ℕ) (domain : ℕ) (ss ds : List Shape) (r : DataRecord) (who : Option (List ℕ)) (marks_by : ℕ → List ℕ) (m : ℕ)
     → ((w : ℕ) (marks : List ℕ) → Contains (marks_by w) m → Contains (asked_by w domain ss ds r marks) m) → is_met (bytes_eq name) who ≡ true
-    → Contains (marks_by (who_mark who)) m → Contains (asked name domain ss ds r) m
+    → Contains (marks_by (who_mark who)) m → Contains (asked_marks name domain ss ds r) m
 for_whom name domain ss ds r None marks_by m each e own = kept (name_mark name) domain _ _ _ (asked_by 0 domain ss ds r []) m (each 0 [] own)
 for_whom name domain ss ds r (Some w) marks_by m each e own =
     let same : name ≡ w = (bytes_eq-Decides name w).0 e in
-    let P : List ℕ → Type 0 = λ n. Contains (marks_by (name_mark n)) m → Contains (asked name domain ss ds r) m in
+    let P : List ℕ → Type 0 = λ n. Contains (marks_by (name_mark n)) m → Contains (asked_marks name domain ss ds r) m in
     subst P same (each (name_mark name) (asked_by 0 domain ss ds r [])) own
 
 pub asked_rule : (name : List ℕ) (domain : ℕ) (ss ds : List Shape) (r : DataRecord) (rule : Rule) → may_match name domain r rule ≡ true
     → IfSome rule.from (λ prefix. Contains ss (shape_of prefix)) → IfSome rule.to (λ prefix. Contains ds (shape_of prefix))
-    → (m : ℕ) → Contains (marks_of rule) m → Contains (asked name domain ss ds r) m
+    → (m : ℕ) → Contains (marks_of rule) m → Contains (asked_marks name domain ss ds r) m
 unfolding marks_of
 asked_rule name domain ss ds r rule e sf st m own =
     let parts = and_parts (is_for name domain rule) (touches r rule && is_met (has_element r.template.fields) (element_of rule)) e in

@@ -24,7 +24,7 @@ use Rattle.policy_judge.specs.Sides.{is_of}
 use Rattle.policy_judge.specs.Match.{are_inside}
 use Rattle.rule_table.specs.declared.addresses.Address.{Address}
 use Rattle.rule_table.specs.Addresses.{address_of, address_at, addresses_of}
-use Rattle.rule_table.specs.Covering.{AreInOrder, number_in, number_if, numbers_of, is_in, are_in}
+use Rattle.rule_table.specs.Covering.{AreSortedNumbers, number_in, number_if, numbers_of, is_in, are_in}
 use Rattle.rule_table.proofs.Members.{Passing, passing, here, behind}
 
 -- ---- tests of lists
@@ -193,12 +193,12 @@ are_in_order false n w bits a count values numbers counted each =
     rw (counted, long) (ap (λ b. nat_lt 0 (length values) && (length (numbers_of n values) == length values && b)) (sym (all_permuted (is_in w bits a) (numbers_of n values) numbers each))
     ∙ ap (λ b. nat_lt 0 (length values) && b) (sym (all_number n (is_in w bits a) values)))
 
-pub narrow_in : (denies : Bool) (net : Net) (count : ℕ) (values : List (List ℕ)) (narrow wide : List ℕ) → AreInOrder values count narrow wide
+pub narrow_in : (denies : Bool) (net : Net) (count : ℕ) (values : List (List ℕ)) (narrow wide : List ℕ) → AreSortedNumbers values count narrow wide
     → are_in denies count 32 net.length net.address narrow ≡ are_inside denies values (V4 net)
 narrow_in true net count values narrow wide are = are_in_order true 4 32 net.length net.address count values narrow are.counted are.each_narrow
 narrow_in false net count values narrow wide are = are_in_order false 4 32 net.length net.address count values narrow are.counted are.each_narrow
 
-pub wide_in : (denies : Bool) (net : Net) (count : ℕ) (values : List (List ℕ)) (narrow wide : List ℕ) → AreInOrder values count narrow wide
+pub wide_in : (denies : Bool) (net : Net) (count : ℕ) (values : List (List ℕ)) (narrow wide : List ℕ) → AreSortedNumbers values count narrow wide
     → are_in denies count 128 net.length net.address wide ≡ are_inside denies values (V6 net)
 wide_in true net count values narrow wide are = are_in_order true 16 128 net.length net.address count values wide are.counted are.each_wide
 wide_in false net count values narrow wide are = are_in_order false 16 128 net.length net.address count values wide are.counted are.each_wide
@@ -240,7 +240,7 @@ numbers_there side w n each (p ∷ ps) =
 
 pub in_order : (side : Side) (r : DataRecord) (addresses : List Address) (count : ℕ) (narrow wide : List ℕ) → addresses ≡ addresses_of side r → count ≡ length (values_of (is_of side) r)
     → IsPermutation (filter_map (number_in 32) addresses) narrow → IsNonDecreasing narrow → IsPermutation (filter_map (number_in 128) addresses) wide → IsNonDecreasing wide
-    → AreInOrder (values_of (is_of side) r) count narrow wide
+    → AreSortedNumbers (values_of (is_of side) r) count narrow wide
 in_order side r addresses count narrow wide are counted each_narrow narrow_up each_wide wide_up =
     let P : List ℕ → Type 0 = λ xs. IsPermutation xs narrow in
     let Q : List ℕ → Type 0 = λ xs. IsPermutation xs wide in
@@ -274,13 +274,13 @@ counted side r fields count sound read is =
 
 -- ---- a prefix of either family, as it was read
 
-pub narrow_read : (denies : Bool) (prefix : Prefix) (net : Net) (count bits a : ℕ) (values shown : List (List ℕ)) (narrow wide numbers : List ℕ) (answer : Bool) → AreInOrder values count narrow wide
+pub narrow_read : (denies : Bool) (prefix : Prefix) (net : Net) (count bits a : ℕ) (values shown : List (List ℕ)) (narrow wide numbers : List ℕ) (answer : Bool) → AreSortedNumbers values count narrow wide
     → values ≡ shown → prefix ≡ V4 net → numbers ≡ narrow → bits ≡ net.length → a ≡ net.address → answer ≡ are_in denies count 32 bits a numbers → answer ≡ are_inside denies shown prefix
 narrow_read denies prefix net count bits a values shown narrow wide numbers answer are same is read eb ea made =
     made ∙ ap (are_in denies count 32 bits a) read ∙ ap (λ n. are_in denies count 32 n a narrow) eb ∙ ap (λ n. are_in denies count 32 net.length n narrow) ea
     ∙ narrow_in denies net count values narrow wide are ∙ ap (λ vs. are_inside denies vs (V4 net)) same ∙ ap (are_inside denies shown) (sym is)
 
-pub wide_read : (denies : Bool) (prefix : Prefix) (net : Net) (count bits a : ℕ) (values shown : List (List ℕ)) (narrow wide numbers : List ℕ) (answer : Bool) → AreInOrder values count narrow wide
+pub wide_read : (denies : Bool) (prefix : Prefix) (net : Net) (count bits a : ℕ) (values shown : List (List ℕ)) (narrow wide numbers : List ℕ) (answer : Bool) → AreSortedNumbers values count narrow wide
     → values ≡ shown → prefix ≡ V6 net → numbers ≡ wide → bits ≡ net.length → a ≡ net.address → answer ≡ are_in denies count 128 bits a numbers → answer ≡ are_inside denies shown prefix
 wide_read denies prefix net count bits a values shown narrow wide numbers answer are same is read eb ea made =
     made ∙ ap (are_in denies count 128 bits a) read ∙ ap (λ n. are_in denies count 128 n a wide) eb ∙ ap (λ n. are_in denies count 128 net.length n wide) ea

@@ -8,7 +8,7 @@ use Rattle.std.proofs.lemmas.Option.{same_Some, slice_get_within}
 use Rattle.std.proofs.lemmas.List.{get_or_default, get_or-take, get_or-drop, length-take-le, length-drop}
 use Rattle.policy_text.specs.declared.rule.Rule.{Rule}
 use Rattle.rule_table.specs.Marks.{marks_of}
-use Rattle.rule_table.specs.Index.{entry, Stands, StandEach}
+use Rattle.rule_table.specs.Index.{entry, EntryStands, StandEach}
 use Rattle.std.proofs.lemmas.List.Elements.{Contains-append_left, Contains-append_right, Contains-push}
 use Rattle.std.proofs.lemmas.List.Sorted.{Contains-permutation}
 use Rattle.rule_table.proofs.Members.{mapped}
@@ -17,12 +17,12 @@ use Rattle.rule_table.proofs.Members.{mapped}
 
 -- so does each before a place
 abbrev pub StandBefore : List Rule → List ℕ → ℕ → Type 0
-StandBefore rules entries n = (place : ℕ) (rule : Rule) → place < n → slice_get rules place ≡ Some rule → Stands entries place rule
+StandBefore rules entries n = (place : ℕ) (rule : Rule) → place < n → slice_get rules place ≡ Some rule → EntryStands entries place rule
 
 standing_at : (rules : List Rule) (old : List ℕ) (mark n : ℕ) (item : Rule) (place : ℕ) (rule : Rule) → StandBefore rules old n → slice_get rules n ≡ Some item → Contains (marks_of item) mark
-    → place < n + 1 → slice_get rules place ≡ Some rule → (place < n) ⊎ (n ≤ place) → Stands (old ++ entry mark n ∷ []) place rule
+    → place < n + 1 → slice_get rules place ≡ Some rule → (place < n) ⊎ (n ≤ place) → EntryStands (old ++ entry mark n ∷ []) place rule
 standing_at rules old mark n item place rule stand this own l at (inl less) =
-    let s : Stands old place rule = stand place rule less at in
+    let s : EntryStands old place rule = stand place rule less at in
     record { mark = s.mark; own = s.own; there = Contains-append_left old (entry mark n ∷ []) (entry s.mark place) s.there }
 standing_at rules old mark n item place rule stand this own l at (inr more) =
     let here : n ≡ place = omega (arith, l, more) in
@@ -34,7 +34,7 @@ standing_at rules old mark n item place rule stand this own l at (inr more) =
 pub standing_more : (rules : List Rule) (old new : List ℕ) (mark n added : ℕ) (item : Rule) → new ≡ old ++ added ∷ [] → added ≡ entry mark n → StandBefore rules old n → slice_get rules n ≡ Some item
     → Contains (marks_of item) mark → StandBefore rules new (n + 1)
 standing_more rules old new mark n added item grown is stand this own place rule l at =
-    let P : List ℕ → Type 0 = λ entries. Stands entries place rule in
+    let P : List ℕ → Type 0 = λ entries. EntryStands entries place rule in
     subst P (ap (λ e. old ++ e ∷ []) (sym is) ∙ sym grown) (standing_at rules old mark n item place rule stand this own l at (cases_lt place n))
 
 pub standing_all : (rules : List Rule) (entries : List ℕ) (n : ℕ) → length rules ≤ n → StandBefore rules entries n → StandEach rules entries
@@ -44,7 +44,7 @@ standing_all rules entries n all stand place rule at =
 
 pub standing_sorted : (rules : List Rule) (listed sorted : List ℕ) → IsPermutation listed sorted → StandEach rules listed → StandEach rules sorted
 standing_sorted rules listed sorted same stand place rule at =
-    let s : Stands listed place rule = stand place rule at in
+    let s : EntryStands listed place rule = stand place rule at in
     record { mark = s.mark; own = s.own; there = Contains-permutation listed sorted (entry s.mark place) same s.there }
 
 -- ---- the place behind a mark

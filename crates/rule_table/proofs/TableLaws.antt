@@ -8,23 +8,23 @@ use Rattle.std.proofs.lemmas.List.Elements.{All-get_or}
 use Rattle.std.proofs.lemmas.List.FromFn.{length-range_with_len, get_or-range_with_len}
 use Rattle.ipfix_template.specs.DataRecord.{DataRecord}
 use Rattle.policy_text.specs.declared.rule.Rule.{Rule}
-use Rattle.policy_text.specs.Policies.{Meaning}
+use Rattle.policy_text.specs.Policies.{PolicyMeaning}
 use Rattle.policy_text.specs.Grammar.{IsPolicy}
 use Rattle.policy_judge.specs.declared.occurrences.Side.{Side}
 use Rattle.policy_judge.specs.declared.occurrences.Side.TheVariants.{Source, Destination}
 use Rattle.rule_table.specs.declared.addresses.Shape.{Shape}
-use Rattle.rule_table.specs.Addresses.{shape_of, named}
+use Rattle.rule_table.specs.Addresses.{shape_of, prefix_on}
 use Rattle.rule_table.specs.OfPolicy.{AreOfPolicy}
-use Rattle.rule_table.specs.Index.{entry, Stands, StandEach, HaveShapes, IsIndex}
-use Rattle.rule_table.specs.Asked.{asked}
+use Rattle.rule_table.specs.Index.{entry, EntryStands, StandEach, HaveShapes, IsIndex}
+use Rattle.rule_table.specs.Asked.{asked_marks}
 use Rattle.rule_table.specs.Candidates.{AreCandidates, may_match, is_at, passes}
 use Rattle.rule_table.proofs.AskedLaws.{asked_rule}
 
 -- what holds of each rule holds of the one at a place
 shape_there : (side : Side) (rules : List Rule) (shapes : List Shape) (k : ℕ) (rule : Rule) → HaveShapes side rules shapes → slice_get rules k ≡ Some rule
-    → IfSome (named side rule) (λ prefix. Contains shapes (shape_of prefix))
+    → IfSome (prefix_on side rule) (λ prefix. Contains shapes (shape_of prefix))
 shape_there side rules shapes k rule have e =
-    let P : Rule → Type 0 = λ r. IfSome (named side r) (λ prefix. Contains shapes (shape_of prefix)) in
+    let P : Rule → Type 0 = λ r. IfSome (prefix_on side r) (λ prefix. Contains shapes (shape_of prefix)) in
     subst P (get_or_from_slice_get rules k rule rule e) (All-get_or P rules k rule (slice_get_within rules k rule e) have)
 
 -- the rule at a place that passes
@@ -39,7 +39,7 @@ standing test rules place e =
     [ None ↦ λ at e. absurd (cc) | Some rule ↦ λ at e. record { rule = rule; at = at; is = e } ] refl e
 
 pub complete : (rules : List Rule) (entries : List ℕ) (ss ds : List Shape) (marks places name : List ℕ) (domain : ℕ) (r : DataRecord)
-    → IsIndex rules entries ss ds → marks ≡ asked name domain ss ds r
+    → IsIndex rules entries ss ds → marks ≡ asked_marks name domain ss ds r
     → ((mark place : ℕ) → place < 4096 → Contains marks mark → Contains entries (entry mark place) → Contains places place)
     → IsNonDecreasing places
     → AreCandidates (record { rules = rules; name = name; domain = domain; flow_record = r }) places
@@ -50,7 +50,7 @@ complete rules entries ss ds marks places name domain r index are each up = reco
       let s : Standing (may_match name domain r) rules place = standing (may_match name domain r) rules place e in
       let within = slice_get_within rules place s.rule s.at in
       let few : place < 4096 = omega (arith, within, index.few) in
-      let under : Stands entries place s.rule = index.each place s.rule s.at in
+      let under : EntryStands entries place s.rule = index.each place s.rule s.at in
       let P : List ℕ → Type 0 = λ ms. Contains ms under.mark in
       let marked = subst P (sym are) (asked_rule name domain ss ds r s.rule s.is (shape_there Source rules ss place s.rule index.from s.at) (shape_there Destination rules ds place s.rule index.to s.at) under.mark under.own) in
       each under.mark place few marked under.there;
@@ -58,7 +58,7 @@ complete rules entries ss ds marks places name domain r index are each up = reco
 
 -- the same over the lists as they were read
 pub complete_read : (rules rules' : List Rule) (entries entries' : List ℕ) (ss ss' ds ds' : List Shape) (marks marks' places name name' : List ℕ) (domain : ℕ) (r : DataRecord)
-    → IsIndex rules entries ss ds → rules' ≡ rules → entries' ≡ entries → ss' ≡ ss → ds' ≡ ds → marks' ≡ marks → name' ≡ name → marks ≡ asked name' domain ss' ds' r
+    → IsIndex rules entries ss ds → rules' ≡ rules → entries' ≡ entries → ss' ≡ ss → ds' ≡ ds → marks' ≡ marks → name' ≡ name → marks ≡ asked_marks name' domain ss' ds' r
     → ((mark place : ℕ) → place < 4096 → Contains marks' mark → Contains entries' (entry mark place) → Contains places place)
     → IsNonDecreasing places
     → AreCandidates (record { rules = rules'; name = name; domain = domain; flow_record = r }) places
@@ -106,7 +106,7 @@ all_candidates rules places n name domain r few whole are = rw are (record {
 
 -- ---- a table that is built
 
-pub built : (policy : Meaning) (read rules : List Rule) (entries : List ℕ) (ss ds : List Shape) → IsPolicy policy → read ≡ policy.rules → rules ≡ read
+pub built : (policy : PolicyMeaning) (read rules : List Rule) (entries : List ℕ) (ss ds : List Shape) → IsPolicy policy → read ≡ policy.rules → rules ≡ read
     → StandEach read entries → IsNonDecreasing entries → HaveShapes Source read ss → HaveShapes Destination read ds
     → AreOfPolicy rules × IsIndex rules entries ss ds
 built policy read rules entries ss ds is same copied each up from to =

@@ -34,6 +34,6 @@ shape_of (V4 net) = record { width = 32; length = net.length }
 shape_of (V6 net) = record { width = 128; length = net.length }
 
 -- the prefix that a rule names on a side
-abbrev pub named : Side → Rule → Option Prefix
-named Source rule = rule.from
-named Destination rule = rule.to
+abbrev pub prefix_on : Side → Rule → Option Prefix
+prefix_on Source rule = rule.from
+prefix_on Destination rule = rule.to

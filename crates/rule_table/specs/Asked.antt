@@ -34,6 +34,6 @@ abbrev pub asked_by : ℕ → ℕ → List Shape → List Shape → DataRecord �
 asked_by who domain sources destinations r marks =
     with_asked who domain (asked_elements who r.template.fields) (asked_of who Source sources (addresses_of Source r)) (asked_of who Destination destinations (addresses_of Destination r)) marks
 
-abbrev pub asked : List ℕ → ℕ → List Shape → List Shape → DataRecord → List ℕ
-asked name domain sources destinations r =
+abbrev pub asked_marks : List ℕ → ℕ → List Shape → List Shape → DataRecord → List ℕ
+asked_marks name domain sources destinations r =
     asked_by (name_mark name) domain sources destinations r (asked_by 0 domain sources destinations r [])

@@ -20,7 +20,7 @@ abbrev pub numbers_of : ℕ → List (List ℕ) → List ℕ
 numbers_of octets values = filter_map (number_if octets) values
 
 -- how many values there are, and the numbers of those of 4 octets and of those of 16, ascending
-pub record AreInOrder (values : List (List ℕ)) (count : ℕ) (narrow wide : List ℕ) : Type 0 where
+pub record AreSortedNumbers (values : List (List ℕ)) (count : ℕ) (narrow wide : List ℕ) : Type 0 where
   pub counted : count ≡ length values
   pub each_narrow : IsPermutation (numbers_of 4 values) narrow
   pub narrow_ascending : IsNonDecreasing narrow

@@ -11,12 +11,12 @@ use Rattle.policy_judge.specs.declared.occurrences.Side.TheVariants.{Source, Des
 use Rattle.policy_judge.specs.Match.{is_on_records}
 
 -- a mark with one number more
-unfoldable pub mixed : ℕ → ℕ → ℕ
-mixed mark number = (mark * 0x9E37_79B9_7F4A_7C15 % 2 ^ 64 + number) % 2 ^ 64
+unfoldable pub mixed_mark : ℕ → ℕ → ℕ
+mixed_mark mark number = (mark * 0x9E37_79B9_7F4A_7C15 % 2 ^ 64 + number) % 2 ^ 64
 
 -- of a subscriber's name
 unfoldable pub name_mark : List ℕ → ℕ
-name_mark name = fold mixed 1 name
+name_mark name = fold mixed_mark 1 name
 
 -- 0 for any subscriber
 abbrev pub who_mark : Option (List ℕ) → ℕ
@@ -30,7 +30,7 @@ side_number Destination = 2
 -- of the addresses of this side that have these first bits
 unfoldable pub inside_mark : ℕ → Side → ℕ → ℕ → ℕ → ℕ
 inside_mark who side width length address =
-    mixed (mixed (mixed (mixed (mixed who (side_number side)) width) length) (address / 2 ^ 64)) (address % 2 ^ 64)
+    mixed_mark (mixed_mark (mixed_mark (mixed_mark (mixed_mark who (side_number side)) width) length) (address / 2 ^ 64)) (address % 2 ^ 64)
 
 abbrev pub prefix_mark : ℕ → Side → Prefix → ℕ
 prefix_mark who side (V4 net) = inside_mark who side 32 net.length net.address
@@ -38,7 +38,7 @@ prefix_mark who side (V6 net) = inside_mark who side 128 net.length net.address
 
 -- of an observation domain
 unfoldable pub domain_mark : ℕ → ℕ → ℕ
-domain_mark who domain = mixed (mixed who 3) domain
+domain_mark who domain = mixed_mark (mixed_mark who 3) domain
 
 abbrev pub pen_number : Option ℕ → ℕ
 pen_number None = 0
@@ -46,7 +46,7 @@ pen_number (Some pen) = pen + 1
 
 -- of an information element
 unfoldable pub element_mark : ℕ → Element → ℕ
-element_mark who e = mixed (mixed (mixed who 4) (pen_number e.pen)) e.number
+element_mark who e = mixed_mark (mixed_mark (mixed_mark who 4) (pen_number e.pen)) e.number
 
 -- the element that a rule on fields names
 abbrev pub element_of : Rule → Option Element

@@ -3,7 +3,7 @@ ghost use Rattle.std.specs.Prelude.{◌≡◌, ◌==◌, ◌&&◌, if◌then◌e
 ghost use Rattle.std.specs.List.{Contains, list_any};
 ghost use Rattle.flow_prefix.specs.Bits.{truncated};
 ghost use Rattle.policy_judge.specs.Sides.{is_of};
-ghost use Rattle.rule_table.specs.Addresses.{address_of, addresses_of, shape_of, named};
+ghost use Rattle.rule_table.specs.Addresses.{address_of, addresses_of, shape_of, prefix_on};
 ghost use Rattle.rule_table.specs.Index.{HaveShapes};
 
 use flow_prefix::{IPV4_BITS, IPV4_OCTETS, IPV6_BITS, IPV6_OCTETS, Prefix, number};
@@ -117,7 +117,7 @@ fn note_rule(shapes: &mut Vec<Shape>, side: Side, rule: &Rule) -> Result<(), All
     ensures kept { OnOk result ((shape : _) → Contains shapes.old.items shape
         → Contains shapes.new.items shape) }
     ensures noted { OnOk result
-        (IfSome (named side rule.now) (λ prefix. Contains shapes.new.items (shape_of prefix))) }
+        (IfSome (prefix_on side rule.now) (λ prefix. Contains shapes.new.items (shape_of prefix))) }
 {
     let prefix = match side {
         Side::Source => &rule.from,

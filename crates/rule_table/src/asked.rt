@@ -3,7 +3,7 @@ ghost use Rattle.std.specs.Prelude.{◌≡◌, ◌∷◌, [], ◌++◌, IfOk, On
 ghost use Rattle.std.specs.List.{filter_map};
 ghost use Rattle.policy_judge.specs.declared.occurrences.Side.TheVariants.{Source, Destination};
 ghost use Rattle.rule_table.specs.Addresses.{addresses_of};
-ghost use Rattle.rule_table.specs.Asked.{asked_at, asked_of, asked_elements, asked};
+ghost use Rattle.rule_table.specs.Asked.{asked_at, asked_of, asked_elements, asked_marks};
 ghost use Rattle.rule_table.specs.Marks.{domain_mark};
 
 use crate::addresses::{Address, Shape, first_bits};
@@ -26,7 +26,7 @@ pub(crate) fn asked(
     requires from { from.now ≡ addresses_of Source flow_record.now }
     requires to { to.now ≡ addresses_of Destination flow_record.now }
     ensures { IfOk result (λ marks. marks.items
-        ≡ asked name.now domain sources.now destinations.now flow_record.now) }
+        ≡ asked_marks name.now domain sources.now destinations.now flow_record.now) }
 {
     let mut marks = Vec::new(alloc);
     let fields = flow_record.template().fields.as_slice();

@@ -83,7 +83,7 @@ impl AddressClasses {
         ensures key { result ≡ key_of self.now (values_of (is_of side) flow_record.now) }
     {
         // What is read of the cuts has what their type keeps of them, as `few` says.
-        let _count = self.cuts.len();
+        let _for_proof = self.cuts.len();
         key_of_fields(self, side, flow_record)
     }
 

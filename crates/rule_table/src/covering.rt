@@ -44,13 +44,13 @@ impl<'a> Model for Sorted<'a> {
     ghost use Rattle.std.specs.Prelude.{ℕ, List};
     ghost use Rattle.policy_judge.specs.Occurrences.{values_of};
     ghost use Rattle.policy_judge.specs.Sides.{is_of};
-    ghost use Rattle.rule_table.specs.Covering.{AreInOrder};
+    ghost use Rattle.rule_table.specs.Covering.{AreSortedNumbers};
 
     ghost Value = { List (List ℕ) };
 
     ghost view = { λ s. values_of (is_of s.side) s.flow_record.now };
 
-    ghost invariant = { λ s. AreInOrder
+    ghost invariant = { λ s. AreSortedNumbers
         (values_of (is_of s.side) s.flow_record.now) s.count s.narrow.items s.wide.items };
 }
 

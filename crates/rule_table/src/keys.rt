@@ -78,8 +78,8 @@ impl RecentClasses {
         ensures unchanged { self.new ≡ self.old }
     {
         // What is read of the cuts has what their type keeps of them, as `few` says.
-        let _count = self.classes.cuts().len();
-        let _template = flow_record.template();
+        let _for_proof = self.classes.cuts().len();
+        let _for_proof = flow_record.template();
         let sources = key_at(
             &self.classes,
             &mut self.sources,
@@ -112,7 +112,7 @@ fn key_at(
     ensures span { IsSpan classes.now span.new }
 {
     // What is read of the cuts has what their type keeps of them.
-    let _count = classes.cuts().len();
+    let _for_proof = classes.cuts().len();
     if places.len() > MOST_DIGITS {
         return None;
     }

@@ -1,6 +1,6 @@
 //! The marks of rules: numbers, each made of a rule's subscriber and of one of its conditions.
 ghost use Rattle.std.specs.Prelude.{◌≡◌, option_map};
-ghost use Rattle.rule_table.specs.Marks.{mixed, name_mark, side_number, inside_mark, prefix_mark, domain_mark, condition_marks, who_mark, element_mark, pen_number, element_of};
+ghost use Rattle.rule_table.specs.Marks.{mixed_mark, name_mark, side_number, inside_mark, prefix_mark, domain_mark, condition_marks, who_mark, element_mark, pen_number, element_of};
 
 use flow_prefix::{IPV4_BITS, IPV6_BITS, Prefix};
 use ipfix_element::ElementId;
@@ -26,9 +26,9 @@ const FACTOR: u64 = 0x9E37_79B9_7F4A_7C15;
 pub(crate) const SPAN: u128 = 0x1_0000_0000_0000_0000;
 
 /// A mark with one number more.
-#[tactic(auto, unfolding(crate::specs::Marks::mixed))]
+#[tactic(auto, unfolding(crate::specs::Marks::mixed_mark))]
 fn mixed(mark: u64, number: u64) -> u64
-    ensures { result ≡ mixed mark number }
+    ensures { result ≡ mixed_mark mark number }
 {
     mark.wrapping_mul(FACTOR).wrapping_add(number)
 }

@@ -16,7 +16,7 @@ abbrev pub number_at : ℕ → ℕ → List ℕ → ℕ
 number_at place width octets = be_value (take width (drop place octets))
 
 -- the octets are this number in this width
-pub record IsNumber (width : ℕ) (octets : List ℕ) (n : ℕ) : Type 0 where
+pub record IsNumberIn (width : ℕ) (octets : List ℕ) (n : ℕ) : Type 0 where
   pub wide : length octets ≡ width
   pub value : be_value octets ≡ n
 

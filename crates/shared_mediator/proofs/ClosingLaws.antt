@@ -9,10 +9,10 @@ use Rattle.shared_mediator.specs.declared.kept.KeptEntry.{KeptEntry}
 use Rattle.shared_mediator.specs.Receipts.{all_kept, AreReceipts, AreComplete, IsFirstRefused}
 use Rattle.shared_mediator.specs.Marking.{Marked, AreMarked}
 use Rattle.shared_mediator.proofs.Complete.{length_all_kept, all_of_handles, complete}
-use Rattle.shared_mediator.specs.Counted.{Counted, has_receipt, entries_of}
+use Rattle.shared_mediator.specs.Counted.{CountedMediation, has_receipt, entries_of}
 use Rattle.shared_mediator.specs.Locked.{Exporting}
 use Rattle.shared_mediator.specs.Handles.{HasReceipt}
-use Rattle.shared_mediator.specs.declared.fault.CloseFault.{CloseFault}
+use Rattle.shared_mediator.specs.declared.fault.Fault.{Fault}
 use Rattle.shared_mediator.specs.Closing.{KeepsMessages, receipts_of, entries_kept, HasReceipts, IsMismatch, NamesReceipt}
 use Rattle.shared_mediator.proofs.HandleLaws.{have_receipts}
 
@@ -37,7 +37,7 @@ all_have_receipts [] admins messages entries = entries
 all_have_receipts (e ∷ es) admins messages entries = (have_receipts e.session 0 e.kept messages.0, all_have_receipts es admins messages.1 entries)
 
 -- where all shares make up the book, each entry that is to have a receipt has one
-pub closes : (before : List Entry) (c : Counted) (exporters : List Exporting) (admins : List (List KeptEntry)) → c.from ≡ length before → take (length before) c.core.history ≡ before
+pub closes : (before : List Entry) (c : CountedMediation) (exporters : List Exporting) (admins : List (List KeptEntry)) → c.from ≡ length before → take (length before) c.core.history ≡ before
     → (marks : Marked) × (marks.from ≡ c.from) × AreMarked marks c.core.history (receipts_of exporters admins) → AllByRecursion KeepsMessages exporters → AllByRecursion (AllByRecursion HasReceipt) admins
     → entries_kept exporters admins ≡ entries_of c → HasReceipts before c.core.history (receipts_of exporters admins)
 closes before c exporters admins from begins marked messages entries book = record {
@@ -52,7 +52,7 @@ closes before c exporters admins from begins marked messages entries book = reco
   as_many = ap (λ n. length (filter has_receipt (drop n c.core.history))) marked.1 ∙ sym book
 
 -- the same of lists that were handed on
-pub closes_for : (before h : List Entry) (c : Counted) (exporters lent : List Exporting) (admins lent_admins : List (List KeptEntry)) → h ≡ c.core.history → lent ≡ exporters → lent_admins ≡ admins → c.from ≡ length before → take (length before) c.core.history ≡ before
+pub closes_for : (before h : List Entry) (c : CountedMediation) (exporters lent : List Exporting) (admins lent_admins : List (List KeptEntry)) → h ≡ c.core.history → lent ≡ exporters → lent_admins ≡ admins → c.from ≡ length before → take (length before) c.core.history ≡ before
     → (marks : Marked) × (marks.from ≡ c.from) × AreMarked marks c.core.history (receipts_of lent lent_admins) → AllByRecursion KeepsMessages lent → AllByRecursion (AllByRecursion HasReceipt) lent_admins
     → entries_kept exporters admins ≡ entries_of c → HasReceipts before h (receipts_of exporters admins)
 closes_for before h c exporters lent admins lent_admins history same same_admins from begins marked messages entries book =
@@ -100,5 +100,5 @@ exporters_mismatch from at n position h exporters i x shown low is same from_is 
   kept_of e = e.kept
 
 -- by the journal that was lent, and by the place that the marks have
-pub names_in : (e : CloseFault) (from at : ℕ) (h j : List Entry) (handles : List (List KeptEntry)) → j ≡ h → at ≡ from → NamesReceipt e at j handles → NamesReceipt e from h handles
+pub names_in : (e : Fault) (from at : ℕ) (h j : List Entry) (handles : List (List KeptEntry)) → j ≡ h → at ≡ from → NamesReceipt e at j handles → NamesReceipt e from h handles
 names_in e from at h j handles same from_is names = subst (λ (x : List Entry). NamesReceipt e from x handles) same (subst (λ n. NamesReceipt e n j handles) from_is names)

@@ -12,7 +12,7 @@ use Rattle.sequences.proofs.ListLaws.{AllByRecursion-append}
 use Rattle.event_journal.specs.declared.entry.Entry.{Entry}
 use Rattle.mediator_history.specs.Numbers.{is_in}
 use Rattle.shared_mediator.specs.declared.kept.KeptEntry.{KeptEntry}
-use Rattle.shared_mediator.specs.Receipts.{Stands, positions, all_kept, AreComplete}
+use Rattle.shared_mediator.specs.Receipts.{ReceiptStands, positions, all_kept, AreComplete}
 use Rattle.shared_mediator.specs.Marking.{Marked, AreMarked}
 use Rattle.shared_mediator.proofs.MarkLists.{get_drop, covered, count_passing}
 use Rattle.shared_mediator.proofs.MarkLaws.{count_handles}
@@ -40,7 +40,7 @@ marked_next {A} kept_of m h others xs i x low is so = subst (AreMarked m h) (app
   front = ap (map kept_of) (take_more xs i x low ∙ ap (λ (y : A). take i xs ++ y ∷ []) (sym is)) ∙ map-append kept_of (take i xs) (x ∷ [])
 
 -- the entry at a position that a receipt has
-shown : (from : ℕ) (h : List Entry) (wanted : Entry → Bool) (p : ℕ) (ks : List KeptEntry) → AllByRecursion (Stands from h) ks → AllByRecursion (λ k. wanted k.entry ≡ true) ks → is_in p (positions ks) ≡ true
+shown : (from : ℕ) (h : List Entry) (wanted : Entry → Bool) (p : ℕ) (ks : List KeptEntry) → AllByRecursion (ReceiptStands from h) ks → AllByRecursion (λ k. wanted k.entry ≡ true) ks → is_in p (positions ks) ≡ true
     → (e : Entry) × (slice_get h p ≡ Some e) × (wanted e ≡ true)
 shown from h wanted p [] stand all is = absurd (false≢true is)
 shown from h wanted p (k ∷ ks) stand all is = by_test (k.position == p) refl (shown from h wanted p ks stand.1 all.1) is where

@@ -7,14 +7,14 @@ use Rattle.sequences.specs.Before.{each_after}
 use Rattle.sequences.proofs.BeforeLaws.{each_with_before-append}
 use Rattle.ipfix_template.specs.DataRecord.{DataRecord}
 use Rattle.subscriber_stream.specs.Parts.{Part, parts, records_in}
-use Rattle.subscriber_stream.specs.Message.{taken}
+use Rattle.subscriber_stream.specs.Message.{parts_taken}
 use Rattle.subscriber_stream.proofs.CallLaws.{parts_more}
 use Rattle.subscriber_stream.proofs.Standings.{records_in-append}
 use Rattle.event_journal.specs.declared.entry.Entry.{Entry}
 use Rattle.mediator_history.specs.Subscriptions.{is_live}
 use Rattle.mediator_history.specs.Disclosed.{given_at, disclosed}
 use Rattle.mediator_calls.specs.Mediation.{Mediation, place_at, waiting_at}
-use Rattle.mediator_calls.specs.Sound.{IsSound}
+use Rattle.mediator_calls.specs.Sound.{IsSoundMediation}
 use Rattle.mediator_calls.specs.Calls.{GoesOn, Pulls}
 use Rattle.shared_mediator.specs.Counted.{handed_at}
 use Rattle.shared_mediator.specs.Handing.{records_next}
@@ -28,7 +28,7 @@ front_stays records more p within = at (parts_more records more) where
   at found = ap (λ (ps : List Part). take p ps) found.1 ∙ take-append-le p (parts records) found.0 within
 
 -- what a live subscription was handed stays when the history goes on
-pub handed_kept : (old new : Mediation) (more : List Entry) → IsSound old → GoesOn old more new → (sub : ℕ) → is_live sub new.history ≡ true → handed_at new sub ≡ handed_at old sub
+pub handed_kept : (old new : Mediation) (more : List Entry) → IsSoundMediation old → GoesOn old more new → (sub : ℕ) → is_live sub new.history ≡ true → handed_at new sub ≡ handed_at old sub
 handed_kept old new more sound on sub live =
     ap (λ (p : ℕ). length (records_in (take p (parts (disclosed sub new.history))))) (on.places sub live)
     ∙ ap (λ (rs : List DataRecord). length (records_in (take (place_at old sub) (parts rs)))) (ap (disclosed sub) on.history ∙ each_with_before-append (given_at sub) old.history more)
@@ -65,13 +65,13 @@ pub handed_moved : (old new : Mediation) (sub now target : ℕ) (answer : Option
 handed_moved old new sub now target answer pulled =
     ap (λ (h : List Entry). count_in (take (place_at new sub) (parts (disclosed sub h)))) pulled.history
     ∙ ap (λ (p : ℕ). count_in (take p (parts (disclosed sub old.history)))) pulled.moved
-    ∙ front_grows (parts (disclosed sub old.history)) (place_at old sub) (taken (disclosed sub old.history) (place_at old sub) target)
+    ∙ front_grows (parts (disclosed sub old.history)) (place_at old sub) (parts_taken (disclosed sub old.history) (place_at old sub) target)
 
 pub handed_others : (old new : Mediation) (sub now target : ℕ) (answer : Option (List ℕ)) → Pulls old sub now target answer new → (q : ℕ) → q ≢ sub → handed_at new q ≡ handed_at old q
 handed_others old new sub now target answer pulled q other = handed_where old new q pulled.history (pulled.others q other)
 
 -- no more are handed than wait
 pub next_wait : (m : Mediation) (sub target : ℕ) → records_next m sub target ≤ waiting_at m sub
-next_wait m sub target = some (drop (place_at m sub) (parts (disclosed sub m.history))) (taken (disclosed sub m.history) (place_at m sub) target) where
+next_wait m sub target = some (drop (place_at m sub) (parts (disclosed sub m.history))) (parts_taken (disclosed sub m.history) (place_at m sub) target) where
   some : (ps : List Part) (n : ℕ) → count_in (take n ps) ≤ count_in ps
   some ps n = omega (arith, counts_add (take n ps) (drop n ps), ap count_in (take-append-drop n ps))

@@ -1,24 +1,32 @@
 -- What handles keep, as they keep more.
-use Rattle.std.proofs.Common.{◌≡◌, ℕ, ◌+◌, ◌<◌, Bool, true, List, [], ◌∷◌, ◌++◌, length, take, get_or, refl, sym, ap, ◌∙◌, subst, arith, append-nil, append_assoc}
+use Rattle.std.proofs.Common.{◌≡◌, ℕ, ◌+◌, ◌<◌, List, [], ◌∷◌, ◌++◌, length, take, get_or, refl, sym, ap, ◌∙◌, subst, arith, append-nil}
 use Rattle.std.specs.List.{AllByRecursion}
 use Rattle.std.proofs.lemmas.List.{length-append, take_more}
 use Rattle.sequences.proofs.ListLaws.{AllByRecursion-append}
+use Rattle.event_journal.specs.declared.entry.Entry.{Entry}
 use Rattle.event_journal.specs.declared.entry.Entry.TheVariants.{Message}
+use Rattle.prepared_message.specs.Preparation.{Preparation}
+use Rattle.mediator_state.specs.declared.fault.Fault.{Fault as MediatorFault}
+use Rattle.mediator_state.specs.declared.fault.Fault.TheVariants as fault
+use Rattle.mediator_state.specs.Calls.{RefusesSnapshot}
+use Rattle.mediator_calls.specs.Mediation.{Mediation}
+use Rattle.mediator_calls.specs.Calls.{RefusesReceive, RefusesReceivePrepared}
 use Rattle.shared_mediator.specs.declared.kept.KeptEntry.{KeptEntry}
 use Rattle.shared_mediator.specs.declared.handed.Handed.{Handed}
-use Rattle.shared_mediator.specs.Counted.{has_receipt}
+use Rattle.shared_mediator.specs.Counted.{CountedMediation, has_receipt}
+use Rattle.shared_mediator.specs.Handing.{RefusesHanding}
 use Rattle.shared_mediator.specs.Locked.{Exporting}
-use Rattle.shared_mediator.specs.Handles.{HasReceipt, IsMessage, AreMessages, IsExporting, IsBuilt, KeepsHanded, KeepsSome}
+use Rattle.shared_mediator.specs.Handles.{HasReceipt, IsSessionMessage, AreSessionMessages, IsExporting, MayRefuseOffer, MayRefusePull, KeepsSome}
 use Rattle.shared_mediator.specs.Closing.{KeepsMessages}
 
 -- messages have receipts
-pub have_receipts : (session number : ℕ) (kept : List KeptEntry) → AreMessages session number kept → AllByRecursion HasReceipt kept
+pub have_receipts : (session number : ℕ) (kept : List KeptEntry) → AreSessionMessages session number kept → AllByRecursion HasReceipt kept
 have_receipts session number [] messages = tt
 have_receipts session number (k ∷ kept) messages = (ap has_receipt messages.0.entry_is, have_receipts session (number + 1) kept messages.1)
 
 -- one message more
-pub more_messages : (session number next : ℕ) (kept : List KeptEntry) (k : KeptEntry) → AreMessages session number kept → next ≡ number + length kept → IsMessage session next k → AreMessages session number (kept ++ k ∷ [])
-more_messages session number next [] k messages counted is = (subst (λ n. IsMessage session n k) (omega (arith, counted)) is, tt)
+pub more_messages : (session number next : ℕ) (kept : List KeptEntry) (k : KeptEntry) → AreSessionMessages session number kept → next ≡ number + length kept → IsSessionMessage session next k → AreSessionMessages session number (kept ++ k ∷ [])
+more_messages session number next [] k messages counted is = (subst (λ n. IsSessionMessage session n k) (omega (arith, counted)) is, tt)
 more_messages session number next (x ∷ kept) k messages counted is = (messages.0, more_messages session (number + 1) next kept k messages.1 (omega (arith, counted)) is)
 
 -- a message was offered, and its receipt is kept
@@ -27,14 +35,14 @@ pub offered : (session number position parts parts_new share share_new : ℕ) (o
 offered session number position parts parts_new share share_new octets kept new old counted same_parts more_share is = record {
   part = same_parts ∙ old.part;
   amount = more_share ∙ omega (arith, old.amount, ap length is, length-append kept (record { position = position; entry = Message session number octets } ∷ []));
-  messages = subst (AreMessages session 0) (sym is) (more_messages session 0 number kept (record { position = position; entry = Message session number octets }) old.messages (omega (arith, counted)) (record { octets = octets; entry_is = refl }));
+  messages = subst (AreSessionMessages session 0) (sym is) (more_messages session 0 number kept (record { position = position; entry = Message session number octets }) old.messages (omega (arith, counted)) (record { octets = octets; entry_is = refl }));
 }
 
 all_more : {A : Type 0} (P : A → Type 0) (xs : List A) (i : ℕ) (x : A) → i < length xs → x ≡ get_or xs i x → AllByRecursion P (take i xs) → P x → AllByRecursion P (take (i + 1) xs)
 all_more {A} P xs i x low is before next = subst (AllByRecursion P) (sym (take_more xs i x low ∙ ap (λ (y : A). take i xs ++ y ∷ []) (sym is))) (AllByRecursion-append P (take i xs) (x ∷ []) before (next, tt))
 
 -- loops over handles
-pub messages_more : (xs : List Exporting) (i : ℕ) (x : Exporting) → i < length xs → x ≡ get_or xs i x → AllByRecursion KeepsMessages (take i xs) → AreMessages x.session 0 x.kept → AllByRecursion KeepsMessages (take (i + 1) xs)
+pub messages_more : (xs : List Exporting) (i : ℕ) (x : Exporting) → i < length xs → x ≡ get_or xs i x → AllByRecursion KeepsMessages (take i xs) → AreSessionMessages x.session 0 x.kept → AllByRecursion KeepsMessages (take (i + 1) xs)
 messages_more xs i x low is before next = all_more KeepsMessages xs i x low is before next
 
 pub entries_more : (xs : List (List KeptEntry)) (i : ℕ) (x : List KeptEntry) → i < length xs → x ≡ get_or xs i x → AllByRecursion (AllByRecursion HasReceipt) (take i xs) → AllByRecursion HasReceipt x → AllByRecursion (AllByRecursion HasReceipt) (take (i + 1) xs)
@@ -42,22 +50,44 @@ entries_more xs i x low is before next = all_more (AllByRecursion HasReceipt) xs
 
 -- ---- several messages are kept
 
-pub keeps_none : (kept : List Handed) (now target : ℕ) → KeepsSome kept now target 0 kept
-keeps_none kept now target = record { messages = []; built = tt; kept = sym (append-nil kept); counted = refl }
+-- so many messages are kept behind the others
+pub record KeepsMany (old : List Handed) (now target count : ℕ) (new : List Handed) : Type 0 where
+  pub messages : List Handed
+  pub some : KeepsSome old now target messages new
+  pub counted : count ≡ length messages
 
-pub keeps_more : (old mid new : List Handed) (now target count : ℕ) (some_message : Bool) → KeepsSome old now target count mid → some_message ≡ true → KeepsHanded mid now target some_message new
-    → KeepsSome old now target (count + 1) new
-keeps_more old mid new now target count some_message so is keeps =
-    let k : (h : Handed) × IsBuilt now target h × (new ≡ mid ++ h ∷ []) = subst (λ b. KeepsHanded mid now target b new) is keeps in record {
-      messages = so.messages ++ k.0 ∷ [];
-      built = AllByRecursion-append (IsBuilt now target) so.messages (k.0 ∷ []) so.built (k.1, tt);
-      kept = k.2 ∙ ap (λ t. t ++ k.0 ∷ []) so.kept ∙ append_assoc old so.messages (k.0 ∷ []);
-      counted = omega (arith, so.counted, length-append so.messages (k.0 ∷ []));
-    }
+pub keeps_none : (kept : List Handed) (now target : ℕ) → KeepsMany kept now target 0 kept
+keeps_none kept now target = record { messages = []; some = record { built = tt; kept = sym (append-nil kept) }; counted = refl }
 
-pub keeps_zero : (old new : List Handed) (now target count : ℕ) → KeepsSome old now target count new → count ≡ 0 → new ≡ old
-keeps_zero old new now target count so none = so.kept ∙ ap (λ t. old ++ t) (empty so.messages (sym so.counted ∙ none)) ∙ append-nil old
-  where
-    empty : (hs : List Handed) → length hs ≡ 0 → hs ≡ []
-    empty [] l = refl
-    empty (h ∷ hs) l = absurd (omega (arith, l))
+-- ---- why an offer or a pull is refused
+
+pub offer_refused : (why : MediatorFault) (m : Mediation) (session number : ℕ) (octets : List ℕ) → RefusesReceive why m session number octets → MayRefuseOffer why
+offer_refused fault.UnknownSession m session number octets r = tt
+offer_refused (fault.OutOfTurn expected) m session number octets r = tt
+offer_refused (fault.Malformed why) m session number octets r = tt
+offer_refused fault.Stale m session number octets r = tt
+offer_refused fault.JournalFull m session number octets r = tt
+offer_refused (fault.AuditFull need room) m session number octets r = tt
+offer_refused fault.OutOfMemory m session number octets r = tt
+offer_refused _ m session number octets r = absurd r
+
+pub prepared_refused : (why : MediatorFault) (m : Mediation) (session number : ℕ) (p : Preparation) → RefusesReceivePrepared why m session number p → MayRefuseOffer why
+prepared_refused fault.UnknownSession m session number p r = tt
+prepared_refused (fault.OutOfTurn expected) m session number p r = tt
+prepared_refused (fault.Malformed why) m session number p r = tt
+prepared_refused fault.Stale m session number p r = tt
+prepared_refused fault.JournalFull m session number p r = tt
+prepared_refused (fault.AuditFull need room) m session number p r = tt
+prepared_refused fault.OutOfMemory m session number p r = tt
+prepared_refused _ m session number p r = absurd r
+
+pub snapshot_refused : (why : MediatorFault) (h : List Entry) (session : ℕ) → RefusesSnapshot why h session → MayRefuseOffer why
+snapshot_refused fault.UnknownSession h session r = tt
+snapshot_refused fault.OutOfMemory h session r = tt
+snapshot_refused _ h session r = absurd r
+
+pub handing_refused : (why : MediatorFault) (c : CountedMediation) (sub : ℕ) → RefusesHanding why c sub → MayRefusePull why
+handing_refused fault.UnknownSub c sub r = tt
+handing_refused fault.HandedFull c sub r = tt
+handing_refused fault.OutOfMemory c sub r = tt
+handing_refused _ c sub r = absurd r

@@ -11,7 +11,7 @@ use Rattle.mediator_history.specs.Numbers.{is_in, AreDistinct}
 use Rattle.mediator_history.proofs.HistoryLaws.{flat_map-push}
 use Rattle.mediator_history.proofs.ListFilters.{is_in-append, distinct_push}
 use Rattle.shared_mediator.specs.declared.kept.KeptEntry.{KeptEntry}
-use Rattle.shared_mediator.specs.Receipts.{Stands, positions, AreInOrder, all_kept, AreReceipts, IsFirstRefused}
+use Rattle.shared_mediator.specs.Receipts.{ReceiptStands, positions, AreInOrder, all_kept, AreReceipts, IsFirstRefused}
 use Rattle.shared_mediator.specs.Marking.{Marked, AreMarked, marked_as}
 use Rattle.shared_mediator.proofs.MarkLists.{get_set_same, get_set_other, count_unset, none_set}
 
@@ -67,12 +67,12 @@ count_positions from marks (p ∷ ps) distinct within marked =
 
 pub record AreMarkedAs (from : ℕ) (marks : List Bool) (h : List Entry) (kept : List KeptEntry) : Type 0 where
   pub as_long : from + length marks ≡ length h
-  pub stand : AllByRecursion (Stands from h) kept
+  pub stand : AllByRecursion (ReceiptStands from h) kept
   pub once : AreDistinct (positions kept)
   pub marked : (i : ℕ) → i < length marks → slice_get marks i ≡ Some (is_in (from + i) (positions kept))
 
 -- each position is that of a mark
-pub all_within : (from : ℕ) (marks : List Bool) (h : List Entry) (kept : List KeptEntry) → from + length marks ≡ length h → AllByRecursion (Stands from h) kept → AllByRecursion (λ p. (from ≤ p) × (p < from + length marks)) (positions kept)
+pub all_within : (from : ℕ) (marks : List Bool) (h : List Entry) (kept : List KeptEntry) → from + length marks ≡ length h → AllByRecursion (ReceiptStands from h) kept → AllByRecursion (λ p. (from ≤ p) × (p < from + length marks)) (positions kept)
 all_within from marks h [] as_long stand = tt
 all_within from marks h (k ∷ ks) as_long stand = ((stand.0.behind, omega (arith, as_long, slice_get_within h k.position k.entry stand.0.there)), all_within from marks h ks as_long stand.1)
 
@@ -89,7 +89,7 @@ pub one_more : (from : ℕ) (marks : List Bool) (h : List Entry) (kept : List Ke
     → AreMarkedAs from marks h kept → AreMarkedAs from (set marks (k.position - from) true) h (kept ++ k ∷ [])
 one_more from marks h kept k behind there free so = record {
   as_long = ap (λ n. from + n) long ∙ so.as_long;
-  stand = AllByRecursion-append (Stands from h) kept (k ∷ []) so.stand (record { behind = behind; there = there }, tt);
+  stand = AllByRecursion-append (ReceiptStands from h) kept (k ∷ []) so.stand (record { behind = behind; there = there }, tt);
   once = subst AreDistinct (sym pushed) (distinct_push (positions kept) k.position so.once (apart k.position (positions kept) new));
   marked = marked;
 } where
@@ -141,7 +141,7 @@ with_handle : (from : ℕ) (marks : List Bool) (h : List Entry) (handles : List 
 with_handle from marks h handles kept in_order last so = record {
   as_long = so.as_long;
   receipts = record {
-    stand = subst (AllByRecursion (Stands from h)) (sym (all_kept_push handles kept)) so.stand;
+    stand = subst (AllByRecursion (ReceiptStands from h)) (sym (all_kept_push handles kept)) so.stand;
     once = subst (λ (ks : List KeptEntry). AreDistinct (positions ks)) (sym (all_kept_push handles kept)) so.once;
     in_order = AllByRecursion-append (AreInOrder from) handles (kept ∷ []) in_order (last, tt);
   };
@@ -232,7 +232,7 @@ new_at (x ∷ xs) y zs distinct = ap (λ (b : Bool). b || is_in y xs) (ne_eqb x 
 
 -- what has to be so of a receipt where the handle's receipts are ones of the journal beside those before
 free_at : (from : ℕ) (marks : List Bool) (h : List Entry) (kept : List KeptEntry) (k : KeptEntry) (rest : List KeptEntry)
-    → AreMarkedAs from marks h kept → Stands from h k → AreDistinct (positions (kept ++ k ∷ rest)) → slice_get marks (k.position - from) ≡ Some false
+    → AreMarkedAs from marks h kept → ReceiptStands from h k → AreDistinct (positions (kept ++ k ∷ rest)) → slice_get marks (k.position - from) ≡ Some false
 free_at from marks h kept k rest so stands once = so.marked (k.position - from) inside ∙ ap Some (ap (λ x. is_in x (positions kept)) place ∙ new) where
   place : from + (k.position - from) ≡ k.position
   place = omega (arith, stands.behind)
@@ -257,8 +257,8 @@ refuses old h kept i floor marks k tried rest split so refused handles before re
       order : AreInOrder old.from tried
       order = all_at (AreInOrder old.from) handles tried [] receipts.in_order
 
-      stands : Stands old.from h k
-      stands = all_at (Stands old.from h) (all_kept handles ++ take i kept) k rest (subst (AllByRecursion (Stands old.from h)) whole receipts.stand)
+      stands : ReceiptStands old.from h k
+      stands = all_at (ReceiptStands old.from h) (all_kept handles ++ take i kept) k rest (subst (AllByRecursion (ReceiptStands old.from h)) whole receipts.stand)
 
 pub marking_refuses : (old : Marked) (h : List Entry) (kept : List KeptEntry) (i floor : ℕ) (marks : List Bool) (k : KeptEntry) → i < length kept → k ≡ get_or kept i k
     → IsMarking old h kept i floor marks

@@ -16,9 +16,9 @@ use Rattle.mediator_state.specs.declared.receipt.Receipt.{Receipt}
 use Rattle.mediator_state.specs.declared.receipt.Status.{Status}
 use Rattle.mediator_calls.specs.Mediation.{Mediation, live, waiting_at, stream_limits}
 use Rattle.mediator_calls.specs.Calls.{GoesOn, Opens, Closes, with_cuts, Receives, Edits, Subscribes, Unsubscribes, Advances, IsStatusOf, Drains}
-use Rattle.mediator_calls.specs.Sound.{IsSound}
+use Rattle.mediator_calls.specs.Sound.{IsSoundMediation}
 use Rattle.mediator_calls.proofs.Places.{is_in-live}
-use Rattle.shared_mediator.specs.Counted.{Counted, counted_as, receipts_in, handed_at, handed_live, IsCounted, Counts}
+use Rattle.shared_mediator.specs.Counted.{CountedMediation, counted_as, receipts_in, handed_at, handed_live, IsCounted, Counts}
 use Rattle.shared_mediator.proofs.Living.{IsSilent, live_same, cuts_silent, live_begun, live_ended, all_live, live_apart}
 use Rattle.shared_mediator.proofs.ReceiptCounts.{receipts_more, before_same, receipts_behind_cuts}
 use Rattle.shared_mediator.proofs.Sums.{sums_alike, sum_without}
@@ -48,12 +48,12 @@ counted_on old new from gone left handed ended more counted moves is = record {
 }
 
 -- what the live ones were handed, by what they were handed before
-handed_then : (old new : Mediation) (more : List Entry) → IsSound old → GoesOn old more new → handed_live new ≡ sum_by (handed_at old) (live new.history)
+handed_then : (old new : Mediation) (more : List Entry) → IsSoundMediation old → GoesOn old more new → handed_live new ≡ sum_by (handed_at old) (live new.history)
 handed_then old new more sound on =
     sum-map (handed_at new) (live new.history)
     ∙ sums_alike (handed_at new) (handed_at old) (live new.history) (all_of (handed_kept old new more sound on) (live new.history) (all_live new.history))
 
-silent_moves : (old new : Mediation) (from : ℕ) (more : List Entry) → IsSound old → from ≤ length old.history → GoesOn old more new → AllByRecursion IsSilent more → Moves old from more 0 new
+silent_moves : (old new : Mediation) (from : ℕ) (more : List Entry) → IsSoundMediation old → from ≤ length old.history → GoesOn old more new → AllByRecursion IsSilent more → Moves old from more 0 new
 silent_moves old new from more sound within on silent =
     let same : live new.history ≡ live old.history = ap live on.history ∙ live_same old.history more silent in
     record {
@@ -77,34 +77,34 @@ keeps old new from gone handed entries more counted moves receipts = record {
   counted = counted_on old new from gone gone handed 0 more counted moves (omega arith);
 }
 
-keeps_silent : (old new : Mediation) (from gone handed entries : ℕ) (more : List Entry) → IsSound old → IsCounted old from gone handed → GoesOn old more new → AllByRecursion IsSilent more → receipts_in more ≡ entries → Keeps old new from gone handed entries
+keeps_silent : (old new : Mediation) (from gone handed entries : ℕ) (more : List Entry) → IsSoundMediation old → IsCounted old from gone handed → GoesOn old more new → AllByRecursion IsSilent more → receipts_in more ≡ entries → Keeps old new from gone handed entries
 keeps_silent old new from gone handed entries more sound counted on silent receipts =
     keeps old new from gone handed entries more counted (silent_moves old new from more sound counted.within on silent) receipts
 
 -- an entry behind its cuts
-keeps_with_cuts : (old new : Mediation) (from gone handed entries : ℕ) (entry : Entry) → IsSound old → IsCounted old from gone handed → GoesOn old (with_cuts old entry) new → IsSilent entry → receipts_in (entry ∷ []) ≡ entries → Keeps old new from gone handed entries
+keeps_with_cuts : (old new : Mediation) (from gone handed entries : ℕ) (entry : Entry) → IsSoundMediation old → IsCounted old from gone handed → GoesOn old (with_cuts old entry) new → IsSilent entry → receipts_in (entry ∷ []) ≡ entries → Keeps old new from gone handed entries
 keeps_with_cuts old new from gone handed entries entry sound counted on silent receipts =
     keeps_silent old new from gone handed entries (with_cuts old entry) sound counted on (cuts_silent (cut_by old entry) entry silent) (receipts_behind_cuts (cut_by old entry) entry ∙ receipts)
 
 -- ---- each call
 
-pub after_open : (old new : Mediation) (from gone handed session : ℕ) → IsSound old → IsCounted old from gone handed → Opens old session new → Keeps old new from gone handed 0
+pub after_open : (old new : Mediation) (from gone handed session : ℕ) → IsSoundMediation old → IsCounted old from gone handed → Opens old session new → Keeps old new from gone handed 0
 after_open old new from gone handed session sound counted is =
     keeps_silent old new from gone handed 0 (Open session ∷ []) sound counted is.goes_on (record { switches = λ q. refl; begins_none = refl }, tt) refl
 
-pub after_close : (old new : Mediation) (from gone handed session : ℕ) → IsSound old → IsCounted old from gone handed → Closes old session new → Keeps old new from gone handed 0
+pub after_close : (old new : Mediation) (from gone handed session : ℕ) → IsSoundMediation old → IsCounted old from gone handed → Closes old session new → Keeps old new from gone handed 0
 after_close old new from gone handed session sound counted is =
     keeps_silent old new from gone handed 0 (Close session ∷ []) sound counted is.goes_on (record { switches = λ q. refl; begins_none = refl }, tt) refl
 
-pub after_edit : (old new : Mediation) (from gone handed edits : ℕ) (text : List ℕ) → IsSound old → IsCounted old from gone handed → Edits old text edits new → Keeps old new from gone handed 1
+pub after_edit : (old new : Mediation) (from gone handed edits : ℕ) (text : List ℕ) → IsSoundMediation old → IsCounted old from gone handed → Edits old text edits new → Keeps old new from gone handed 1
 after_edit old new from gone handed edits text sound counted is =
     keeps_silent old new from gone handed 1 (Edit text ∷ []) sound counted is.goes_on (record { switches = λ q. refl; begins_none = refl }, tt) refl
 
-pub after_receive : (old new : Mediation) (from gone handed session number : ℕ) (octets : List ℕ) (r : Receipt) → IsSound old → IsCounted old from gone handed → Receives old session number octets r new → Keeps old new from gone handed 1
+pub after_receive : (old new : Mediation) (from gone handed session number : ℕ) (octets : List ℕ) (r : Receipt) → IsSoundMediation old → IsCounted old from gone handed → Receives old session number octets r new → Keeps old new from gone handed 1
 after_receive old new from gone handed session number octets r sound counted is =
     keeps_with_cuts old new from gone handed 1 (Message session number octets) sound counted is.goes_on (record { switches = λ q. refl; begins_none = refl }) refl
 
-pub after_advance : (old new : Mediation) (from gone handed t : ℕ) → IsSound old → IsCounted old from gone handed → Advances old t new → Keeps old new from gone handed 1
+pub after_advance : (old new : Mediation) (from gone handed t : ℕ) → IsSoundMediation old → IsCounted old from gone handed → Advances old t new → Keeps old new from gone handed 1
 after_advance old new from gone handed t sound counted is =
     keeps_with_cuts old new from gone handed 1 (Advance t) sound counted is.goes_on (record { switches = λ q. refl; begins_none = refl }) refl
 
@@ -114,7 +114,7 @@ last_in n xs = is_in-append n xs (n ∷ []) ∙ or_right (is_in n xs) (is_in n (
   here = rw (eq-eqb n n refl) refl
 
 -- nothing is handed yet to one that begins
-subscribed : (old new : Mediation) (from n : ℕ) (name : List ℕ) → IsSound old → from ≤ length old.history → Subscribes old name n new → Moves old from (Subscribe n name ∷ []) 0 new
+subscribed : (old new : Mediation) (from n : ℕ) (name : List ℕ) → IsSoundMediation old → from ≤ length old.history → Subscribes old name n new → Moves old from (Subscribe n name ∷ []) 0 new
 subscribed old new from n name sound within is =
     let on : GoesOn old (Subscribe n name ∷ []) new = is.goes_on in
     let more : live new.history ≡ live old.history ++ n ∷ [] = ap live on.history ∙ live_begun old.history n name sound.numbered is.number in
@@ -126,10 +126,10 @@ subscribed old new from n name sound within is =
       live = omega (arith, handed_then old new (Subscribe n name ∷ []) sound on, ap (λ (subs : List ℕ). sum_by (handed_at old) subs) more, sum_by_push (handed_at old) (live old.history) n, none, sum-map (handed_at old) (live old.history));
     }
 
-pub after_subscribe : (old new : Mediation) (from gone handed n : ℕ) (name : List ℕ) → IsSound old → IsCounted old from gone handed → Subscribes old name n new → Keeps old new from gone handed 1
+pub after_subscribe : (old new : Mediation) (from gone handed n : ℕ) (name : List ℕ) → IsSoundMediation old → IsCounted old from gone handed → Subscribes old name n new → Keeps old new from gone handed 1
 after_subscribe old new from gone handed n name sound counted is = keeps old new from gone handed 1 (Subscribe n name ∷ []) counted (subscribed old new from n name sound counted.within is) refl
 
-unsubscribed : (old new : Mediation) (from sub : ℕ) → IsSound old → from ≤ length old.history → Unsubscribes old sub new → Moves old from (Unsubscribe sub ∷ []) (handed_at old sub) new
+unsubscribed : (old new : Mediation) (from sub : ℕ) → IsSoundMediation old → from ≤ length old.history → Unsubscribes old sub new → Moves old from (Unsubscribe sub ∷ []) (handed_at old sub) new
 unsubscribed old new from sub sound within is =
     let on : GoesOn old (Unsubscribe sub ∷ []) new = is.goes_on in
     let fewer : live new.history ≡ filter (λ q. not (q == sub)) (live old.history) = ap live on.history ∙ live_ended old.history sub in
@@ -145,7 +145,7 @@ pub record Ends (old new : Mediation) (from gone handed sub ended : ℕ) : Type 
   pub counts : Counts (counted_as old from gone) 1 0 (handed_at old sub) (counted_as new from (gone + ended))
   pub counted : IsCounted new from (gone + ended) handed
 
-pub after_end : (old new : Mediation) (from gone handed sub : ℕ) (status : Status) → IsSound old → IsCounted old from gone handed → IsStatusOf old sub status → Unsubscribes old sub new → Ends old new from gone handed sub status.handed
+pub after_end : (old new : Mediation) (from gone handed sub : ℕ) (status : Status) → IsSoundMediation old → IsCounted old from gone handed → IsStatusOf old sub status → Unsubscribes old sub new → Ends old new from gone handed sub status.handed
 after_end old new from gone handed sub status sound counted stands is =
     let moves : Moves old from (Unsubscribe sub ∷ []) (handed_at old sub) new = unsubscribed old new from sub sound counted.within is in
     let same : status.handed ≡ handed_at old sub = stands.handed in
@@ -181,10 +181,10 @@ pub still_done : {X E P : Type 0} (r : Result X E) (old new : Mediation) (from g
 still_done (Ok x) old new from gone handed entries counted ok same keep = (keep ok).counted
 still_done (Err e) old new from gone handed entries counted ok same keep = subst (λ (m : Mediation). IsCounted m from gone handed) (sym same) counted
 
-pub counts : {X E : Type 0} {P : X → Type 0} (r : Result X E) (old new : Mediation) (from gone handed entries : ℕ) (was : Counted) → counted_as old from gone ≡ was → IfOk r P → ((x : X) → P x → Keeps old new from gone handed entries) → OnOk r (Counts was entries 0 0 (counted_as new from gone))
-counts (Ok x) old new from gone handed entries was is ok keep = subst (λ (k : Counted). Counts k entries 0 0 (counted_as new from gone)) is (keep x ok).counts
+pub counts : {X E : Type 0} {P : X → Type 0} (r : Result X E) (old new : Mediation) (from gone handed entries : ℕ) (was : CountedMediation) → counted_as old from gone ≡ was → IfOk r P → ((x : X) → P x → Keeps old new from gone handed entries) → OnOk r (Counts was entries 0 0 (counted_as new from gone))
+counts (Ok x) old new from gone handed entries was is ok keep = subst (λ (k : CountedMediation). Counts k entries 0 0 (counted_as new from gone)) is (keep x ok).counts
 counts (Err e) old new from gone handed entries was is ok keep = tt
 
-pub counts_done : {X E P : Type 0} (r : Result X E) (old new : Mediation) (from gone handed entries : ℕ) (was : Counted) → counted_as old from gone ≡ was → OnOk r P → (P → Keeps old new from gone handed entries) → OnOk r (Counts was entries 0 0 (counted_as new from gone))
-counts_done (Ok x) old new from gone handed entries was is ok keep = subst (λ (k : Counted). Counts k entries 0 0 (counted_as new from gone)) is (keep ok).counts
+pub counts_done : {X E P : Type 0} (r : Result X E) (old new : Mediation) (from gone handed entries : ℕ) (was : CountedMediation) → counted_as old from gone ≡ was → OnOk r P → (P → Keeps old new from gone handed entries) → OnOk r (Counts was entries 0 0 (counted_as new from gone))
+counts_done (Ok x) old new from gone handed entries was is ok keep = subst (λ (k : CountedMediation). Counts k entries 0 0 (counted_as new from gone)) is (keep ok).counts
 counts_done (Err e) old new from gone handed entries was is ok keep = tt

@@ -7,22 +7,22 @@ use Rattle.subscriber_stream.specs.Message.{next_message}
 use Rattle.event_journal.specs.declared.entry.Entry.{Entry}
 use Rattle.mediator_history.specs.Disclosed.{disclosed}
 use Rattle.mediator_state.specs.declared.receipt.Status.{Status}
-use Rattle.mediator_state.specs.declared.fault.Fault.{Fault}
+use Rattle.mediator_state.specs.declared.fault.Fault.{Fault as MediatorFault}
 use Rattle.mediator_state.specs.declared.fault.Fault.TheVariants as fault
 use Rattle.mediator_state.specs.Calls.{RefusesPull}
 use Rattle.mediator_calls.specs.Mediation.{Mediation, live, place_at, waiting_at}
 use Rattle.mediator_calls.specs.Calls.{Pulls, IsStatusOf}
-use Rattle.mediator_calls.specs.Sound.{IsSound}
+use Rattle.mediator_calls.specs.Sound.{IsSoundMediation}
 use Rattle.mediator_calls.proofs.Places.{is_in-live}
 use Rattle.shared_mediator.specs.declared.handed.Handed.{Handed}
-use Rattle.shared_mediator.specs.Counted.{Counted, counted_as, receipts_in, handed_at, handed_live, IsCounted, Counts}
-use Rattle.shared_mediator.specs.Handing.{records_next, HasCountRoom, HandsOut, RefusesCore}
+use Rattle.shared_mediator.specs.Counted.{CountedMediation, counted_as, receipts_in, handed_at, handed_live, IsCounted, Counts}
+use Rattle.shared_mediator.specs.Handing.{records_next, HasCountRoom, HandsOut, RefusesHanding}
 use Rattle.shared_mediator.proofs.Living.{live_apart}
 use Rattle.shared_mediator.proofs.Sums.{sum_moved}
 use Rattle.shared_mediator.proofs.Handing.{handed_moved, handed_others, next_wait}
 
 -- the records of the message count as handed
-pulled_live : (old new : Mediation) (sub now target : ℕ) (answer : Option (List ℕ)) → IsSound old → Pulls old sub now target answer new → handed_live new ≡ handed_live old + records_next old sub target
+pulled_live : (old new : Mediation) (sub now target : ℕ) (answer : Option (List ℕ)) → IsSoundMediation old → Pulls old sub now target answer new → handed_live new ≡ handed_live old + records_next old sub target
 pulled_live old new sub now target answer sound is =
     sum-map (handed_at new) (live new.history)
     ∙ ap (λ (h : List Entry). sum_by (handed_at new) (live h)) is.history
@@ -44,13 +44,13 @@ tells old new sub now target answer before after was is then_is =
       wait = omega (arith, waiting, next_wait old sub target);
     }
 
-pub counted_after : (old new : Mediation) (from gone handed records sub now target : ℕ) (answer : Option (List ℕ)) → IsSound old → IsCounted old from gone handed → Pulls old sub now target answer new → records ≡ records_next old sub target → IsCounted new from gone (handed + records)
+pub counted_after : (old new : Mediation) (from gone handed records sub now target : ℕ) (answer : Option (List ℕ)) → IsSoundMediation old → IsCounted old from gone handed → Pulls old sub now target answer new → records ≡ records_next old sub target → IsCounted new from gone (handed + records)
 counted_after old new from gone handed records sub now target answer sound counted is count = record {
   within = omega (arith, counted.within, ap (λ (h : List Entry). length h) is.history);
   counted = omega (arith, counted.counted, count, pulled_live old new sub now target answer sound is);
 }
 
-counts_after : (old new : Mediation) (from gone records sub now target : ℕ) (answer : Option (List ℕ)) → IsSound old → Pulls old sub now target answer new → records ≡ records_next old sub target → Counts (counted_as old from gone) 0 records 0 (counted_as new from gone)
+counts_after : (old new : Mediation) (from gone records sub now target : ℕ) (answer : Option (List ℕ)) → IsSoundMediation old → Pulls old sub now target answer new → records ≡ records_next old sub target → Counts (counted_as old from gone) 0 records 0 (counted_as new from gone)
 counts_after old new from gone records sub now target answer sound is count = record {
   from = refl;
   before = ap (λ (h : List Entry). take from h) is.history;
@@ -71,9 +71,9 @@ none_next m sub now target new is =
     let none : waiting_at m sub ≡ 0 = none_wait now target (length (records_in (take (place_at m sub) (parts (disclosed sub m.history))))) ps is.message in
     omega (arith, none, next_wait m sub target)
 
-pub hands_some : (old new : Mediation) (from gone sub now target : ℕ) (was : Counted) (answer : Option (List ℕ)) (h : Handed) → counted_as old from gone ≡ was → IsSound old → HasCountRoom (counted_as old from gone) sub → Pulls old sub now target answer new → answer ≡ Some h.message → h.records ≡ records_next old sub target → HandsOut was sub now target (Some h) (counted_as new from gone)
+pub hands_some : (old new : Mediation) (from gone sub now target : ℕ) (was : CountedMediation) (answer : Option (List ℕ)) (h : Handed) → counted_as old from gone ≡ was → IsSoundMediation old → HasCountRoom (counted_as old from gone) sub → Pulls old sub now target answer new → answer ≡ Some h.message → h.records ≡ records_next old sub target → HandsOut was sub now target (Some h) (counted_as new from gone)
 hands_some old new from gone sub now target was answer h is sound room pulled some count =
-    subst (λ (k : Counted). HandsOut k sub now target (Some h) (counted_as new from gone)) is out where
+    subst (λ (k : CountedMediation). HandsOut k sub now target (Some h) (counted_as new from gone)) is out where
       out : HandsOut (counted_as old from gone) sub now target (Some h) (counted_as new from gone)
       out = record {
         room = room;
@@ -82,7 +82,7 @@ hands_some old new from gone sub now target was answer h is sound room pulled so
         counts = counts_after old new from gone h.records sub now target answer sound pulled count;
       }
 
-pub hands_none : (old new : Mediation) (from gone sub now target : ℕ) (was : Counted) (answer : Option (List ℕ)) → counted_as old from gone ≡ was → IsSound old → HasCountRoom (counted_as old from gone) sub → Pulls old sub now target answer new → answer ≡ None → HandsOut was sub now target None (counted_as new from gone)
+pub hands_none : (old new : Mediation) (from gone sub now target : ℕ) (was : CountedMediation) (answer : Option (List ℕ)) → counted_as old from gone ≡ was → IsSoundMediation old → HasCountRoom (counted_as old from gone) sub → Pulls old sub now target answer new → answer ≡ None → HandsOut was sub now target None (counted_as new from gone)
 hands_none old new from gone sub now target was answer is sound room pulled none =
     let nothing : Pulls old sub now target None new = subst (λ (a : Option (List ℕ)). Pulls old sub now target a new) none pulled in
     let count : 0 ≡ records_next old sub target = none_next old sub now target new nothing in
@@ -92,25 +92,16 @@ hands_none old new from gone sub now target was answer is sound room pulled none
       records = count;
       counts = counts_after old new from gone 0 sub now target answer sound pulled count;
     } in
-    subst (λ (k : Counted). HandsOut k sub now target None (counted_as new from gone)) is out
+    subst (λ (k : CountedMediation). HandsOut k sub now target None (counted_as new from gone)) is out
 
 -- ---- that the count has room
 
 pub has_count_room : (core : Mediation) (from gone handed sub queued : ℕ) → IsCounted core from gone handed → queued ≡ waiting_at core sub → handed + queued < 2 ^ 64 → HasCountRoom (counted_as core from gone) sub
 has_count_room core from gone handed sub queued counted is room = omega (arith, counted.counted, is, room)
 
-pub refuses_core : (why : Fault) (c was : Counted) (sub : ℕ) → c ≡ was → RefusesPull why c.core.history sub → HasCountRoom c sub → RefusesCore why was sub
-refuses_core why c was sub is refused room = subst (λ (k : Counted). RefusesCore why k sub) is (by_fault why refused) where
-  by_fault : (why : Fault) → RefusesPull why c.core.history sub → RefusesCore why c sub
+pub refuses_handing : (why : MediatorFault) (c was : CountedMediation) (sub : ℕ) → c ≡ was → RefusesPull why c.core.history sub → HasCountRoom c sub → RefusesHanding why was sub
+refuses_handing why c was sub is refused room = subst (λ (k : CountedMediation). RefusesHanding why k sub) is (by_fault why refused) where
+  by_fault : (why : MediatorFault) → RefusesPull why c.core.history sub → RefusesHanding why c sub
   by_fault fault.OutOfMemory r = (r, room)
   by_fault fault.UnknownSub r = r
-  by_fault fault.UnknownSession r = r
-  by_fault (fault.OutOfTurn expected) r = r
-  by_fault (fault.Malformed why) r = r
-  by_fault fault.Stale r = r
-  by_fault (fault.Policy why) r = r
-  by_fault fault.BadName r = r
-  by_fault (fault.AlreadySubscribed other) r = r
-  by_fault (fault.ClockBack last) r = r
-  by_fault fault.JournalFull r = r
-  by_fault (fault.AuditFull need room) r = r
+  by_fault _ r = absurd r

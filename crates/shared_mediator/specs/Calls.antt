@@ -1,14 +1,12 @@
 -- What the calls add to what lies under the lock, and why they refuse.
-use Rattle.std.specs.Prelude.{◌≡◌, ℕ, ◌+◌, ◌<◌, Bool, true, false, ◌||◌, Option, Some, None}
+use Rattle.std.specs.Prelude.{◌≡◌, ◌⊎◌, ℕ, ◌+◌, ◌<◌, Bool, true, false, ◌||◌, Option, Some, None}
 use Rattle.mediator_history.specs.Subscriptions.{is_live, is_served}
-use Rattle.mediator_state.specs.declared.fault.Fault.{Fault}
-use Rattle.mediator_state.specs.declared.fault.Fault.TheVariants.{UnknownSub, JournalFull}
+use Rattle.mediator_state.specs.declared.fault.Fault.{Fault as MediatorFault}
+use Rattle.mediator_state.specs.declared.fault.Fault.TheVariants.{UnknownSub, NoHandle, JournalFull}
 use Rattle.mediator_calls.specs.Mediation.{waiting_at}
 use Rattle.mediator_calls.specs.Calls.{RefusesOpen}
 use Rattle.shared_mediator.specs.Counted.{Counts}
 use Rattle.shared_mediator.specs.Locked.{Locked, locked_as}
-use Rattle.shared_mediator.specs.declared.fault.HandleFault.{HandleFault}
-use Rattle.shared_mediator.specs.declared.fault.HandleFault.TheVariants as handle
 use Rattle.shared_mediator.specs.declared.delivery.Waited.{Waited}
 use Rattle.shared_mediator.specs.declared.delivery.Waited.TheVariants as waited
 
@@ -33,31 +31,27 @@ pub record Makes (exporters deliveries admins : ℕ) (old new : Locked) : Type 0
   pub full : new.full ≡ old.full
 
 -- whether a call was refused since the journal is full
-abbrev pub is_full : Fault → Bool
+abbrev pub is_full : MediatorFault → Bool
 is_full JournalFull = true
 is_full _ = false
 
-abbrev pub is_full_handle : HandleFault → Bool
-is_full_handle handle.NoHandle = false
-is_full_handle (handle.Core why) = is_full why
-
 -- nothing has changed but that such a refusal is noted, if it is one
-abbrev pub noted : Bool → Locked → Locked
-noted full d = locked_as d.counted d.handles d.exporters d.deliveries d.admins d.stopped (d.full || full)
+abbrev pub with_refusal : Bool → Locked → Locked
+with_refusal full d = locked_as d.counted d.handles d.exporters d.deliveries d.admins d.stopped (d.full || full)
 
 -- as many of the kind were made as there may be; or the mediator opens no session
-abbrev pub RefusesExporter : HandleFault → Locked → Type 0
-RefusesExporter handle.NoHandle d = d.exporters ≡ d.handles
-RefusesExporter (handle.Core why) d = (d.exporters < d.handles) × RefusesOpen why d.counted.core
+abbrev pub RefusesExporter : MediatorFault → Locked → Type 0
+RefusesExporter why d = ((why ≡ NoHandle) × (d.exporters ≡ d.handles)) ⊎ ((d.exporters < d.handles) × RefusesOpen why d.counted.core)
 
 -- no such subscription is live; or as many of the kind were made as there may be
-abbrev pub RefusesDelivery : HandleFault → Locked → ℕ → Type 0
-RefusesDelivery handle.NoHandle d sub = (is_live sub d.counted.core.history ≡ true) × (d.deliveries ≡ d.handles)
-RefusesDelivery (handle.Core why) d sub = (why ≡ UnknownSub) × (is_live sub d.counted.core.history ≡ false)
+abbrev pub RefusesDelivery : MediatorFault → Locked → ℕ → Type 0
+RefusesDelivery UnknownSub d sub = is_live sub d.counted.core.history ≡ false
+RefusesDelivery NoHandle d sub = (is_live sub d.counted.core.history ≡ true) × (d.deliveries ≡ d.handles)
+RefusesDelivery _ d sub = ⊥
 
-abbrev pub RefusesAdmin : HandleFault → Locked → Type 0
-RefusesAdmin handle.NoHandle d = d.admins ≡ d.handles
-RefusesAdmin (handle.Core why) d = ⊥
+abbrev pub RefusesAdmin : MediatorFault → Locked → Type 0
+RefusesAdmin NoHandle d = d.admins ≡ d.handles
+RefusesAdmin _ d = ⊥
 
 -- the first that is so: something waits for the subscription, it has ended, it was cut, or all is to stop; or none is
 abbrev pub IsWaited : Locked → ℕ → Option Waited → Type 0

@@ -4,10 +4,10 @@ use Rattle.event_journal.specs.declared.entry.Entry.{Entry}
 use Rattle.shared_mediator.specs.declared.kept.KeptEntry.{KeptEntry}
 use Rattle.shared_mediator.specs.Receipts.{all_kept, AreReceipts, AreComplete, IsFirstRefused}
 use Rattle.shared_mediator.specs.Counted.{has_receipt}
-use Rattle.shared_mediator.specs.declared.fault.CloseFault.{CloseFault}
-use Rattle.shared_mediator.specs.declared.fault.CloseFault.TheVariants.{MissingHandle, Mismatch, OutOfMemory}
+use Rattle.shared_mediator.specs.declared.fault.Fault.{Fault}
+use Rattle.shared_mediator.specs.declared.fault.Fault.TheVariants.{MissingHandle, Mismatch, OutOfMemory}
 use Rattle.shared_mediator.specs.Locked.{Locked, Exporting, Delivering}
-use Rattle.shared_mediator.specs.Handles.{AreMessages, records_kept}
+use Rattle.shared_mediator.specs.Handles.{AreSessionMessages, records_kept}
 
 -- what the handles keep, the exporters' first
 abbrev pub receipts_of : List Exporting → List (List KeptEntry) → List (List KeptEntry)
@@ -15,7 +15,7 @@ receipts_of exporters admins = map (λ h. h.kept) exporters ++ admins
 
 -- an exporter's receipts are those of its session's messages, from the first on
 abbrev pub KeepsMessages : Exporting → Type 0
-KeepsMessages h = AreMessages h.session 0 h.kept
+KeepsMessages h = AreSessionMessages h.session 0 h.kept
 
 -- how many messages the exporters have receipts of
 abbrev pub messages_accepted : List Exporting → ℕ
@@ -43,7 +43,7 @@ pub record AreAll (d : Locked) (exporters deliveries admins : ℕ) : Type 0 wher
   pub admins_are : admins ≡ d.admins
 
 -- a handle is missing, or else the receipts don't stand there or memory ran out
-abbrev pub RefusesClosing : CloseFault → Locked → ℕ → ℕ → ℕ → Type 0
+abbrev pub RefusesClosing : Fault → Locked → ℕ → ℕ → ℕ → Type 0
 RefusesClosing MissingHandle d exporters deliveries admins = AreAll d exporters deliveries admins → ⊥
 RefusesClosing _ d exporters deliveries admins = AreAll d exporters deliveries admins
 
@@ -57,13 +57,13 @@ pub record IsMismatch (from : ℕ) (h : List Entry) (handles : List (List KeptEn
   pub first_refused : IsFirstRefused from h before kept position
 
 -- a mismatch names the handle and the position
-abbrev pub NamesReceipt : CloseFault → ℕ → List Entry → List (List KeptEntry) → Type 0
+abbrev pub NamesReceipt : Fault → ℕ → List Entry → List (List KeptEntry) → Type 0
 NamesReceipt (Mismatch handle position) from h handles = IsMismatch from h handles handle position
 NamesReceipt MissingHandle from h handles = Unit {0}
 NamesReceipt OutOfMemory from h handles = Unit {0}
 
 -- the same, in some history that goes on from the entries before
-pub record NamesReceiptBehind (before : List Entry) (e : CloseFault) (handles : List (List KeptEntry)) : Type 0 where
+pub record NamesReceiptBehind (before : List Entry) (e : Fault) (handles : List (List KeptEntry)) : Type 0 where
   pub history : List Entry
   pub begins : take (length before) history ≡ before
   pub names : NamesReceipt e (length before) history handles

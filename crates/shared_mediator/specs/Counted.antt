@@ -8,12 +8,12 @@ use Rattle.mediator_calls.specs.Mediation.{Mediation, live, place_at}
 
 -- a mediator; the place in its journal from which on entries are counted; and the records that were handed to subscriptions which
 -- have ended
-pub record Counted : Type 0 where
+pub record CountedMediation : Type 0 where
   pub core : Mediation
   pub from : ℕ
   pub gone : ℕ
 
-abbrev pub counted_as : Mediation → ℕ → ℕ → Counted
+abbrev pub counted_as : Mediation → ℕ → ℕ → CountedMediation
 counted_as core from gone = record { core = core; from = from; gone = gone }
 
 -- a message, an edit, a subscription's begin or end, and an advance of the clock: whoever made the call has its receipt
@@ -27,7 +27,7 @@ abbrev pub receipts_in : List Entry → ℕ
 receipts_in es = length (filter has_receipt es)
 
 -- how many of these stand in the journal since the place
-abbrev pub entries_of : Counted → ℕ
+abbrev pub entries_of : CountedMediation → ℕ
 entries_of c = receipts_in (drop c.from c.core.history)
 
 -- how many records a live subscription was handed
@@ -39,7 +39,7 @@ abbrev pub handed_live : Mediation → ℕ
 handed_live m = sum (map (handed_at m) (live m.history))
 
 -- how many the live ones were handed, and those that have ended
-abbrev pub handed_of : Counted → ℕ
+abbrev pub handed_of : CountedMediation → ℕ
 handed_of c = c.gone + handed_live c.core
 
 -- the place isn't past the journal's end, and what is counted is how many records were handed
@@ -49,7 +49,7 @@ pub record IsCounted (core : Mediation) (from gone handed : ℕ) : Type 0 where
 
 -- the same place and entries before it; so many more entries are counted, so many records more were handed, and so many of them are
 -- now those of subscriptions that have ended
-pub record Counts (old : Counted) (entries handed gone : ℕ) (new : Counted) : Type 0 where
+pub record Counts (old : CountedMediation) (entries handed gone : ℕ) (new : CountedMediation) : Type 0 where
   pub from : new.from ≡ old.from
   pub before : take new.from new.core.history ≡ take old.from old.core.history
   pub entries_are : entries_of new ≡ entries_of old + entries

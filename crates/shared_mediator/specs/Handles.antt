@@ -1,12 +1,14 @@
 -- What handles keep.
-use Rattle.std.specs.Prelude.{◌≡◌, ℕ, ◌+◌, Bool, true, false, List, [], ◌∷◌, ◌++◌, length, take, drop, sum_by, Some}
+use Rattle.std.specs.Prelude.{◌≡◌, ℕ, ◌+◌, true, List, [], ◌∷◌, ◌++◌, length, take, drop, sum_by, Option, Some, None}
 use Rattle.std.specs.List.{AllByRecursion}
 use Rattle.ipfix_template.specs.DataRecord.{DataRecord}
 use Rattle.subscriber_stream.specs.Parts.{parts, records_in}
-use Rattle.subscriber_stream.specs.Message.{built, taken}
+use Rattle.subscriber_stream.specs.Message.{built, parts_taken}
 use Rattle.stream_meaning.specs.Served.{AreStreamable}
 use Rattle.event_journal.specs.declared.entry.Entry.{Entry}
 use Rattle.event_journal.specs.declared.entry.Entry.TheVariants.{Message}
+use Rattle.mediator_state.specs.declared.fault.Fault.{Fault as MediatorFault}
+use Rattle.mediator_state.specs.declared.fault.Fault.TheVariants as fault
 use Rattle.shared_mediator.specs.declared.kept.KeptEntry.{KeptEntry}
 use Rattle.shared_mediator.specs.declared.handed.Handed.{Handed}
 use Rattle.shared_mediator.specs.Counted.{has_receipt}
@@ -17,20 +19,20 @@ abbrev pub HasReceipt : KeptEntry → Type 0
 HasReceipt k = has_receipt k.entry ≡ true
 
 -- the session's message of this number
-pub record IsMessage (session number : ℕ) (k : KeptEntry) : Type 0 where
+pub record IsSessionMessage (session number : ℕ) (k : KeptEntry) : Type 0 where
   pub octets : List ℕ
   pub entry_is : k.entry ≡ Message session number octets
 
 -- the session's messages, from this number on
-abbrev pub AreMessages : ℕ → ℕ → List KeptEntry → Type 0
-AreMessages session number [] = Unit {0}
-AreMessages session number (k ∷ kept) = IsMessage session number k × AreMessages session (number + 1) kept
+abbrev pub AreSessionMessages : ℕ → ℕ → List KeptEntry → Type 0
+AreSessionMessages session number [] = Unit {0}
+AreSessionMessages session number (k ∷ kept) = IsSessionMessage session number k × AreSessionMessages session (number + 1) kept
 
 -- one part, as much as it keeps receipts, which are those of the session's messages from the first on
 pub record IsExporting (session : ℕ) (kept : List KeptEntry) (parts share : ℕ) : Type 0 where
   pub part : parts ≡ 1
   pub amount : share ≡ length kept
-  pub messages : AreMessages session 0 kept
+  pub messages : AreSessionMessages session 0 kept
 
 -- one part, as much as it keeps entries
 pub record IsAdministering (kept : List KeptEntry) (parts share : ℕ) : Type 0 where
@@ -42,6 +44,27 @@ pub record IsAdministering (kept : List KeptEntry) (parts share : ℕ) : Type 0 
 pub record KeepsEntry (old : List KeptEntry) (entry : Entry) (new : List KeptEntry) : Type 0 where
   pub position : ℕ
   pub kept : new ≡ old ++ record { position = position; entry = entry } ∷ []
+
+-- ---- why a call may be refused, whatever the mediator
+
+-- a message may be refused so: for its session, its number, its octets, the templates by which it was prepared, or for want of room or
+-- of memory
+abbrev pub MayRefuseOffer : MediatorFault → Type 0
+MayRefuseOffer fault.UnknownSession = Unit {0}
+MayRefuseOffer (fault.OutOfTurn expected) = Unit {0}
+MayRefuseOffer (fault.Malformed why) = Unit {0}
+MayRefuseOffer fault.Stale = Unit {0}
+MayRefuseOffer fault.JournalFull = Unit {0}
+MayRefuseOffer (fault.AuditFull need room) = Unit {0}
+MayRefuseOffer fault.OutOfMemory = Unit {0}
+MayRefuseOffer _ = ⊥
+
+-- a pull may be refused so: for its subscription, or for want of room in the count or of memory
+abbrev pub MayRefusePull : MediatorFault → Type 0
+MayRefusePull fault.UnknownSub = Unit {0}
+MayRefusePull fault.HandedFull = Unit {0}
+MayRefusePull fault.OutOfMemory = Unit {0}
+MayRefusePull _ = ⊥
 
 -- ---- records
 
@@ -60,16 +83,14 @@ pub record IsBuilt (now target : ℕ) (h : Handed) : Type 0 where
   pub streamable : AreStreamable listed
   pub place : ℕ
   pub message : Some h.message ≡ built listed place now target
-  pub records : h.records ≡ length (records_in (take (taken listed place target) (drop place (parts listed))))
+  pub records : h.records ≡ length (records_in (take (parts_taken listed place target) (drop place (parts listed))))
 
--- such a message is kept behind the others; or none is
-abbrev pub KeepsHanded : List Handed → ℕ → ℕ → Bool → List Handed → Type 0
-KeepsHanded old now target false new = new ≡ old
-KeepsHanded old now target true new = (h : Handed) × IsBuilt now target h × (new ≡ old ++ h ∷ [])
+-- the message is such a one, and is kept behind the others; or there is none
+abbrev pub KeepsHanded : List Handed → ℕ → ℕ → Option Handed → List Handed → Type 0
+KeepsHanded old now target None new = new ≡ old
+KeepsHanded old now target (Some h) new = IsBuilt now target h × (new ≡ old ++ h ∷ [])
 
--- so many such messages are kept behind the others
-pub record KeepsSome (old : List Handed) (now target count : ℕ) (new : List Handed) : Type 0 where
-  pub messages : List Handed
+-- the messages are such ones, and are kept behind the others, in their order
+pub record KeepsSome (old : List Handed) (now target : ℕ) (messages new : List Handed) : Type 0 where
   pub built : AllByRecursion (IsBuilt now target) messages
   pub kept : new ≡ old ++ messages
-  pub counted : count ≡ length messages

@@ -7,7 +7,7 @@ use Rattle.shared_mediator.specs.Locked.{Locked, Ledgered}
 -- The journal begins with the entries that were there before, and one book's total is how many entries with a receipt came since, the
 -- other's how many records were handed out. Each book's parts are one for each handle that was given one, and those not given out
 -- yet, which have no amount.
-pub record IsKept (all : ℕ) (before : List Entry) (all_handed : ℕ) (d : Locked) (entries handed : Ledgered) : Type 0 where
+pub record AreBooksKept (all : ℕ) (before : List Entry) (all_handed : ℕ) (d : Locked) (entries handed : Ledgered) : Type 0 where
   pub from : d.counted.from ≡ length before
   pub begins : take (length before) d.counted.core.history ≡ before
   pub entries_are : entries.total ≡ entries_of d.counted

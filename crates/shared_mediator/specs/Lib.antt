@@ -34,5 +34,6 @@ pub mod Marking
 pub mod Locked
 pub mod Keeping
 pub mod Handles
+pub mod Lending
 pub mod Calls
 pub mod Closing

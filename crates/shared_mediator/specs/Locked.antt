@@ -2,12 +2,12 @@
 use Rattle.std.specs.Prelude.{ℕ, Bool, List}
 use Rattle.shared_mediator.specs.declared.kept.KeptEntry.{KeptEntry}
 use Rattle.shared_mediator.specs.declared.handed.Handed.{Handed}
-use Rattle.shared_mediator.specs.Counted.{Counted}
+use Rattle.shared_mediator.specs.Counted.{CountedMediation}
 
 -- the counted mediator, how many handles of each kind there may be, how many were made, whether all is to stop, and whether a call was
 -- refused since the journal is full
 pub record Locked : Type 0 where
-  pub counted : Counted
+  pub counted : CountedMediation
   pub handles : ℕ
   pub exporters : ℕ
   pub deliveries : ℕ
@@ -15,7 +15,7 @@ pub record Locked : Type 0 where
   pub stopped : Bool
   pub full : Bool
 
-abbrev pub locked_as : Counted → ℕ → ℕ → ℕ → ℕ → Bool → Bool → Locked
+abbrev pub locked_as : CountedMediation → ℕ → ℕ → ℕ → ℕ → Bool → Bool → Locked
 locked_as counted handles exporters deliveries admins stopped full = record {
   counted = counted;
   handles = handles;

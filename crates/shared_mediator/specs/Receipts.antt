@@ -6,7 +6,7 @@ use Rattle.mediator_history.specs.Numbers.{is_in, AreDistinct}
 use Rattle.shared_mediator.specs.declared.kept.KeptEntry.{KeptEntry}
 
 -- the entry stands in the history at its position, which isn't before the place
-pub record Stands (from : ℕ) (h : List Entry) (k : KeptEntry) : Type 0 where
+pub record ReceiptStands (from : ℕ) (h : List Entry) (k : KeptEntry) : Type 0 where
   pub behind : from ≤ k.position
   pub there : slice_get h k.position ≡ Some k.entry
 
@@ -25,7 +25,7 @@ all_kept handles = flat_map (λ kept. kept) handles
 -- each kept entry stands in the history at its position, none before the place, no two at one position, and each handle's own in their
 -- order
 pub record AreReceipts (from : ℕ) (h : List Entry) (handles : List (List KeptEntry)) : Type 0 where
-  pub stand : AllByRecursion (Stands from h) (all_kept handles)
+  pub stand : AllByRecursion (ReceiptStands from h) (all_kept handles)
   pub once : AreDistinct (positions (all_kept handles))
   pub in_order : AllByRecursion (AreInOrder from) handles
 

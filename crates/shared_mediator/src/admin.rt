@@ -1,5 +1,6 @@
 //! An administrator's handle on a shared mediator.
-ghost use Rattle.std.specs.Prelude.{◌≡◌, ◌≤◌, [], length, vec_len, IfOk, OnOk, OnErr};
+ghost use Rattle.std.specs.Prelude.{◌≡◌, ◌≤◌, [], length, vec_len, IfOk, IfErr, OnOk, OnErr};
+ghost use Rattle.mediator_state.specs.declared.fault.Fault.TheVariants.{UnknownSub};
 ghost use Rattle.event_journal.specs.declared.entry.Entry.TheVariants.{Edit, Subscribe, Unsubscribe, Advance};
 ghost use Rattle.std.specs.List.{AllByRecursion};
 ghost use Rattle.shared_mediator.specs.Handles.{HasReceipt, KeepsEntry};
@@ -9,8 +10,8 @@ use crate::ledgers::{EntryLedger, RecordLedger};
 use crate::shared::SharedMediator;
 use disclosure_audit::AuditEntry;
 use event_journal::{Entry, PolicyText};
-use mediator_calls::{SubId, UnknownSub};
-use mediator_state::{Fault, Status};
+use mediator_calls::SubId;
+use mediator_state::{Fault as MediatorFault, Status};
 use policy_text::{Name, is_name};
 use std::alloc::{AllocError, Global};
 use std::marker::Model;
@@ -66,13 +67,13 @@ impl<E: EntryLedger> AdminHandle<E> {
     /// the receipt. It answers how many edits there were then.
     ///
     /// # Errors
-    /// Those of `Mediator::edit`, and [`Fault::OutOfMemory`] for the receipt. Nothing has changed then.
+    /// Those of `Mediator::edit`, and [`MediatorFault::OutOfMemory`] for the receipt. Nothing has changed then.
     pub fn edit<H: RecordLedger>(
         &mut self,
         rt: &impl Wait,
         shared: &SharedMediator<E, H>,
         text: &str,
-    ) -> Result<u64, Fault>
+    ) -> Result<u64, MediatorFault>
         ensures kept { OnOk result (KeepsEntry self.old (Edit text.now) self.new) }
         ensures unchanged { OnErr result (self.new ≡ self.old) }
     {
@@ -90,19 +91,19 @@ impl<E: EntryLedger> AdminHandle<E> {
     /// and keeps the receipt. It answers the number of the subscription.
     ///
     /// # Errors
-    /// Those of `Mediator::subscribe`, and [`Fault::OutOfMemory`] for the receipt. Nothing has changed then.
+    /// Those of `Mediator::subscribe`, and [`MediatorFault::OutOfMemory`] for the receipt. Nothing has changed then.
     pub fn subscribe<H: RecordLedger>(
         &mut self,
         rt: &impl Wait,
         shared: &SharedMediator<E, H>,
         name: &str,
-    ) -> Result<SubId, Fault>
+    ) -> Result<SubId, MediatorFault>
         ensures kept { IfOk result (λ sub.
             KeepsEntry self.old (Subscribe sub.0 name.now) self.new) }
         ensures unchanged { OnErr result (self.new ≡ self.old) }
     {
         if !is_name(name) {
-            return Err(Fault::BadName);
+            return Err(MediatorFault::BadName);
         }
         let copy = Name::new(self.alloc, name.as_bytes())?;
         self.kept.reserve(1)?;
@@ -121,13 +122,13 @@ impl<E: EntryLedger> AdminHandle<E> {
     /// the receipt. A wait of the subscription's delivery ends.
     ///
     /// # Errors
-    /// Those of `Mediator::unsubscribe`, and [`Fault::OutOfMemory`] for the receipt. Nothing has changed then.
+    /// Those of `Mediator::unsubscribe`, and [`MediatorFault::OutOfMemory`] for the receipt. Nothing has changed then.
     pub fn unsubscribe<H: RecordLedger>(
         &mut self,
         rt: &impl Wait,
         shared: &SharedMediator<E, H>,
         sub: SubId,
-    ) -> Result<(), Fault>
+    ) -> Result<(), MediatorFault>
         ensures kept { OnOk result (KeepsEntry self.old (Unsubscribe sub.0) self.new) }
         ensures unchanged { OnErr result (self.new ≡ self.old) }
     {
@@ -145,13 +146,13 @@ impl<E: EntryLedger> AdminHandle<E> {
     /// for the lock by `rt`, and wakes the deliveries that wait.
     ///
     /// # Errors
-    /// Those of `Mediator::advance`, and [`Fault::OutOfMemory`] for the receipt. Nothing has changed then.
+    /// Those of `Mediator::advance`, and [`MediatorFault::OutOfMemory`] for the receipt. Nothing has changed then.
     pub fn advance<H: RecordLedger>(
         &mut self,
         rt: &impl Wait,
         shared: &SharedMediator<E, H>,
         t: u64,
-    ) -> Result<(), Fault>
+    ) -> Result<(), MediatorFault>
         ensures kept { OnOk result (KeepsEntry self.old (Advance t) self.new) }
         ensures unchanged { OnErr result (self.new ≡ self.old) }
     {
@@ -185,13 +186,15 @@ impl<E: EntryLedger> AdminHandle<E> {
     /// `rt`.
     ///
     /// # Errors
-    /// [`UnknownSub`] where no subscription with this number is live.
+    /// [`MediatorFault::UnknownSub`] where no subscription with this number is live.
     pub fn status<H: RecordLedger>(
         &self,
         rt: &impl Wait,
         shared: &SharedMediator<E, H>,
         sub: SubId,
-    ) -> Result<Status, UnknownSub> {
+    ) -> Result<Status, MediatorFault>
+        ensures { IfErr result (λ e. e ≡ UnknownSub) }
+    {
         shared.mediator.lock(rt).status(sub)
     }
 

@@ -4,7 +4,7 @@ ghost use Rattle.std.specs.List.{AllByRecursion};
 ghost use Rattle.shared_mediator.specs.declared.kept.KeptEntry.{KeptEntry};
 ghost use Rattle.shared_mediator.specs.Marking.{Marked, AreMarked};
 ghost use Rattle.shared_mediator.specs.Counted.{entries_of};
-ghost use Rattle.shared_mediator.specs.declared.fault.CloseFault.TheVariants.{MissingHandle};
+ghost use Rattle.shared_mediator.specs.declared.fault.Fault.TheVariants.{MissingHandle};
 ghost use Rattle.shared_mediator.specs.Handles.{HasReceipt};
 ghost use Rattle.shared_mediator.specs.Closing.{KeepsMessages, receipts_of, messages_accepted, entries_kept, records_handed, HasReceipts, AreAll, NamesReceipt, NamesReceiptBehind, RefusesClosing};
 
@@ -12,7 +12,7 @@ use crate::admin::AdminHandle;
 use crate::counted::CountedMediator;
 use crate::delivery::DeliveryHandle;
 use crate::exporter::ExporterHandle;
-use crate::fault::CloseFault;
+use crate::fault::Fault;
 use crate::ledgers::{EntryLedger, RecordLedger};
 use crate::locked::LockedMediator;
 use crate::marks::Marks;
@@ -42,10 +42,10 @@ impl<E: EntryLedger, H: RecordLedger> SharedMediator<E, H> {
     /// to have a receipt has one.
     ///
     /// # Errors
-    /// - [`CloseFault::MissingHandle`]: a handle that was made is not among these.
-    /// - [`CloseFault::Mismatch`]: a receipt doesn't stand in the journal so. The first such is named by its handle and
+    /// - [`Fault::MissingHandle`]: a handle that was made is not among these.
+    /// - [`Fault::Mismatch`]: a receipt doesn't stand in the journal so. The first such is named by its handle and
     ///   its position.
-    /// - [`CloseFault::OutOfMemory`].
+    /// - [`Fault::OutOfMemory`].
     ///
     /// Nothing is given back then.
     pub fn close(
@@ -53,7 +53,7 @@ impl<E: EntryLedger, H: RecordLedger> SharedMediator<E, H> {
         exporters: Vec<ExporterHandle<E>>,
         deliveries: Vec<DeliveryHandle<H>>,
         admins: Vec<AdminHandle<E>>,
-    ) -> Result<Closed, CloseFault>
+    ) -> Result<Closed, Fault>
         requires all { (E.parts ≡ E.all) × (H.parts ≡ H.all) }
         // Each receipt stands in the journal, and each entry that is to have one has it.
         ensures receipts { IfOk result (λ closed. HasReceipts E.before closed.mediator.history
@@ -85,7 +85,7 @@ impl<E: EntryLedger, H: RecordLedger> LockedMediator<E, H> {
         exporters: Vec<ExporterHandle<E>>,
         deliveries: Vec<DeliveryHandle<H>>,
         admins: Vec<AdminHandle<E>>,
-    ) -> Result<Closed, CloseFault>
+    ) -> Result<Closed, Fault>
         requires all { (E.parts ≡ E.all) × (H.parts ≡ H.all) }
         // Each receipt stands in the journal, and each entry that is to have one has it.
         ensures mediator { IfOk result (λ closed. closed.mediator ≡ self.counted.core) }
@@ -112,7 +112,7 @@ impl<E: EntryLedger, H: RecordLedger> LockedMediator<E, H> {
             || deliveries.len() as u64 != self.deliveries
             || admins.len() as u64 != self.admins
         {
-            return Err(CloseFault::MissingHandle);
+            return Err(Fault::MissingHandle);
         }
         let accepted = check(
             alloc,
@@ -153,7 +153,7 @@ fn check<E: EntryLedger>(
     counted: &CountedMediator,
     exporters: &[ExporterHandle<E>],
     admins: &[AdminHandle<E>],
-) -> Result<u64, CloseFault>
+) -> Result<u64, Fault>
     // Each receipt stands in the journal.
     ensures marked { OnOk result ((marks : Marked) × (marks.from ≡ counted.now.from)
         × AreMarked marks counted.now.core.history (receipts_of exporters.now admins.now)) }
@@ -185,7 +185,7 @@ fn mark_exporters<E: EntryLedger>(
     marks: &mut Marks,
     journal: &Journal,
     exporters: &[ExporterHandle<E>],
-) -> Result<(), CloseFault>
+) -> Result<(), Fault>
     // Each receipt stands in the journal, beside those that were marked before.
     ensures from { marks.new.from ≡ marks.old.from }
     ensures ok { OnOk result ((handles : List (List KeptEntry))
@@ -201,7 +201,7 @@ fn mark_exporters<E: EntryLedger>(
     for exporter in exporters {
         match marks.mark(journal, exporter.kept()) {
             Ok(()) => handle = handle.saturating_add(1),
-            Err(position) => return Err(CloseFault::Mismatch { handle, position }),
+            Err(position) => return Err(Fault::Mismatch { handle, position }),
         }
     }
     Ok(())
@@ -218,7 +218,7 @@ fn mark_admins<E: EntryLedger>(
     journal: &Journal,
     first: u64,
     admins: &[AdminHandle<E>],
-) -> Result<(), CloseFault>
+) -> Result<(), Fault>
     // Each receipt stands in the journal, beside those that were marked before.
     ensures from { marks.new.from ≡ marks.old.from }
     ensures ok { OnOk result ((handles : List (List KeptEntry))
@@ -236,7 +236,7 @@ fn mark_admins<E: EntryLedger>(
     for admin in admins {
         match marks.mark(journal, admin.kept()) {
             Ok(()) => handle = handle.saturating_add(1),
-            Err(position) => return Err(CloseFault::Mismatch { handle, position }),
+            Err(position) => return Err(Fault::Mismatch { handle, position }),
         }
     }
     Ok(())

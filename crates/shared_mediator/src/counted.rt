@@ -1,18 +1,18 @@
 //! A mediator with the counts of what it took in and handed out, for those who call it from several threads.
 ghost use Rattle.std.specs.Prelude.{◌≡◌, ◌≤◌, [], take, false, length, IsOk, IfOk, IfErr, OnOk, OnErr};
 ghost use Rattle.mediator_history.specs.Subscriptions.{is_live};
+ghost use Rattle.mediator_state.specs.declared.fault.Fault.TheVariants.{UnknownSub};
 ghost use Rattle.mediator_state.specs.Calls.{IsSnapshot, RefusesSnapshot, RefusesClose, RefusesEdit, RefusesSubscribe, RefusesUnsubscribe};
 ghost use Rattle.mediator_calls.specs.Mediation.{noted_at, journal_limits};
 ghost use Rattle.mediator_calls.specs.Calls.{Opens, RefusesOpen, Closes, Receives, RefusesReceive, RefusesReceivePrepared, Edits, Subscribes, Unsubscribes, Advances, RefusesAdvance, IsStatusOf, Drains};
 ghost use Rattle.shared_mediator.specs.Counted.{counted_as, handed_at, handed_live, handed_of, Counts};
 ghost use Rattle.shared_mediator.specs.Handing.{HandsOut, RefusesHanding};
 
-use crate::fault::PullFault;
 use crate::handed::Handed;
 use bytes::Bytes;
 use disclosure_audit::AuditEntry;
-use mediator_calls::{Mediator, SessionId, SubId, UnknownSub};
-use mediator_state::{Fault, Receipt, Status};
+use mediator_calls::{Mediator, SessionId, SubId};
+use mediator_state::{Fault as MediatorFault, Receipt, Status};
 use mediator_tables::Share;
 use prepared_message::{JudgedAhead, Prepared, Snapshot};
 use std::alloc::AllocError;
@@ -46,9 +46,9 @@ impl Drop for CountedMediator {
 }
 
 impl Model for CountedMediator {
-    ghost use Rattle.shared_mediator.specs.Counted.{Counted, counted_as, IsCounted};
+    ghost use Rattle.shared_mediator.specs.Counted.{CountedMediation, counted_as, IsCounted};
 
-    ghost Value = { Counted };
+    ghost Value = { CountedMediation };
 
     ghost view = { λ m. counted_as m.mediator m.from m.gone };
 
@@ -117,13 +117,13 @@ impl CountedMediator {
     ///
     /// # Errors
     /// Those of [`Mediator::open`].
-    pub fn open(&mut self) -> Result<SessionId, Fault>
+    pub fn open(&mut self) -> Result<SessionId, MediatorFault>
         ensures ok { IfOk result (λ session. Opens self.old.core session.0 self.new.core) }
         ensures counts { OnOk result (Counts self.old 0 0 0 self.new) }
         ensures unchanged { OnErr result (self.new ≡ self.old) }
         ensures err { IfErr result (λ e. RefusesOpen e self.old.core) }
     {
-        let _journal = self.mediator.journal();
+        let _for_proof = self.mediator.journal();
         self.mediator.open()
     }
 
@@ -131,14 +131,14 @@ impl CountedMediator {
     ///
     /// # Errors
     /// Those of [`Mediator::close`].
-    pub fn close(&mut self, session: SessionId) -> Result<(), Fault>
+    pub fn close(&mut self, session: SessionId) -> Result<(), MediatorFault>
         ensures ok { OnOk result (Closes self.old.core session.0 self.new.core) }
         ensures counts { OnOk result (Counts self.old 0 0 0 self.new) }
         ensures unchanged { OnErr result (self.new ≡ self.old) }
         ensures err { IfErr result (λ e.
             RefusesClose e (journal_limits self.old.core.limits) self.old.core.history session.0) }
     {
-        let _journal = self.mediator.journal();
+        let _for_proof = self.mediator.journal();
         self.mediator.close(session)
     }
 
@@ -152,7 +152,7 @@ impl CountedMediator {
         session: SessionId,
         number: u64,
         message: Bytes,
-    ) -> Result<Receipt, Fault>
+    ) -> Result<Receipt, MediatorFault>
         ensures ok { IfOk result (λ receipt.
             Receives self.old.core session.0 number message receipt self.new.core) }
         ensures counts { OnOk result (Counts self.old 1 0 0 self.new) }
@@ -174,14 +174,14 @@ impl CountedMediator {
         number: u64,
         message: Bytes,
         ahead: Option<JudgedAhead>,
-    ) -> Result<Receipt, Fault>
+    ) -> Result<Receipt, MediatorFault>
         ensures ok { IfOk result (λ receipt.
             Receives self.old.core session.0 number message receipt self.new.core) }
         ensures counts { OnOk result (Counts self.old 1 0 0 self.new) }
         ensures unchanged { OnErr result (self.new ≡ self.old) }
         ensures err { IfErr result (λ e. RefusesReceive e self.old.core session.0 number message) }
     {
-        let _journal = self.mediator.journal();
+        let _for_proof = self.mediator.journal();
         self.mediator
             .receive_judged(session, number, message, ahead)
     }
@@ -191,7 +191,7 @@ impl CountedMediator {
     ///
     /// # Errors
     /// Those of [`Mediator::snapshot`].
-    pub fn snapshot(&mut self, session: SessionId) -> Result<Snapshot, Fault>
+    pub fn snapshot(&mut self, session: SessionId) -> Result<Snapshot, MediatorFault>
         ensures ok { IfOk result (IsSnapshot self.old.core.history session.0) }
         ensures unchanged { self.new ≡ self.old }
         ensures err { IfErr result (λ e. RefusesSnapshot e self.old.core.history session.0) }
@@ -209,7 +209,7 @@ impl CountedMediator {
         session: SessionId,
         number: u64,
         prepared: Prepared,
-    ) -> Result<Receipt, (Fault, Prepared)>
+    ) -> Result<Receipt, (MediatorFault, Prepared)>
         ensures ok { IfOk result (λ receipt.
             Receives self.old.core session.0 number prepared.message receipt self.new.core) }
         ensures counts { OnOk result (Counts self.old 1 0 0 self.new) }
@@ -219,7 +219,7 @@ impl CountedMediator {
             RefusesReceivePrepared e.0 self.old.core session.0 number prepared) }
         ensures handed_back { IfErr result (λ e. e.1 ≡ prepared) }
     {
-        let _journal = self.mediator.journal();
+        let _for_proof = self.mediator.journal();
         self.mediator.receive_prepared(session, number, prepared)
     }
 
@@ -228,14 +228,14 @@ impl CountedMediator {
     ///
     /// # Errors
     /// Those of [`Mediator::edit`].
-    pub fn edit(&mut self, text: &str) -> Result<u64, Fault>
+    pub fn edit(&mut self, text: &str) -> Result<u64, MediatorFault>
         ensures ok { IfOk result (λ edits. Edits self.old.core text.now edits self.new.core) }
         ensures counts { OnOk result (Counts self.old 1 0 0 self.new) }
         ensures unchanged { OnErr result (self.new ≡ self.old) }
         ensures err { IfErr result (λ e.
             RefusesEdit e (journal_limits self.old.core.limits) self.old.core.history text.now) }
     {
-        let _journal = self.mediator.journal();
+        let _for_proof = self.mediator.journal();
         self.mediator.edit(text)
     }
 
@@ -244,14 +244,14 @@ impl CountedMediator {
     ///
     /// # Errors
     /// Those of [`Mediator::subscribe`].
-    pub fn subscribe(&mut self, name: &str) -> Result<SubId, Fault>
+    pub fn subscribe(&mut self, name: &str) -> Result<SubId, MediatorFault>
         ensures ok { IfOk result (λ sub. Subscribes self.old.core name.now sub.0 self.new.core) }
         ensures counts { OnOk result (Counts self.old 1 0 0 self.new) }
         ensures unchanged { OnErr result (self.new ≡ self.old) }
         ensures err { IfErr result (λ e. RefusesSubscribe e (journal_limits self.old.core.limits)
             self.old.core.history name.now) }
     {
-        let _journal = self.mediator.journal();
+        let _for_proof = self.mediator.journal();
         self.mediator.subscribe(name)
     }
 
@@ -260,7 +260,7 @@ impl CountedMediator {
     ///
     /// # Errors
     /// Those of [`Mediator::unsubscribe`].
-    pub fn unsubscribe(&mut self, sub: SubId) -> Result<(), Fault>
+    pub fn unsubscribe(&mut self, sub: SubId) -> Result<(), MediatorFault>
         ensures ok { OnOk result (Unsubscribes self.old.core sub.0 self.new.core) }
         ensures counts { OnOk result
             (Counts self.old 1 0 (handed_at self.old.core sub.0) self.new) }
@@ -268,10 +268,10 @@ impl CountedMediator {
         ensures err { IfErr result (λ e. RefusesUnsubscribe e (journal_limits self.old.core.limits)
             self.old.core.history sub.0) }
     {
-        let _journal = self.mediator.journal();
+        let _for_proof = self.mediator.journal();
         let handed = match self.mediator.status(sub) {
             Ok(status) => status.handed,
-            Err(_) => return Err(Fault::UnknownSub),
+            Err(_) => return Err(MediatorFault::UnknownSub),
         };
         self.mediator.unsubscribe(sub)?;
         self.gone += handed;
@@ -282,13 +282,13 @@ impl CountedMediator {
     ///
     /// # Errors
     /// Those of [`Mediator::advance`].
-    pub fn advance(&mut self, t: u64) -> Result<(), Fault>
+    pub fn advance(&mut self, t: u64) -> Result<(), MediatorFault>
         ensures ok { OnOk result (Advances self.old.core t self.new.core) }
         ensures counts { OnOk result (Counts self.old 1 0 0 self.new) }
         ensures unchanged { OnErr result (self.new ≡ self.old) }
         ensures err { IfErr result (λ e. RefusesAdvance e self.old.core t) }
     {
-        let _journal = self.mediator.journal();
+        let _for_proof = self.mediator.journal();
         self.mediator.advance(t)
     }
 
@@ -296,29 +296,33 @@ impl CountedMediator {
     /// `target`, and counts its records as handed out; or answers `None` where nothing waits.
     ///
     /// # Errors
-    /// [`PullFault::Core`] with [`Fault::UnknownSub`] where the subscription isn't live; [`PullFault::HandedFull`]
-    /// where the count has no room for all that waits for it; or [`PullFault::Core`] with [`Fault::OutOfMemory`].
-    /// Nothing has changed then.
-    pub fn pull(&mut self, sub: SubId, now: u32, target: u16) -> Result<Option<Handed>, PullFault>
+    /// [`MediatorFault::UnknownSub`] where the subscription isn't live; [`MediatorFault::HandedFull`] where the count has no room for
+    /// all that waits for it; or [`MediatorFault::OutOfMemory`]. Nothing has changed then.
+    pub fn pull(
+        &mut self,
+        sub: SubId,
+        now: u32,
+        target: u16,
+    ) -> Result<Option<Handed>, MediatorFault>
         ensures ok { IfOk result (λ answer. HandsOut self.old sub.0 now target answer self.new) }
         ensures unchanged { OnErr result (self.new ≡ self.old) }
         ensures err { IfErr result (λ e. RefusesHanding e self.old sub.0) }
     {
-        let _journal = self.mediator.journal();
+        let _for_proof = self.mediator.journal();
         let before = match self.mediator.status(sub) {
             Ok(before) => before,
-            Err(_) => return Err(PullFault::Core(Fault::UnknownSub)),
+            Err(_) => return Err(MediatorFault::UnknownSub),
         };
         if before.queued as u64 > u64::MAX - self.handed {
-            return Err(PullFault::HandedFull);
+            return Err(MediatorFault::HandedFull);
         }
         let message = match self.mediator.pull(sub, now, target) {
             Ok(message) => message,
-            Err(fault) => return Err(PullFault::Core(fault)),
+            Err(fault) => return Err(fault),
         };
         let after = match self.mediator.status(sub) {
             Ok(after) => after,
-            Err(_) => return Err(PullFault::Core(Fault::UnknownSub)),
+            Err(_) => return Err(MediatorFault::UnknownSub),
         };
         let records = after.handed - before.handed;
         self.handed += records;
@@ -331,10 +335,11 @@ impl CountedMediator {
     /// How the live subscription with the number `sub` stands.
     ///
     /// # Errors
-    /// [`UnknownSub`] where no subscription with this number is live.
-    pub fn status(&self, sub: SubId) -> Result<Status, UnknownSub>
+    /// [`MediatorFault::UnknownSub`] where no subscription with this number is live.
+    pub fn status(&self, sub: SubId) -> Result<Status, MediatorFault>
         ensures ok { IfOk result (λ status. IsStatusOf self.now.core sub.0 status) }
         ensures err { OnErr result (is_live sub.0 self.now.core.history ≡ false) }
+        ensures fault { IfErr result (λ e. e ≡ UnknownSub) }
     {
         self.mediator.status(sub)
     }

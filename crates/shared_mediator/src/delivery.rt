@@ -1,16 +1,17 @@
 //! A delivery's handle on a shared mediator.
-ghost use Rattle.std.specs.Prelude.{◌≡◌, ◌-◌, ◌≤◌, [], true, length, slice_get, IfOk, OnErr};
-ghost use Rattle.std.specs.Option.{option_copied};
+ghost use Rattle.std.specs.Prelude.{◌≡◌, ◌≤◌, [], length, IfOk, IfErr};
+ghost use Rattle.std.specs.Borrow.{sem};
+ghost use Rattle.shared_mediator.specs.contracts.delivery.DeliveryHandle.{the_row};
 ghost use Rattle.shared_mediator.specs.Locked.{delivering_as};
-ghost use Rattle.shared_mediator.specs.Handles.{KeepsHanded, KeepsSome, records_kept};
+ghost use Rattle.shared_mediator.specs.Handles.{MayRefusePull, records_kept};
+ghost use Rattle.shared_mediator.specs.Lending.{Leaves, LendsHanded, LendsSome};
 
-use crate::fault::PullFault;
 use crate::handed::Handed;
 use crate::ledgers::{EntryLedger, RecordLedger};
 use crate::locked::LockedMediator;
 use crate::shared::SharedMediator;
 use mediator_calls::SubId;
-use mediator_state::Fault;
+use mediator_state::Fault as MediatorFault;
 use std::alloc::Global;
 use std::marker::Model;
 use std::sync::Wait;
@@ -85,39 +86,31 @@ impl<H: RecordLedger> DeliveryHandle<H> {
         self.kept.as_slice()
     }
 
-    /// The message that was pulled last, or `None` where none was.
-    pub fn last(&self) -> Option<&Handed>
-        ensures { option_copied result ≡ slice_get self.now.kept (length self.now.kept - 1) }
-    {
-        self.kept.last()
-    }
-
     /// Pulls the subscription's next message from the mediator `shared`, as `Mediator::pull` builds it with `now`, in
-    /// seconds since 1970, and `target`, in octets; keeps it, and answers true; or answers false where nothing waits.
-    /// It waits for the lock by `rt`.
+    /// seconds since 1970, and `target`, in octets; keeps it, and lends it; or answers `None` where nothing waits. It
+    /// waits for the lock by `rt`.
     ///
     /// # Errors
-    /// [`PullFault::Core`] with [`Fault::UnknownSub`] where the subscription isn't live; [`PullFault::HandedFull`]
-    /// where the count of records handed out has no room for all that waits; or [`PullFault::Core`] with
-    /// [`Fault::OutOfMemory`]. Nothing has changed then.
+    /// [`MediatorFault::UnknownSub`] where the subscription isn't live; [`MediatorFault::HandedFull`] where the count of records handed
+    /// out has no room for all that waits; or [`MediatorFault::OutOfMemory`]. Nothing has changed then.
     pub fn pull<E: EntryLedger>(
         &mut self,
         rt: &impl Wait,
         shared: &SharedMediator<E, H>,
         now: u32,
         target: u16,
-    ) -> Result<bool, PullFault>
-        ensures kept { IfOk result (λ some_message.
-            KeepsHanded self.old.kept now target some_message self.new.kept) }
-        ensures sub { self.new.sub ≡ self.old.sub }
-        ensures unchanged { OnErr result (self.new ≡ self.old) }
+    ) -> Result<Option<&Handed>, MediatorFault>
+        // What the handle keeps, beside what it lends.
+        ensures* leaves { sem 𝓛 (Leaves (the_row H.row (record { all = H.all }) H.Ledger)
+            self.entry (LendsHanded now target self.old result)) }
+        ensures refuses { IfErr result MayRefusePull }
     {
         self.pull_next(&mut shared.locked(rt), now, target)
     }
 
     /// Pulls the subscription's next messages from the mediator `shared`, at most `most` of them, each as
-    /// [`pull`](DeliveryHandle::pull) does with `now` and `target`, while the lock is held once; and answers how many
-    /// there were. It waits for the lock by `rt`.
+    /// [`pull`](DeliveryHandle::pull) does with `now` and `target`, while the lock is held once; keeps them, and lends
+    /// them in their order. Where nothing waits, there are none. It waits for the lock by `rt`.
     ///
     /// # Errors
     /// Those of [`pull`](DeliveryHandle::pull) for the first message, and nothing has changed then. A later error only
@@ -129,23 +122,24 @@ impl<H: RecordLedger> DeliveryHandle<H> {
         now: u32,
         target: u16,
         most: u64,
-    ) -> Result<u64, PullFault>
-        ensures kept { IfOk result (λ count.
-            KeepsSome self.old.kept now target count self.new.kept) }
-        ensures most { IfOk result (λ count. count ≤ most) }
-        ensures sub { self.new.sub ≡ self.old.sub }
-        ensures unchanged { OnErr result (self.new ≡ self.old) }
+    ) -> Result<&[Handed], MediatorFault>
+        ensures most { IfOk result (λ messages. length messages.now ≤ most) }
+        // What the handle keeps, beside what it lends.
+        ensures* leaves { sem 𝓛 (Leaves (the_row H.row (record { all = H.all }) H.Ledger)
+            self.entry (LendsSome now target self.old result)) }
+        ensures refuses { IfErr result MayRefusePull }
     {
         let mut locked = shared.locked(rt);
+        let before = self.kept.len();
         let mut count = 0;
         'pulls: while count < most {
             match self.pull_next(&mut locked, now, target) {
-                Ok(true) => count += 1,
+                Ok(Some(_)) => count += 1,
                 Err(fault) if count == 0 => return Err(fault),
-                Ok(false) | Err(_) => break,
+                Ok(None) | Err(_) => break,
             }
         }
-        Ok(count)
+        Ok(&self.kept[before..])
     }
 
     /// Pulls the subscription's next message from what lies under the lock, `locked`, as [`pull`](DeliveryHandle::pull)
@@ -158,21 +152,20 @@ impl<H: RecordLedger> DeliveryHandle<H> {
         locked: &mut LockedMediator<E, H>,
         now: u32,
         target: u16,
-    ) -> Result<bool, PullFault>
-        ensures kept { IfOk result (λ some_message.
-            KeepsHanded self.old.kept now target some_message self.new.kept) }
-        ensures sub { self.new.sub ≡ self.old.sub }
-        ensures unchanged { OnErr result (self.new ≡ self.old) }
+    ) -> Result<Option<&Handed>, MediatorFault>
+        ensures* leaves { sem 𝓛 (Leaves (the_row H.row (record { all = H.all }) H.Ledger)
+            self.entry (LendsHanded now target self.old result)) }
+        ensures refuses { IfErr result MayRefusePull }
     {
         if self.kept.reserve(1).is_err() {
-            return Err(PullFault::Core(Fault::OutOfMemory));
+            return Err(MediatorFault::OutOfMemory);
         }
         match locked.pull(&mut self.share, self.sub, now, target)? {
             Some(handed) => {
                 self.kept.push_reserved(handed);
-                Ok(true)
+                Ok(self.kept.last())
             }
-            None => Ok(false),
+            None => Ok(None),
         }
     }
 

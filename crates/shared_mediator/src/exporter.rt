@@ -2,7 +2,7 @@
 ghost use Rattle.std.specs.Prelude.{◌≡◌, ◌++◌, ◌∷◌, [], length, IfOk, IfErr, OnErr};
 ghost use Rattle.event_journal.specs.declared.entry.Entry.TheVariants.{Message};
 ghost use Rattle.shared_mediator.specs.Locked.{exporting_as};
-ghost use Rattle.shared_mediator.specs.Handles.{AreMessages};
+ghost use Rattle.shared_mediator.specs.Handles.{AreSessionMessages, MayRefuseOffer};
 
 use crate::kept::KeptEntry;
 use crate::ledgers::{EntryLedger, RecordLedger};
@@ -11,7 +11,7 @@ use crate::shared::SharedMediator;
 use bytes::Bytes;
 use event_journal::Entry;
 use mediator_calls::SessionId;
-use mediator_state::{Fault, Receipt};
+use mediator_state::{Fault as MediatorFault, Receipt};
 use prepared_message::{JudgedAhead, Prepared, Snapshot};
 use std::alloc::Global;
 use std::marker::Model;
@@ -78,7 +78,7 @@ impl<E: EntryLedger> ExporterHandle<E> {
     /// The receipts of its messages, in their order: those of the session from the first on.
     pub fn kept(&self) -> &[KeptEntry]
         ensures value { result.now ≡ self.now.kept }
-        ensures messages { AreMessages self.now.session 0 self.now.kept }
+        ensures messages { AreSessionMessages self.now.session 0 self.now.kept }
     {
         self.kept.as_slice()
     }
@@ -88,13 +88,13 @@ impl<E: EntryLedger> ExporterHandle<E> {
     /// that wait.
     ///
     /// # Errors
-    /// Those of `Mediator::receive`, and [`Fault::OutOfMemory`] for the receipt. Nothing has changed then.
+    /// Those of `Mediator::receive`, and [`MediatorFault::OutOfMemory`] for the receipt. Nothing has changed then.
     pub fn offer<H: RecordLedger>(
         &mut self,
         rt: &impl Wait,
         shared: &SharedMediator<E, H>,
         message: Bytes,
-    ) -> Result<Receipt, Fault>
+    ) -> Result<Receipt, MediatorFault>
         ensures kept { IfOk result (λ receipt.
             self.new.kept ≡ self.old.kept ++ record {
               position = receipt.position;
@@ -102,6 +102,7 @@ impl<E: EntryLedger> ExporterHandle<E> {
             } ∷ []) }
         ensures session { self.new.session ≡ self.old.session }
         ensures unchanged { OnErr result (self.new ≡ self.old) }
+        ensures refuses { IfErr result MayRefuseOffer }
     {
         let receipt = self.offer_silently(rt, shared, message)?;
         shared.wake();
@@ -118,7 +119,7 @@ impl<E: EntryLedger> ExporterHandle<E> {
         rt: &impl Wait,
         shared: &SharedMediator<E, H>,
         message: Bytes,
-    ) -> Result<Receipt, Fault>
+    ) -> Result<Receipt, MediatorFault>
         ensures kept { IfOk result (λ receipt.
             self.new.kept ≡ self.old.kept ++ record {
               position = receipt.position;
@@ -126,6 +127,7 @@ impl<E: EntryLedger> ExporterHandle<E> {
             } ∷ []) }
         ensures session { self.new.session ≡ self.old.session }
         ensures unchanged { OnErr result (self.new ≡ self.old) }
+        ensures refuses { IfErr result MayRefuseOffer }
     {
         self.offer_judged_silently(rt, shared, message, None)
     }
@@ -142,7 +144,7 @@ impl<E: EntryLedger> ExporterHandle<E> {
         shared: &SharedMediator<E, H>,
         message: Bytes,
         ahead: Option<JudgedAhead>,
-    ) -> Result<Receipt, Fault>
+    ) -> Result<Receipt, MediatorFault>
         ensures kept { IfOk result (λ receipt.
             self.new.kept ≡ self.old.kept ++ record {
               position = receipt.position;
@@ -150,6 +152,7 @@ impl<E: EntryLedger> ExporterHandle<E> {
             } ∷ []) }
         ensures session { self.new.session ≡ self.old.session }
         ensures unchanged { OnErr result (self.new ≡ self.old) }
+        ensures refuses { IfErr result MayRefuseOffer }
     {
         let octets = message.clone()?;
         self.kept.reserve(1)?;
@@ -173,12 +176,14 @@ impl<E: EntryLedger> ExporterHandle<E> {
     /// by `rt`.
     ///
     /// # Errors
-    /// [`Fault::UnknownSession`] where the session was closed; or [`Fault::OutOfMemory`].
+    /// [`MediatorFault::UnknownSession`] where the session was closed; or [`MediatorFault::OutOfMemory`].
     pub fn snapshot<H: RecordLedger>(
         &self,
         rt: &impl Wait,
         shared: &SharedMediator<E, H>,
-    ) -> Result<Snapshot, Fault> {
+    ) -> Result<Snapshot, MediatorFault>
+        ensures refuses { IfErr result MayRefuseOffer }
+    {
         shared.locked(rt).snapshot(self.session)
     }
 
@@ -187,14 +192,14 @@ impl<E: EntryLedger> ExporterHandle<E> {
     /// the deliveries that wait.
     ///
     /// # Errors
-    /// Those of `Mediator::receive_prepared`, and [`Fault::OutOfMemory`] for the receipt. Nothing has changed then, and
+    /// Those of `Mediator::receive_prepared`, and [`MediatorFault::OutOfMemory`] for the receipt. Nothing has changed then, and
     /// the message is handed back.
     pub fn offer_prepared<H: RecordLedger>(
         &mut self,
         rt: &impl Wait,
         shared: &SharedMediator<E, H>,
         prepared: Prepared,
-    ) -> Result<Receipt, (Fault, Prepared)>
+    ) -> Result<Receipt, (MediatorFault, Prepared)>
         ensures kept { IfOk result (λ receipt.
             self.new.kept ≡ self.old.kept ++ record {
               position = receipt.position;
@@ -203,6 +208,7 @@ impl<E: EntryLedger> ExporterHandle<E> {
         ensures session { self.new.session ≡ self.old.session }
         ensures unchanged { OnErr result (self.new ≡ self.old) }
         ensures handed_back { IfErr result (λ e. e.1 ≡ prepared) }
+        ensures refuses { IfErr result (λ e. MayRefuseOffer e.0) }
     {
         let receipt = self.offer_prepared_silently(rt, shared, prepared)?;
         shared.wake();
@@ -219,7 +225,7 @@ impl<E: EntryLedger> ExporterHandle<E> {
         rt: &impl Wait,
         shared: &SharedMediator<E, H>,
         prepared: Prepared,
-    ) -> Result<Receipt, (Fault, Prepared)>
+    ) -> Result<Receipt, (MediatorFault, Prepared)>
         ensures kept { IfOk result (λ receipt.
             self.new.kept ≡ self.old.kept ++ record {
               position = receipt.position;
@@ -228,13 +234,14 @@ impl<E: EntryLedger> ExporterHandle<E> {
         ensures session { self.new.session ≡ self.old.session }
         ensures unchanged { OnErr result (self.new ≡ self.old) }
         ensures handed_back { IfErr result (λ e. e.1 ≡ prepared) }
+        ensures refuses { IfErr result (λ e. MayRefuseOffer e.0) }
     {
         let octets = match prepared.message().clone() {
             Ok(octets) => octets,
-            Err(_) => return Err((Fault::OutOfMemory, prepared)),
+            Err(_) => return Err((MediatorFault::OutOfMemory, prepared)),
         };
         if self.kept.reserve(1).is_err() {
-            return Err((Fault::OutOfMemory, prepared));
+            return Err((MediatorFault::OutOfMemory, prepared));
         }
         let number = self.kept.len() as u64;
         let receipt = shared
@@ -259,7 +266,7 @@ impl<E: EntryLedger> ExporterHandle<E> {
         &self,
         rt: &impl Wait,
         shared: &SharedMediator<E, H>,
-    ) -> Result<(), Fault> {
+    ) -> Result<(), MediatorFault> {
         shared.locked(rt).close(self.session)
     }
 

@@ -9,7 +9,8 @@
 //! - `locked`: what lies under the lock, and what each call does there. `ledgers`: [`EntryLedger`] and [`RecordLedger`].
 //! - `counted`: [`CountedMediator`], which counts what it takes in and hands out, so that those who called it can add up their
 //!   receipts. `handed`: [`Handed`], a message that was handed out, with its number of records.
-//! - `fault`: [`PullFault`], [`HandleFault`] and [`CloseFault`]. `fill`: [`Fill`], how full the journal and the audit are.
+//! - `fault`: [`Fault`]; the other refusals are [`mediator_state::Fault`]. `fill`: [`Fill`], how full the journal and the
+//!   audit are.
 //! - `laws`: that a full count is told.
 //!
 //! Proved: whenever the lock is taken, its mediator's state stands for its journal (`mediator_calls`), one book's total is the
@@ -28,8 +29,9 @@
 //!
 //! Of a handle's calls (`kept`): `offer` keeps the message, under the handle's session and with its number, at the position
 //! of the receipt that it answers; an administrator's edit, subscribe, unsubscribe and advance keep the entry of their own
-//! argument with a position; `pull` keeps a message that is built for its Export Time and target at some place of some list,
-//! and its share rises by the records in that; `pull_some` keeps several. A refusal keeps nothing more (`unchanged`).
+//! argument with a position. A refusal keeps nothing more (`unchanged`); that of an offer or a pull is one that such a call may
+//! have (`refuses`). `pull` keeps a message that is built for its Export Time and target at some place of some list, and lends
+//! it; its share rises by the records in that. `pull_some` keeps several, and lends just those (`leaves`).
 //!
 //! `close` answers Ok only where each receipt stands in the journal at its position, none from before `new`, no two at one
 //! position, each handle's own in their order, and where each entry since `new` that is to have a receipt has one
@@ -68,7 +70,7 @@ pub use closing::Closed;
 pub use counted::CountedMediator;
 pub use delivery::{DeliveryHandle, Waited};
 pub use exporter::ExporterHandle;
-pub use fault::{CloseFault, HandleFault, PullFault};
+pub use fault::Fault;
 pub use fill::Fill;
 pub use handed::Handed;
 pub use kept::KeptEntry;

@@ -1,25 +1,25 @@
 //! What lies under the lock: the mediator, with the books of what each handle adds to it.
 ghost use Rattle.std.specs.Prelude.{◌≡◌, ◌+◌, ◌*◌, ◌<◌, [], take, true, false, length, IsOk, IfOk, IfErr, OnOk, OnErr};
 ghost use Rattle.mediator_history.specs.Subscriptions.{is_live};
+ghost use Rattle.mediator_state.specs.declared.fault.Fault.TheVariants.{UnknownSub};
 ghost use Rattle.mediator_state.specs.Calls.{IsSnapshot, RefusesSnapshot, RefusesClose, RefusesEdit, RefusesSubscribe, RefusesUnsubscribe};
 ghost use Rattle.mediator_calls.specs.Mediation.{noted_at, journal_limits};
-ghost use Rattle.mediator_calls.specs.Sound.{IsSound};
+ghost use Rattle.mediator_calls.specs.Sound.{IsSoundMediation};
 ghost use Rattle.mediator_calls.specs.Calls.{Opens, Closes, Receives, RefusesReceive, RefusesReceivePrepared, Edits, Subscribes, Unsubscribes, Advances, RefusesAdvance, IsStatusOf, Drains};
 ghost use Rattle.shared_mediator.specs.Counted.{counted_as, handed_at, handed_live};
 ghost use Rattle.shared_mediator.specs.Handing.{HandsOut, RefusesHanding, records_of};
 ghost use Rattle.shared_mediator.specs.Locked.{locked_as};
-ghost use Rattle.shared_mediator.specs.Calls.{Makes, Adds, RefusesExporter, RefusesDelivery, RefusesAdmin, IsWaited, is_full, is_full_handle, noted};
+ghost use Rattle.shared_mediator.specs.Calls.{Makes, Adds, RefusesExporter, RefusesDelivery, RefusesAdmin, IsWaited, is_full, with_refusal};
 
 use crate::counted::CountedMediator;
 use crate::delivery::Waited;
-use crate::fault::{HandleFault, PullFault};
 use crate::fill::Fill;
 use crate::handed::Handed;
 use crate::ledgers::{EntryLedger, RecordLedger};
 use bytes::Bytes;
 use disclosure_audit::AuditEntry;
-use mediator_calls::{Mediator, SessionId, SubId, UnknownSub};
-use mediator_state::{Fault, Receipt, Status};
+use mediator_calls::{Mediator, SessionId, SubId};
+use mediator_state::{Fault as MediatorFault, Receipt, Status};
 use mediator_tables::Share as Given;
 use prepared_message::{JudgedAhead, Prepared, Snapshot};
 use std::alloc::AllocError;
@@ -48,13 +48,13 @@ pub(crate) struct LockedMediator<E: EntryLedger, H: RecordLedger> {
 
 impl<E: EntryLedger, H: RecordLedger> Model for LockedMediator<E, H> {
     ghost use Rattle.shared_mediator.specs.Locked.{Locked, locked_as, ledgered_as};
-    ghost use Rattle.shared_mediator.specs.Keeping.{IsKept};
+    ghost use Rattle.shared_mediator.specs.Keeping.{AreBooksKept};
 
     ghost Value = { Locked };
 
     ghost view = { λ d. locked_as d.counted d.handles d.exporters d.deliveries d.admins d.stopped d.full };
 
-    ghost invariant = { λ d. IsKept E.all E.before H.all
+    ghost invariant = { λ d. AreBooksKept E.all E.before H.all
         (locked_as d.counted d.handles d.exporters d.deliveries d.admins d.stopped d.full)
         (ledgered_as d.entries.total d.entries_left.parts d.entries_left.amount)
         (ledgered_as d.handed.total d.handed_left.parts d.handed_left.amount) };
@@ -119,9 +119,8 @@ impl<E: EntryLedger, H: RecordLedger> LockedMediator<E, H> {
     /// Opens a session, with a share of the ledger of entries for its exporter.
     ///
     /// # Errors
-    /// [`HandleFault::NoHandle`] where as many exporters were made as there may be; or [`HandleFault::Core`] with a
-    /// fault of [`CountedMediator::open`].
-    pub(crate) fn exporter(&mut self) -> Result<OpenedSession<E>, HandleFault>
+    /// [`MediatorFault::NoHandle`] where as many exporters were made as there may be; or those of [`CountedMediator::open`].
+    pub(crate) fn exporter(&mut self) -> Result<OpenedSession<E>, MediatorFault>
         // A session is opened, and one handle more is made, with a share that counts nothing.
         ensures ok { IfOk result (λ opened.
             Opens self.old.counted.core opened.session.0 self.new.counted.core) }
@@ -131,16 +130,16 @@ impl<E: EntryLedger, H: RecordLedger> LockedMediator<E, H> {
         ensures position { IfOk result (λ opened.
             opened.position ≡ length self.old.counted.core.history) }
         // A refusal changes nothing, but may note that the journal is full.
-        ensures noted { IfErr result (λ e. self.new ≡ noted (is_full_handle e) self.old) }
+        ensures noted { IfErr result (λ e. self.new ≡ with_refusal (is_full e) self.old) }
         ensures err { IfErr result (λ e. RefusesExporter e self.old) }
     {
         if self.exporters == self.handles {
-            return Err(HandleFault::NoHandle);
+            return Err(MediatorFault::NoHandle);
         }
         let position = self.counted.mediator().journal().len();
         let session = match self.counted.open() {
             Ok(session) => session,
-            Err(fault) => return Err(HandleFault::Core(self.note(fault))),
+            Err(fault) => return Err(self.note(fault)),
         };
         self.exporters += 1;
         Ok(OpenedSession {
@@ -153,9 +152,9 @@ impl<E: EntryLedger, H: RecordLedger> LockedMediator<E, H> {
     /// A share of the ledger of records for the delivery to the live subscription with the number `sub`.
     ///
     /// # Errors
-    /// [`HandleFault::Core`] with [`Fault::UnknownSub`] where it isn't live; or [`HandleFault::NoHandle`] where as many
-    /// deliveries were made as there may be.
-    pub(crate) fn delivery(&mut self, sub: SubId) -> Result<Share<H>, HandleFault>
+    /// [`MediatorFault::UnknownSub`] where it isn't live; or [`MediatorFault::NoHandle`] where as many deliveries were made as there may
+    /// be.
+    pub(crate) fn delivery(&mut self, sub: SubId) -> Result<Share<H>, MediatorFault>
         // One handle more is made, with a share that counts nothing.
         ensures live { OnOk result (is_live sub.0 self.old.counted.core.history ≡ true) }
         ensures counts { OnOk result (Makes 0 1 0 self.old self.new) }
@@ -165,10 +164,10 @@ impl<E: EntryLedger, H: RecordLedger> LockedMediator<E, H> {
         ensures err { IfErr result (λ e. RefusesDelivery e self.old sub.0) }
     {
         if self.counted.status(sub).is_err() {
-            return Err(HandleFault::Core(Fault::UnknownSub));
+            return Err(MediatorFault::UnknownSub);
         }
         if self.deliveries == self.handles {
-            return Err(HandleFault::NoHandle);
+            return Err(MediatorFault::NoHandle);
         }
         self.deliveries += 1;
         Ok(self.handed_left.split_off(1, 0))
@@ -177,15 +176,15 @@ impl<E: EntryLedger, H: RecordLedger> LockedMediator<E, H> {
     /// A share of the ledger of entries for an administrator.
     ///
     /// # Errors
-    /// [`HandleFault::NoHandle`] where as many administrators were made as there may be.
-    pub(crate) fn admin(&mut self) -> Result<Share<E>, HandleFault>
+    /// [`MediatorFault::NoHandle`] where as many administrators were made as there may be.
+    pub(crate) fn admin(&mut self) -> Result<Share<E>, MediatorFault>
         ensures counts { OnOk result (Makes 0 0 1 self.old self.new) }
         ensures share { IfOk result (λ share. (share.parts ≡ 1) × (share.amount ≡ 0)) }
         ensures unchanged { OnErr result (self.new ≡ self.old) }
         ensures err { IfErr result (λ e. RefusesAdmin e self.old) }
     {
         if self.admins == self.handles {
-            return Err(HandleFault::NoHandle);
+            return Err(MediatorFault::NoHandle);
         }
         self.admins += 1;
         Ok(self.entries_left.split_off(1, 0))
@@ -203,7 +202,7 @@ impl<E: EntryLedger, H: RecordLedger> LockedMediator<E, H> {
         number: u64,
         message: Bytes,
         ahead: Option<JudgedAhead>,
-    ) -> Result<Receipt, Fault>
+    ) -> Result<Receipt, MediatorFault>
         requires part { 0 < share.old.parts }
         // What the counted mediator's call does, with one entry more on the books and in the share.
         ensures ok { IfOk result (λ receipt.
@@ -212,7 +211,7 @@ impl<E: EntryLedger, H: RecordLedger> LockedMediator<E, H> {
         ensures share { OnOk result (share.new.amount ≡ share.old.amount + 1) }
         ensures part { share.new.parts ≡ share.old.parts }
         // A refusal changes nothing, but may note that the journal is full.
-        ensures noted { IfErr result (λ e. (self.new ≡ noted (is_full e) self.old)
+        ensures noted { IfErr result (λ e. (self.new ≡ with_refusal (is_full e) self.old)
             × (share.new ≡ share.old)) }
         ensures err { IfErr result (λ e.
             RefusesReceive e self.old.counted.core session.0 number message) }
@@ -230,7 +229,7 @@ impl<E: EntryLedger, H: RecordLedger> LockedMediator<E, H> {
     ///
     /// # Errors
     /// Those of [`CountedMediator::snapshot`].
-    pub(crate) fn snapshot(&mut self, session: SessionId) -> Result<Snapshot, Fault>
+    pub(crate) fn snapshot(&mut self, session: SessionId) -> Result<Snapshot, MediatorFault>
         ensures ok { IfOk result (IsSnapshot self.old.counted.core.history session.0) }
         ensures unchanged { self.new ≡ self.old }
         ensures err { IfErr result (λ e.
@@ -250,7 +249,7 @@ impl<E: EntryLedger, H: RecordLedger> LockedMediator<E, H> {
         session: SessionId,
         number: u64,
         prepared: Prepared,
-    ) -> Result<Receipt, (Fault, Prepared)>
+    ) -> Result<Receipt, (MediatorFault, Prepared)>
         requires part { 0 < share.old.parts }
         // What the counted mediator's call does, with one entry more on the books and in the share.
         ensures ok { IfOk result (λ receipt. Receives self.old.counted.core session.0 number
@@ -259,7 +258,7 @@ impl<E: EntryLedger, H: RecordLedger> LockedMediator<E, H> {
         ensures share { OnOk result (share.new.amount ≡ share.old.amount + 1) }
         ensures part { share.new.parts ≡ share.old.parts }
         // A refusal changes nothing, but may note that the journal is full. The message is handed back.
-        ensures noted { IfErr result (λ e. (self.new ≡ noted (is_full e.0) self.old)
+        ensures noted { IfErr result (λ e. (self.new ≡ with_refusal (is_full e.0) self.old)
             × (share.new ≡ share.old)) }
         ensures err { IfErr result (λ e.
             RefusesReceivePrepared e.0 self.old.counted.core session.0 number prepared) }
@@ -278,10 +277,10 @@ impl<E: EntryLedger, H: RecordLedger> LockedMediator<E, H> {
     ///
     /// # Errors
     /// Those of [`CountedMediator::close`].
-    pub(crate) fn close(&mut self, session: SessionId) -> Result<(), Fault>
+    pub(crate) fn close(&mut self, session: SessionId) -> Result<(), MediatorFault>
         ensures ok { OnOk result (Closes self.old.counted.core session.0 self.new.counted.core) }
         ensures counts { OnOk result (Adds 0 0 0 self.old self.new) }
-        ensures noted { IfErr result (λ e. self.new ≡ noted (is_full e) self.old) }
+        ensures noted { IfErr result (λ e. self.new ≡ with_refusal (is_full e) self.old) }
         ensures err { IfErr result (λ e. RefusesClose e
             (journal_limits self.old.counted.core.limits) self.old.counted.core.history session.0) }
     {
@@ -302,10 +301,10 @@ impl<E: EntryLedger, H: RecordLedger> LockedMediator<E, H> {
         sub: SubId,
         now: u32,
         target: u16,
-    ) -> Result<Option<Handed>, PullFault>
+    ) -> Result<Option<Handed>, MediatorFault>
         requires part { 0 < share.old.parts }
         // What the counted mediator's call does, with the records of the message on the books and in the share.
-        ensures sound { IsSound self.old.counted.core }
+        ensures sound { IsSoundMediation self.old.counted.core }
         ensures ok { IfOk result (λ answer.
             HandsOut self.old.counted sub.0 now target answer self.new.counted) }
         ensures counts { IfOk result (λ answer. Adds 0 (records_of answer) 0 self.old self.new) }
@@ -316,7 +315,7 @@ impl<E: EntryLedger, H: RecordLedger> LockedMediator<E, H> {
         ensures unchanged { OnErr result ((self.new ≡ self.old) × (share.new ≡ share.old)) }
         ensures err { IfErr result (λ e. RefusesHanding e self.old.counted sub.0) }
     {
-        let _journal = self.counted.mediator().journal();
+        let _for_proof = self.counted.mediator().journal();
         match self.counted.pull(sub, now, target) {
             Ok(Some(handed)) => {
                 self.handed.add(share, handed.records);
@@ -345,7 +344,11 @@ impl<E: EntryLedger, H: RecordLedger> LockedMediator<E, H> {
     ///
     /// # Errors
     /// Those of [`CountedMediator::edit`].
-    pub(crate) fn edit(&mut self, share: &mut Share<E>, text: &str) -> Result<Accepted, Fault>
+    pub(crate) fn edit(
+        &mut self,
+        share: &mut Share<E>,
+        text: &str,
+    ) -> Result<Accepted, MediatorFault>
         requires part { 0 < share.old.parts }
         // What the counted mediator's call does, with one entry more on the books and in the share.
         ensures ok { IfOk result (λ accepted.
@@ -356,7 +359,7 @@ impl<E: EntryLedger, H: RecordLedger> LockedMediator<E, H> {
         ensures share { OnOk result (share.new.amount ≡ share.old.amount + 1) }
         ensures part { share.new.parts ≡ share.old.parts }
         // A refusal changes nothing, but may note that the journal is full.
-        ensures noted { IfErr result (λ e. (self.new ≡ noted (is_full e) self.old)
+        ensures noted { IfErr result (λ e. (self.new ≡ with_refusal (is_full e) self.old)
             × (share.new ≡ share.old)) }
         ensures err { IfErr result (λ e. RefusesEdit e (journal_limits self.old.counted.core.limits)
             self.old.counted.core.history text.now) }
@@ -376,7 +379,11 @@ impl<E: EntryLedger, H: RecordLedger> LockedMediator<E, H> {
     ///
     /// # Errors
     /// Those of [`CountedMediator::subscribe`].
-    pub(crate) fn subscribe(&mut self, share: &mut Share<E>, name: &str) -> Result<Accepted, Fault>
+    pub(crate) fn subscribe(
+        &mut self,
+        share: &mut Share<E>,
+        name: &str,
+    ) -> Result<Accepted, MediatorFault>
         requires part { 0 < share.old.parts }
         // What the counted mediator's call does, with one entry more on the books and in the share.
         ensures ok { IfOk result (λ accepted.
@@ -387,7 +394,7 @@ impl<E: EntryLedger, H: RecordLedger> LockedMediator<E, H> {
         ensures share { OnOk result (share.new.amount ≡ share.old.amount + 1) }
         ensures part { share.new.parts ≡ share.old.parts }
         // A refusal changes nothing, but may note that the journal is full.
-        ensures noted { IfErr result (λ e. (self.new ≡ noted (is_full e) self.old)
+        ensures noted { IfErr result (λ e. (self.new ≡ with_refusal (is_full e) self.old)
             × (share.new ≡ share.old)) }
         ensures err { IfErr result (λ e. RefusesSubscribe e
             (journal_limits self.old.counted.core.limits) self.old.counted.core.history name.now) }
@@ -407,7 +414,11 @@ impl<E: EntryLedger, H: RecordLedger> LockedMediator<E, H> {
     ///
     /// # Errors
     /// Those of [`CountedMediator::unsubscribe`].
-    pub(crate) fn unsubscribe(&mut self, share: &mut Share<E>, sub: SubId) -> Result<u64, Fault>
+    pub(crate) fn unsubscribe(
+        &mut self,
+        share: &mut Share<E>,
+        sub: SubId,
+    ) -> Result<u64, MediatorFault>
         requires part { 0 < share.old.parts }
         // What the counted mediator's call does, with one entry more on the books and in the share.
         ensures ok { OnOk result (Unsubscribes self.old.counted.core sub.0 self.new.counted.core) }
@@ -418,7 +429,7 @@ impl<E: EntryLedger, H: RecordLedger> LockedMediator<E, H> {
         ensures share { OnOk result (share.new.amount ≡ share.old.amount + 1) }
         ensures part { share.new.parts ≡ share.old.parts }
         // A refusal changes nothing, but may note that the journal is full.
-        ensures noted { IfErr result (λ e. (self.new ≡ noted (is_full e) self.old)
+        ensures noted { IfErr result (λ e. (self.new ≡ with_refusal (is_full e) self.old)
             × (share.new ≡ share.old)) }
         ensures err { IfErr result (λ e. RefusesUnsubscribe e
             (journal_limits self.old.counted.core.limits) self.old.counted.core.history sub.0) }
@@ -438,7 +449,7 @@ impl<E: EntryLedger, H: RecordLedger> LockedMediator<E, H> {
     ///
     /// # Errors
     /// Those of [`CountedMediator::advance`].
-    pub(crate) fn advance(&mut self, share: &mut Share<E>, t: u64) -> Result<u64, Fault>
+    pub(crate) fn advance(&mut self, share: &mut Share<E>, t: u64) -> Result<u64, MediatorFault>
         requires part { 0 < share.old.parts }
         // What the counted mediator's call does, with one entry more on the books and in the share.
         ensures ok { OnOk result (Advances self.old.counted.core t self.new.counted.core) }
@@ -448,7 +459,7 @@ impl<E: EntryLedger, H: RecordLedger> LockedMediator<E, H> {
         ensures share { OnOk result (share.new.amount ≡ share.old.amount + 1) }
         ensures part { share.new.parts ≡ share.old.parts }
         // A refusal changes nothing, but may note that the journal is full.
-        ensures noted { IfErr result (λ e. (self.new ≡ noted (is_full e) self.old)
+        ensures noted { IfErr result (λ e. (self.new ≡ with_refusal (is_full e) self.old)
             × (share.new ≡ share.old)) }
         ensures err { IfErr result (λ e. RefusesAdvance e self.old.counted.core t) }
     {
@@ -478,10 +489,11 @@ impl<E: EntryLedger, H: RecordLedger> LockedMediator<E, H> {
     /// How the live subscription with the number `sub` stands.
     ///
     /// # Errors
-    /// [`UnknownSub`] where none with this number is live.
-    pub(crate) fn status(&self, sub: SubId) -> Result<Status, UnknownSub>
+    /// [`MediatorFault::UnknownSub`] where none with this number is live.
+    pub(crate) fn status(&self, sub: SubId) -> Result<Status, MediatorFault>
         ensures ok { IfOk result (λ status. IsStatusOf self.now.counted.core sub.0 status) }
         ensures err { OnErr result (is_live sub.0 self.now.counted.core.history ≡ false) }
+        ensures fault { IfErr result (λ e. e ≡ UnknownSub) }
     {
         self.counted.status(sub)
     }
@@ -525,9 +537,9 @@ impl<E: EntryLedger, H: RecordLedger> LockedMediator<E, H> {
     }
 
     /// Notes `fault`, a refusal of the mediator, where it is that the journal is full; and hands it on.
-    fn note(&mut self, fault: Fault) -> Fault
+    fn note(&mut self, fault: MediatorFault) -> MediatorFault
         ensures same { result ≡ fault }
-        ensures noted { self.new ≡ noted (is_full fault) self.old }
+        ensures noted { self.new ≡ with_refusal (is_full fault) self.old }
     {
         self.full = self.full || is_full(fault);
         fault
@@ -535,8 +547,8 @@ impl<E: EntryLedger, H: RecordLedger> LockedMediator<E, H> {
 }
 
 /// Whether `fault` is that the journal is full.
-fn is_full(fault: Fault) -> bool
+fn is_full(fault: MediatorFault) -> bool
     ensures { result ≡ is_full fault }
 {
-    matches!(fault, Fault::JournalFull)
+    matches!(fault, MediatorFault::JournalFull)
 }

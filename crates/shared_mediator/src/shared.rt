@@ -1,16 +1,16 @@
 //! A mediator that threads share by one lock.
-ghost use Rattle.std.specs.Prelude.{◌≡◌, ◌+◌, ◌*◌, [], IfOk};
+ghost use Rattle.std.specs.Prelude.{◌≡◌, ◌+◌, ◌*◌, [], IfOk, IfErr};
+ghost use Rattle.mediator_state.specs.declared.fault.Fault.TheVariants.{UnknownSub};
 ghost use Rattle.shared_mediator.specs.Counted.{handed_live};
 
 use crate::admin::AdminHandle;
 use crate::delivery::DeliveryHandle;
 use crate::exporter::ExporterHandle;
-use crate::fault::HandleFault;
 use crate::fill::Fill;
 use crate::ledgers::{EntryLedger, RecordLedger};
 use crate::locked::LockedMediator;
-use mediator_calls::{Mediator, SubId, UnknownSub};
-use mediator_state::Status;
+use mediator_calls::{Mediator, SubId};
+use mediator_state::{Fault as MediatorFault, Status};
 use mediator_tables::Share;
 use std::alloc::Global;
 use std::sync::ledger::Blank;
@@ -43,7 +43,7 @@ const LOOKS: u32 = 200;
 /// exporter.offer(rt, &shared, message).expect(rt, "a receipt");
 /// let mut delivery = shared.delivery(rt, acme).expect(rt, "a delivery");
 /// let pulled = delivery.pull(rt, &shared, 1_700_000_060, 1400);
-/// assert!(rt; pulled == Ok(true));
+/// assert!(rt; matches!(pulled, Ok(Some(handed)) if handed.records == 1));
 /// // All handles come back.
 /// let exporters = vec![in alloc; exporter].expect(rt, "memory");
 /// let deliveries = vec![in alloc; delivery].expect(rt, "memory");
@@ -91,9 +91,8 @@ impl<E: EntryLedger, H: RecordLedger> SharedMediator<E, H> {
     /// Opens a session of an exporter, and answers its handle. It waits for the lock by `rt`.
     ///
     /// # Errors
-    /// [`HandleFault::NoHandle`] where as many exporters' handles were made as there may be; or [`HandleFault::Core`]
-    /// with a fault of `Mediator::open`.
-    pub fn exporter(&self, rt: &impl Wait) -> Result<ExporterHandle<E>, HandleFault>
+    /// [`MediatorFault::NoHandle`] where as many exporters' handles were made as there may be; or those of `Mediator::open`.
+    pub fn exporter(&self, rt: &impl Wait) -> Result<ExporterHandle<E>, MediatorFault>
         ensures { IfOk result (λ handle. handle.kept ≡ []) }
     {
         let opened = self.mediator.lock(rt).exporter()?;
@@ -103,9 +102,9 @@ impl<E: EntryLedger, H: RecordLedger> SharedMediator<E, H> {
     /// A handle for the delivery to the live subscription with the number `sub`. It waits for the lock by `rt`.
     ///
     /// # Errors
-    /// [`HandleFault::Core`] with `UnknownSub` where no subscription with this number is live; or
-    /// [`HandleFault::NoHandle`] where as many deliveries' handles were made as there may be.
-    pub fn delivery(&self, rt: &impl Wait, sub: SubId) -> Result<DeliveryHandle<H>, HandleFault>
+    /// [`MediatorFault::UnknownSub`] where no subscription with this number is live; or [`MediatorFault::NoHandle`] where as many
+    /// deliveries' handles were made as there may be.
+    pub fn delivery(&self, rt: &impl Wait, sub: SubId) -> Result<DeliveryHandle<H>, MediatorFault>
         ensures sub { IfOk result (λ handle. handle.sub ≡ sub.0) }
         ensures none { IfOk result (λ handle. handle.kept ≡ []) }
     {
@@ -147,8 +146,10 @@ impl<E: EntryLedger, H: RecordLedger> SharedMediator<E, H> {
     /// How the live subscription with the number `sub` stands. It waits for the lock by `rt`.
     ///
     /// # Errors
-    /// [`UnknownSub`] where no subscription with this number is live.
-    pub fn status(&self, rt: &impl Wait, sub: SubId) -> Result<Status, UnknownSub> {
+    /// [`MediatorFault::UnknownSub`] where no subscription with this number is live.
+    pub fn status(&self, rt: &impl Wait, sub: SubId) -> Result<Status, MediatorFault>
+        ensures { IfErr result (λ e. e ≡ UnknownSub) }
+    {
         self.locked(rt).status(sub)
     }
 
@@ -166,8 +167,8 @@ impl<E: EntryLedger, H: RecordLedger> SharedMediator<E, H> {
     /// A handle for an administrator. It waits for the lock by `rt`.
     ///
     /// # Errors
-    /// [`HandleFault::NoHandle`] where as many administrators' handles were made as there may be.
-    pub fn admin(&self, rt: &impl Wait) -> Result<AdminHandle<E>, HandleFault>
+    /// [`MediatorFault::NoHandle`] where as many administrators' handles were made as there may be.
+    pub fn admin(&self, rt: &impl Wait) -> Result<AdminHandle<E>, MediatorFault>
         ensures { IfOk result (λ handle. handle ≡ []) }
     {
         let share = self.mediator.lock(rt).admin()?;

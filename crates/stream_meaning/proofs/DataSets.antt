@@ -2,7 +2,7 @@
 use Rattle.std.proofs.Common.{◌≡◌, ℕ, List, [], ◌∷◌, map, refl, subst}
 use Rattle.std.specs.List.{flat_map, AllByRecursion}
 use Rattle.ipfix_template.specs.declared.template.Template.{Template}
-use Rattle.ipfix_template.specs.Template.{IsAccepted}
+use Rattle.ipfix_template.specs.Template.{IsAcceptable}
 use Rattle.ipfix_template.specs.Values.{Splits, records_in}
 use Rattle.ipfix_template.specs.DataRecord.{DataRecord, IsSound}
 use Rattle.ipfix_template.proofs.WrittenLaws.{record_text-splits}
@@ -24,7 +24,7 @@ abbrev pub values_of : DataRecord → List (List ℕ)
 values_of r = r.values
 
 -- what is written for records of a template is those records, one after another, and no padding
-written : (t : Template) (rs : List DataRecord) → IsAccepted t → AreOf t rs → AreRecords t (flat_map spelled rs) (map values_of rs)
+written : (t : Template) (rs : List DataRecord) → IsAcceptable t → AreOf t rs → AreRecords t (flat_map spelled rs) (map values_of rs)
 written t [] accepted are = shortest_some t accepted
 written t (r ∷ rs) accepted are =
     let splits = record_text-splits r.template.fields r.values are.0.sound.fit in
@@ -32,5 +32,5 @@ written t (r ∷ rs) accepted are =
     (spelled r, flat_map spelled rs, refl, subst S are.0.template splits, written t rs accepted are.1)
 
 -- so they are read as their values
-pub content_read : (t : Template) (rs : List DataRecord) → IsAccepted t → AreOf t rs → records_in t (flat_map spelled rs) ≡ read_rows (map values_of rs)
+pub content_read : (t : Template) (rs : List DataRecord) → IsAcceptable t → AreOf t rs → records_in t (flat_map spelled rs) ≡ read_rows (map values_of rs)
 content_read t rs accepted are = only t accepted (flat_map spelled rs) (map values_of rs) (written t rs accepted are)

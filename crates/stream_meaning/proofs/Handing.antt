@@ -6,10 +6,10 @@ use Rattle.sequences.specs.Before.{each_after, each_with_before}
 use Rattle.ipfix_template.specs.DataRecord.{DataRecord}
 use Rattle.subscriber_stream.specs.Parts.{parts, records_in}
 use Rattle.subscriber_stream.specs.Message.{run_length, built, place_after}
-use Rattle.subscriber_stream.specs.declared.limits.Limits.{Limits}
+use Rattle.subscriber_stream.specs.declared.limits.StreamLimits.{StreamLimits}
 use Rattle.subscriber_stream.specs.Shapes.{shapes_of}
-use Rattle.subscriber_stream.specs.Standing.{Standing, StandsAt, FitsLimits}
-use Rattle.subscriber_stream.specs.Calls.{Call, Given, Pulled, Pull, pulls_of, octets_from, Serves}
+use Rattle.subscriber_stream.specs.Standing.{StreamStanding, StandsAt, FitsLimits}
+use Rattle.subscriber_stream.specs.Calls.{Call, Given, Pulled, Pull, pulls_of, octets_from, ServesCalls}
 use Rattle.subscriber_stream.proofs.CallLaws.{served, parts_bring, run_some}
 use Rattle.subscriber_stream.proofs.Standings.{records_in-append}
 use Rattle.sequences.proofs.ListLaws.{AllByRecursion-append}
@@ -123,7 +123,7 @@ no_shapes = omega arith
 pub none_streamable : AreStreamable []
 none_streamable = record { each = tt; shapes = no_shapes }
 
-pub streamable_more : (limits : Limits) (records more : List DataRecord) (p : ℕ) → AreStreamable records → AllByRecursion IsStreamable more → FitsLimits limits records p more → limits.shapes ≤ MOST_SHAPES → AreStreamable (records ++ more)
+pub streamable_more : (limits : StreamLimits) (records more : List DataRecord) (p : ℕ) → AreStreamable records → AllByRecursion IsStreamable more → FitsLimits limits records p more → limits.shapes ≤ MOST_SHAPES → AreStreamable (records ++ more)
 streamable_more limits records more p may each fits few = record { each = AllByRecursion-append IsStreamable records more may.each each; shapes = omega (arith, fits.shapes, few) }
 
 -- ---- what is known of the messages
@@ -146,7 +146,7 @@ handed_whole messages records p now target are may end =
     subst L are.given (subst M are.got all)
 
 -- what stands before a place is the first of the list
-pub first_of : (s : Standing) (records : List DataRecord) (p : ℕ) → StandsAt s records p → records_in (take p (parts records)) ≡ take s.handed records
+pub first_of : (s : StreamStanding) (records : List DataRecord) (p : ℕ) → StandsAt s records p → records_in (take p (parts records)) ≡ take s.handed records
 first_of s records p at =
     let front = records_in (take p (parts records)) in
     let rest = records_in (drop p (parts records)) in
@@ -155,7 +155,7 @@ first_of s records p at =
 
 -- ---- the answers of a stream
 
-pub answers_mean : (s : Standing) (calls : List Call) (answers : Answers) → StandsAt s [] 0 → Serves s calls answers → AreStreamable (records_given calls) → AreInRange calls → Means (messages_in answers) (records_in (take (place_reached calls) (parts (records_given calls))))
+pub answers_mean : (s : StreamStanding) (calls : List Call) (answers : Answers) → StandsAt s [] 0 → ServesCalls s calls answers → AreStreamable (records_given calls) → AreInRange calls → Means (messages_in answers) (records_in (take (place_reached calls) (parts (records_given calls))))
 answers_mean s calls answers at serves may ranges =
     let M : Answers → Type 0 = λ os. Means (messages_in os) (records_in (take (place_reached calls) (parts (records_given calls)))) in
     subst M (sym (served s [] 0 calls answers at serves)) (means_so_far calls may ranges)

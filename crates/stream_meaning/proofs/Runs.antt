@@ -5,8 +5,8 @@ use Rattle.ipfix_template.specs.DataRecord.{DataRecord}
 use Rattle.ipfix_message.specs.declared.header.Header.{Header}
 use Rattle.ipfix_message.specs.Reading.{header_of}
 use Rattle.ipfix_session.specs.Contents.{Contents}
-use Rattle.ipfix_session.specs.Meaning.{Meaning, domain_of, contents_of, gap_of, meaning_of, with_domain, records_after, joined, records_meant}
-use Rattle.ipfix_session.specs.declared.read_error.ReadError.{ReadError}
+use Rattle.ipfix_session.specs.Meaning.{Meaning, domain_of, contents_of, gap_of, meaning_of, with_domain, records_after, both_records, records_meant}
+use Rattle.ipfix_session.specs.declared.fault.Fault.{Fault as ReadError}
 use Rattle.ipfix_session.proofs.MeaningLaws.{records_after-append, records_after-one}
 use Rattle.subscriber_stream.specs.Parts.{Part, parts, records_in}
 use Rattle.subscriber_stream.specs.Message.{message, run_length, next_message, built, place_after}
@@ -15,7 +15,7 @@ use Rattle.subscriber_stream.proofs.CallLaws.{parts_more, parts_bring}
 use Rattle.subscriber_stream.proofs.Standings.{records_in-append, next_none}
 use Rattle.sequences.specs.Results.{◌>>=◌}
 use Rattle.stream_meaning.specs.Served.{AreStreamable, AreInRange, records_given, messages_in, messages_got, place_from, place_reached}
-use Rattle.stream_meaning.specs.Means.{plain_meaning, AreRead, Means}
+use Rattle.stream_meaning.specs.Means.{plain_meaning, AreReadAs, Means}
 use Rattle.stream_meaning.proofs.Tables.{empty, AreKnown, after_parts}
 use Rattle.stream_meaning.proofs.Sets.{known_split}
 use Rattle.stream_meaning.proofs.Listed.{parts_known}
@@ -40,7 +40,7 @@ nothing_brought : (older : List (List ℕ)) → records_after older [] ≡ bring
 unfolding records_after
 nothing_brought older = refl
 
-pub brought : (messages : List (List ℕ)) (handed : ℕ) (older : List (List ℕ)) (records : List DataRecord) → AreRead handed older messages records → records_after older messages ≡ brings records
+pub brought : (messages : List (List ℕ)) (handed : ℕ) (older : List (List ℕ)) (records : List DataRecord) → AreReadAs handed older messages records → records_after older messages ≡ brings records
 brought [] handed older records read = nothing_brought older ∙ ap brings (sym read)
 brought (m ∷ messages) handed older records read =
     let now = read.0 in
@@ -51,8 +51,8 @@ brought (m ∷ messages) handed older records read =
     let one : records_after older (m ∷ []) ≡ brings first = records_after-one older m ∙ ap (records_meant (domain_of m)) read.4
     ∙ ap (λ (d : ℕ). records_meant d (let ok : Result Meaning ReadError = Ok (plain_meaning now handed first) in ok)) domain in
     records_after-append older (m ∷ []) messages
-    ∙ ap (λ (r : Result (List (ℕ × DataRecord)) ReadError). joined r (records_after (m ∷ older) messages)) one
-    ∙ ap (joined (brings first)) (brought messages (handed + length first) (m ∷ older) others read.5)
+    ∙ ap (λ (r : Result (List (ℕ × DataRecord)) ReadError). both_records r (records_after (m ∷ older) messages)) one
+    ∙ ap (both_records (brings first)) (brought messages (handed + length first) (m ∷ older) others read.5)
     ∙ sym (ap brings read.3 ∙ (let ok : List (ℕ × DataRecord) → Result (List (ℕ × DataRecord)) ReadError = λ rs. Ok rs in ap ok (map-append (with_domain 0) first others)))
 
 -- ---- places
@@ -82,7 +82,7 @@ pub record IsRunOf (records : List DataRecord) (p : ℕ) (older : List (List ℕ
   pub done : List Part
   pub reached : take (place_from p (pulls_of records calls)) (parts whole) ≡ take p (parts records) ++ done
   pub within : place_from p (pulls_of records calls) ≤ length (parts whole)
-  pub read : AreRead (handed_in (take p (parts records))) older (messages_in (octets_from p (pulls_of records calls))) (records_in done)
+  pub read : AreReadAs (handed_in (take p (parts records))) older (messages_in (octets_from p (pulls_of records calls))) (records_in done)
 
 -- readers of older messages stand at place p of the parts of the records
 record StandsIn (records : List DataRecord) (p : ℕ) (older : List (List ℕ)) : Type 0 where
@@ -114,8 +114,8 @@ ended : (records : List DataRecord) (p now target : ℕ) (older : List (List ℕ
     → IsRunOf records (place_after records p target) older calls whole → IsRunOf records p older (Pulled now target ∷ calls) whole
 ended records p now target older calls whole none same run =
     let q = place_after records p target in
-    let M : List (Option (List ℕ)) → Type 0 = λ answers. AreRead (handed_in (take p (parts records))) older (messages_in answers) (records_in run.done) in
-    let H : List Part → Type 0 = λ ps. AreRead (handed_in ps) older (messages_in (octets_from q (pulls_of records calls))) (records_in run.done) in
+    let M : List (Option (List ℕ)) → Type 0 = λ answers. AreReadAs (handed_in (take p (parts records))) older (messages_in answers) (records_in run.done) in
+    let H : List Part → Type 0 = λ ps. AreReadAs (handed_in ps) older (messages_in (octets_from q (pulls_of records calls))) (records_in run.done) in
     record {
       done = run.done;
       reached = run.reached ∙ ap (λ (ps : List Part). ps ++ run.done) same;
@@ -130,8 +130,8 @@ went_on records p now target older calls whole ps some reached one run =
     let q = place_after records p target in
     let before = take p (parts records) in
     let m = message_at now before ps in
-    let M : List (Option (List ℕ)) → Type 0 = λ answers. AreRead (handed_in before) older (messages_in answers) (records_in (ps ++ run.done)) in
-    let H : ℕ → Type 0 = λ handed. AreRead handed (m ∷ older) (messages_in (octets_from q (pulls_of records calls))) (records_in run.done) in
+    let M : List (Option (List ℕ)) → Type 0 = λ answers. AreReadAs (handed_in before) older (messages_in answers) (records_in (ps ++ run.done)) in
+    let H : ℕ → Type 0 = λ handed. AreReadAs handed (m ∷ older) (messages_in (octets_from q (pulls_of records calls))) (records_in run.done) in
     let counted : handed_in (take q (parts records)) ≡ handed_in before + length (records_in ps) = ap handed_in reached ∙ ap length (records_in-append before ps) ∙ length-append (records_in before) (records_in ps) in
     let here : M (Some m ∷ octets_from q (pulls_of records calls)) = (now, records_in ps, records_in run.done, records_in-append ps run.done, one.meaning, subst H counted run.read) in
     record {
@@ -176,7 +176,7 @@ run (Given more ∷ calls) records p older whole may left at =
     let front = given_more records more p at.within in
     let S : List Part → Type 0 = λ ps. Stands older ps in
     let others = run calls (records ++ more) p older whole may (record { whole_is = left.whole_is ∙ sym (append_assoc records more (records_given calls)); ranges = left.ranges.1 }) (record { within = front.1; stands = subst S (sym front.0) at.stands }) in
-    let H : List Part → Type 0 = λ ps. AreRead (handed_in ps) older (messages_in (octets_from p (pulls_of (records ++ more) calls))) (records_in others.done) in
+    let H : List Part → Type 0 = λ ps. AreReadAs (handed_in ps) older (messages_in (octets_from p (pulls_of (records ++ more) calls))) (records_in others.done) in
     record {
       done = others.done;
       reached = others.reached ∙ ap (λ (ps : List Part). ps ++ others.done) front.0;
@@ -213,7 +213,7 @@ got calls may ranges = run calls [] 0 [] (records_given calls) may (record { who
 pub means_so_far : (calls : List Call) → AreStreamable (records_given calls) → AreInRange calls → Means (messages_got calls) (records_in (take (place_reached calls) (parts (records_given calls))))
 means_so_far calls may ranges =
     let all = got calls may ranges in
-    let R : List Part → Type 0 = λ ps. AreRead 0 [] (messages_got calls) (records_in ps) in
+    let R : List Part → Type 0 = λ ps. AreReadAs 0 [] (messages_got calls) (records_in ps) in
     let read = subst R (sym all.reached) all.read in
     record { records = brought (messages_got calls) 0 [] (records_in (take (place_reached calls) (parts (records_given calls)))) read; each = read }
 

@@ -3,12 +3,12 @@ use Rattle.std.proofs.Common.{ℕ, List, [], ◌∷◌, ◌≡◌, ◌<◌, leng
 use Rattle.std.specs.List.{AllByRecursion}
 use Rattle.ipfix_octets.specs.MessageFormat.{least_template_id}
 use Rattle.ipfix_template.specs.declared.template.Template.{Template}
-use Rattle.ipfix_template.specs.Template.{IsAccepted, IsWritable, is_options}
+use Rattle.ipfix_template.specs.Template.{IsAcceptable, IsWritable, is_options}
 use Rattle.ipfix_template.specs.DataRecord.{IsKept, kept_record}
 use Rattle.stream_meaning.specs.Served.{IsStreamable}
 
 -- the template of a run of some record is accepted
-pub accepted_of_some : (t : Template) (texts : List (List ℕ)) → AllByRecursion (IsKept t) texts → 0 < length texts → IsAccepted t
+pub accepted_of_some : (t : Template) (texts : List (List ℕ)) → AllByRecursion (IsKept t) texts → 0 < length texts → IsAcceptable t
 accepted_of_some t [] kept some = absurd (omega arith)
 accepted_of_some t (text ∷ texts) kept some = kept.0.sound.accepted
 

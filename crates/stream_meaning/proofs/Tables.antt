@@ -1,7 +1,7 @@
 -- The template that each ID has, along the sets of a message.
 use Rattle.std.proofs.Common.{◌≡◌, ℕ, ◌<◌, ◌≤◌, eqb, cond, List, [], ◌∷◌, ◌++◌, Option, Some, None}
 use Rattle.ipfix_template.specs.declared.template.Template.{Template}
-use Rattle.ipfix_template.specs.Template.{IsAccepted, IsWritable, is_options, template_record}
+use Rattle.ipfix_template.specs.Template.{IsAcceptable, IsWritable, is_options, template_record}
 use Rattle.ipfix_template.specs.DataRecord.{DataRecord, FitsOneMessage, IsSound}
 use Rattle.subscriber_stream.specs.Parts.{Part, Announcement, Entry}
 use Rattle.subscriber_stream.specs.Message.{Set, Announces, Brings}
@@ -21,7 +21,7 @@ defining id shape table q = cond (eqb q id) (Some shape) (table q)
 pub record IsAnnounceable (id : ℕ) (shape : Template) : Type 0 where
   pub low : 256 ≤ id
   pub high : id < 65536
-  pub accepted : IsAccepted shape
+  pub accepted : IsAcceptable shape
   pub writable : IsWritable 256 (is_options shape) shape
   pub fits : FitsOneMessage (template_record 256 (is_options shape) shape)
 
@@ -38,7 +38,7 @@ pub record AreBrought (table : Table) (id : ℕ) (rs : List DataRecord) : Type 0
   pub high : id < 65536
   pub template : Template
   pub known : table id ≡ Some template
-  pub accepted : IsAccepted template
+  pub accepted : IsAcceptable template
   pub are : AreOf template rs
 
 abbrev pub AreKnown : Table → List Part → Type 0

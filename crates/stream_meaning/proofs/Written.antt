@@ -5,7 +5,7 @@ use Rattle.std.specs.List.{flat_map, sum_by, AllByRecursion}
 use Rattle.std.proofs.lemmas.Bool.{le-ltb, ne_eqb}
 use Rattle.ipfix_template.specs.DataRecord.{DataRecord}
 use Rattle.std.proofs.lemmas.List.Concat.{flat_map-cons}
-use Rattle.sequences.specs.Octets.{be_octets, IsNumber}
+use Rattle.sequences.specs.Octets.{be_octets, IsNumberIn}
 use Rattle.sequences.proofs.OctetLaws.{length-be_octets, be_value-be_octets}
 use Rattle.ipfix_template.specs.declared.field.FieldSpec.{FieldSpec}
 use Rattle.ipfix_template.specs.declared.template.Template.{Template}
@@ -26,7 +26,7 @@ use Rattle.stream_meaning.proofs.Tables.{Table, defining, IsAnnounceable, AreBro
 
 -- ---- numbers
 
-number : (width n : ℕ) → n < 256 ^ width → IsNumber width (be_octets width n) n
+number : (width n : ℕ) → n < 256 ^ width → IsNumberIn width (be_octets width n) n
 number width n fits = record { wide = length-be_octets width n; value = be_value-be_octets width n fits }
 
 -- ---- templates
@@ -98,7 +98,7 @@ template_is : (id : ℕ) (shape : Template) → IsAnnounceable id shape → IsTe
 template_is id shape may =
     let some : 0 < length shape.fields = some_fields shape.fields (shortest_some shape may.accepted) in
     let none = ne_eqb (length shape.fields) 0 (λ e. omega (arith, e, some)) in
-    let count : IsNumber 2 (be_octets 2 (length shape.fields)) (length shape.fields) = number 2 (length shape.fields) (omega (arith, may.writable.count_fits)) in (
+    let count : IsNumberIn 2 (be_octets 2 (length shape.fields)) (length shape.fields) = number 2 (length shape.fields) (omega (arith, may.writable.count_fits)) in (
       be_octets 2 id,
       be_octets 2 (length shape.fields),
       body_text (is_options shape) shape,
@@ -140,7 +140,7 @@ set_by : (s : Set) (place : ℕ) (item : Item) → set_id s < 65536 → length (
 unfolding set_head
 set_by s place item id few content =
     let len = length-set_text s in
-    let short : IsNumber 2 (be_octets 2 (4 + length (set_content s))) (length (set_text s)) = record { wide = length-be_octets 2 (4 + length (set_content s)); value = be_value-be_octets 2 (4 + length (set_content s)) (omega (arith, len, few)) ∙ sym len } in (
+    let short : IsNumberIn 2 (be_octets 2 (4 + length (set_content s))) (length (set_text s)) = record { wide = length-be_octets 2 (4 + length (set_content s)); value = be_value-be_octets 2 (4 + length (set_content s)) (omega (arith, len, few)) ∙ sym len } in (
       be_octets 2 (set_id s),
       be_octets 2 (4 + length (set_content s)),
       set_content s,
@@ -193,7 +193,7 @@ unfolding message body
 message_is now handed table ps time all few =
     let len = length-message now handed ps in
     let size = 16 + length (body ps) in
-    let whole : IsNumber 2 (be_octets 2 size) (length (message now handed ps)) = record { wide = length-be_octets 2 size; value = be_value-be_octets 2 size (omega (arith, len, few)) ∙ sym len } in (
+    let whole : IsNumberIn 2 (be_octets 2 size) (length (message now handed ps)) = record { wide = length-be_octets 2 size; value = be_value-be_octets 2 size (omega (arith, len, few)) ∙ sym len } in (
       head size now handed,
       texts (sets_of ps),
       length (sets_of ps),

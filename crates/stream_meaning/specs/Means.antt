@@ -15,14 +15,14 @@ plain_meaning now handed records = record {
 }
 
 -- each message is read so, after older messages (newest first) of so many records; together they bring these
-abbrev pub AreRead : ℕ → List (List ℕ) → List (List ℕ) → List DataRecord → Type 0
-AreRead handed older [] records = records ≡ []
-AreRead handed older (message ∷ messages) records =
+abbrev pub AreReadAs : ℕ → List (List ℕ) → List (List ℕ) → List DataRecord → Type 0
+AreReadAs handed older [] records = records ≡ []
+AreReadAs handed older (message ∷ messages) records =
     (now : ℕ) × (first others : List DataRecord) × (records ≡ first ++ others)
     × (meaning_of older message ≡ Ok (plain_meaning now handed first))
-    × AreRead (handed + length first) (message ∷ older) messages others
+    × AreReadAs (handed + length first) (message ∷ older) messages others
 
 -- messages that are all of a session bring exactly these records, in domain 0
 pub record Means (messages : List (List ℕ)) (list : List DataRecord) : Type 0 where
   pub records : records_of messages ≡ Ok (map (with_domain 0) list)
-  pub each : AreRead 0 [] messages list
+  pub each : AreReadAs 0 [] messages list

@@ -2,7 +2,7 @@
 //!
 //! Their premises are what the callers of a stream hold. Each record is one that a `Record` can be: it is
 //! sound, and the numbers of its template fit the octets that they are written in (`see_records` tells it
-//! of any records that there are). The distinct templates are at most the 65,280 that a stream's `Limits` allow.
+//! of any records that there are). The distinct templates are at most the 65,280 that `StreamLimits` allow.
 //! An Export Time is a `u32`, and a target a `u16`.
 ghost use Rattle.std.specs.Prelude.{◌≡◌, ◌≤◌, ◌<◌, ◌^◌, ◌++◌, ◌∷◌, [], ℕ, List, length, take, Option, None};
 ghost use Rattle.std.specs.List.{AllByRecursion};
@@ -10,10 +10,10 @@ ghost use Rattle.sequences.specs.Before.{each_with_before};
 ghost use Rattle.ipfix_template.specs.DataRecord.{DataRecord};
 ghost use Rattle.subscriber_stream.specs.Parts.{parts, records_in};
 ghost use Rattle.subscriber_stream.specs.Message.{built, place_after};
-ghost use Rattle.subscriber_stream.specs.declared.limits.Limits.{Limits};
+ghost use Rattle.subscriber_stream.specs.declared.limits.StreamLimits.{StreamLimits};
 ghost use Rattle.subscriber_stream.specs.declared.limits.TheConstants.{MOST_SHAPES};
-ghost use Rattle.subscriber_stream.specs.Standing.{Standing, StandsAt, FitsLimits};
-ghost use Rattle.subscriber_stream.specs.Calls.{Call, Serves, pulls_of};
+ghost use Rattle.subscriber_stream.specs.Standing.{StreamStanding, StandsAt, FitsLimits};
+ghost use Rattle.subscriber_stream.specs.Calls.{Call, ServesCalls, pulls_of};
 ghost use Rattle.stream_meaning.specs.Served.{IsStreamable, AreStreamable, AreInRange, records_given, messages_in, messages_got, pull_at, place_reached, pulls};
 ghost use Rattle.stream_meaning.specs.Means.{Means};
 ghost use Rattle.stream_meaning.specs.HandedOut.{AreHandedOut};
@@ -48,7 +48,7 @@ pub fn pulls_see_what_was_given()
 /// Where a stream stands at a place of the parts of a list, the records before that place are the first of
 /// the list, as many as `Stream::handed` counts.
 pub fn the_first_are_handed_out()
-    ensures { (s : Standing) (records : List DataRecord) (p : ℕ) → StandsAt s records p
+    ensures { (s : StreamStanding) (records : List DataRecord) (p : ℕ) → StandsAt s records p
         → records_in (take p (parts records)) ≡ take s.handed records }
 {}
 
@@ -56,8 +56,8 @@ pub fn the_first_are_handed_out()
 /// contracts of `Stream::push_reserved` and `Stream::pull`: its messages bring exactly the records
 /// that were handed out.
 pub fn answers_mean_the_list()
-    ensures { (s : Standing) (calls : List Call) (answers : List (Option (List ℕ)))
-        → StandsAt s [] 0 → Serves s calls answers
+    ensures { (s : StreamStanding) (calls : List Call) (answers : List (Option (List ℕ)))
+        → StandsAt s [] 0 → ServesCalls s calls answers
         → AreStreamable (records_given calls) → AreInRange calls
         → Means (messages_in answers)
         (records_in (take (place_reached calls) (parts (records_given calls)))) }
@@ -75,7 +75,7 @@ pub fn holders_keep()
     // What is given, or pulled, leaves both true.
     ensures given { (messages : List (List ℕ)) (records more : List DataRecord) (p : ℕ)
         → AreHandedOut messages records p → AreHandedOut messages (records ++ more) p }
-    ensures streamable_more { (limits : Limits) (records more : List DataRecord) (p : ℕ)
+    ensures streamable_more { (limits : StreamLimits) (records more : List DataRecord) (p : ℕ)
         → AreStreamable records → AllByRecursion IsStreamable more
         → FitsLimits limits records p more → limits.shapes ≤ MOST_SHAPES
         → AreStreamable (records ++ more) }

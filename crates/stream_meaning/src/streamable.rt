@@ -2,7 +2,7 @@
 ghost use Rattle.std.specs.Prelude.{◌≡◌, ◌≤◌, length};
 ghost use Rattle.std.specs.List.{AllByRecursion};
 ghost use Rattle.ipfix_octets.specs.MessageFormat.{least_template_id};
-ghost use Rattle.ipfix_template.specs.Template.{is_options, IsAccepted, IsSpecifier, IsWritable};
+ghost use Rattle.ipfix_template.specs.Template.{is_options, IsAcceptable, IsSpecifier, IsWritable};
 ghost use Rattle.ipfix_records.specs.Runs.{records_of};
 ghost use Rattle.stream_meaning.specs.Served.{IsStreamable};
 
@@ -30,10 +30,10 @@ pub fn see_run(run: &Run)
 }
 
 fn see_template(template: &Template)
-    requires { IsAccepted template.now }
+    requires { IsAcceptable template.now }
     ensures { IsWritable least_template_id (is_options template.now) template.now }
 {
-    let _scope = template.scope;
+    let _for_proof = template.scope;
     see_fields(template.fields.as_slice());
 }
 
@@ -48,7 +48,7 @@ fn see_fields(fields: &[FieldSpec])
 fn see_field(field: &FieldSpec)
     ensures { IsSpecifier field.now }
 {
-    let _length = field.length;
-    let _pen = field.element.pen();
-    let _number = field.element.number();
+    let _for_proof = field.length;
+    let _for_proof = field.element.pen();
+    let _for_proof = field.element.number();
 }

@@ -9,7 +9,7 @@ use Rattle.ipfix_template.specs.Template.{is_options, template_record}
 use Rattle.ipfix_template.specs.Values.{record_text}
 use Rattle.ipfix_template.proofs.Encoding.{length-template_record}
 use Rattle.subscriber_stream.specs.Message.{Set, Announces, Brings, with_record, sets_of, template_set, set_head, set_text, body}
-use Rattle.subscriber_stream.specs.Items.{Item, Announced, Brought, shape_at, parts_of, IsEntry, AreKept, joins, total, run, pieces}
+use Rattle.subscriber_stream.specs.Items.{Item, Announced, Brought, shape_at, parts_of, IsEntry, AreItemsKept, joins, total, run, pieces}
 
 -- the octets of a record in a Data Set
 abbrev pub spelled : DataRecord → List ℕ
@@ -94,7 +94,7 @@ pub spelled-kept : (shapes : List Template) (id : ℕ) (octets : List ℕ) → I
 spelled-kept shapes id octets is = sym is.kept.shortest
 
 -- the records that join a set are its content
-pub run_content : (shapes : List Template) (id : ℕ) (ws : List Item) → AreKept shapes ws → run id ws ≡ content_after id (sets_of (parts_of shapes ws))
+pub run_content : (shapes : List Template) (id : ℕ) (ws : List Item) → AreItemsKept shapes ws → run id ws ≡ content_after id (sets_of (parts_of shapes ws))
 run_content shapes id [] kept = refl
 run_content shapes id (Announced other octets ∷ ws) kept = refl
 run_content shapes id (Brought other octets ∷ ws) kept =
@@ -119,7 +119,7 @@ joined_text (Some other) id r sets is =
     ap (λ (n : ℕ). text_after (Some n) (with_record id r sets)) (eqb-true other id is) ∙ with_open id r sets
 
 -- the sets of parts are what the parts write
-pub texts_pieces : (shapes : List Template) (last : Option ℕ) (ws : List Item) → AreKept shapes ws → text_after last (sets_of (parts_of shapes ws)) ≡ pieces shapes last ws
+pub texts_pieces : (shapes : List Template) (last : Option ℕ) (ws : List Item) → AreItemsKept shapes ws → text_after last (sets_of (parts_of shapes ws)) ≡ pieces shapes last ws
 texts_pieces shapes None [] kept = refl
 texts_pieces shapes (Some id) [] kept = refl
 texts_pieces shapes last (Announced id octets ∷ ws) kept =
@@ -150,7 +150,7 @@ unfolding set_head
 length-set_head id octets = refl
 
 -- and their octets are the costs
-pub length-pieces : (shapes : List Template) (last : Option ℕ) (ws : List Item) → AreKept shapes ws → length (pieces shapes last ws) ≡ total last ws
+pub length-pieces : (shapes : List Template) (last : Option ℕ) (ws : List Item) → AreItemsKept shapes ws → length (pieces shapes last ws) ≡ total last ws
 length-pieces shapes last [] kept = refl
 length-pieces shapes last (Announced id octets ∷ ws) kept =
     let shape = shape_at shapes id in
@@ -167,6 +167,6 @@ length-pieces shapes last (Brought id octets ∷ ws) kept =
           let head = length-set_head id (length octets + run id ws) in
           omega (arith, length-append (set_head id (length octets + run id ws) ++ octets) (pieces shapes (Some id) ws), length-append (set_head id (length octets + run id ws)) octets, others, head)
 
-pub body_pieces : (shapes : List Template) (ws : List Item) → AreKept shapes ws → body (parts_of shapes ws) ≡ pieces shapes None ws
+pub body_pieces : (shapes : List Template) (ws : List Item) → AreItemsKept shapes ws → body (parts_of shapes ws) ≡ pieces shapes None ws
 unfolding body
 body_pieces shapes ws kept = texts_pieces shapes None ws kept

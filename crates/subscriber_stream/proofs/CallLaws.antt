@@ -11,12 +11,12 @@ use Rattle.ipfix_template.specs.SameTemplate.{same_template-is, same_template-it
 use Rattle.subscriber_stream.specs.Shapes.{shapes_of}
 use Rattle.subscriber_stream.specs.Parts.{Part, parts, parts_at, records_in}
 use Rattle.subscriber_stream.specs.Message.{message, last_passing, is_within, run_length, built, place_after}
-use Rattle.subscriber_stream.specs.Standing.{Standing, StandsAt}
-use Rattle.subscriber_stream.specs.Calls.{Call, Given, Pulled, Serves, pulls_of, octets_from}
+use Rattle.subscriber_stream.specs.Standing.{StreamStanding, StandsAt}
+use Rattle.subscriber_stream.specs.Calls.{Call, Given, Pulled, ServesCalls, pulls_of, octets_from}
 use Rattle.subscriber_stream.proofs.Messages.{length-message}
 use Rattle.subscriber_stream.proofs.Standings.{records_in-append, records_in-parts_for}
 
-pub served : (s : Standing) (records : List DataRecord) (p : ℕ) (calls : List Call) (answers : List (Option (List ℕ))) → StandsAt s records p → Serves s calls answers → answers ≡ octets_from p (pulls_of records calls)
+pub served : (s : StreamStanding) (records : List DataRecord) (p : ℕ) (calls : List Call) (answers : List (Option (List ℕ))) → StandsAt s records p → ServesCalls s calls answers → answers ≡ octets_from p (pulls_of records calls)
 served s records p [] answers at serves = serves
 served s records p (Given more ∷ calls) answers at serves =
     served serves.0 (records ++ more) p calls answers (serves.1.stands records p at) serves.2

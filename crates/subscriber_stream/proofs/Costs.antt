@@ -3,7 +3,7 @@ use Rattle.std.proofs.Common.{◌≡◌, ℕ, suc, ◌+◌, ◌<◌, ◌≤◌, 
 use Rattle.std.proofs.lemmas.List.{take-append-le, drop-drop, drop_at, take_all}
 use Rattle.subscriber_stream.specs.declared.waiting.Waiting.{Waiting}
 use Rattle.subscriber_stream.specs.Items.{Item, cost, data_set, last_after, total, fits}
-use Rattle.subscriber_stream.specs.Waiting.{items_of, items_in, IsFilled, set_after}
+use Rattle.subscriber_stream.specs.Waiting.{items_of, items_in, IsFilledRun, set_after}
 use Rattle.subscriber_stream.proofs.Queues.{items_from, set_is_last}
 use Rattle.ipfix_octets.specs.MessageFormat.{longest_message}
 
@@ -113,7 +113,7 @@ IsRun-over target queue place parts octets last w more whole run next over =
       within = few_with target queue place parts octets last w more whole run next;
     }
 
-pub IsRun-more : (target : ℕ) (queue : List Waiting) (place parts octets : ℕ) (last : Option ℕ) (w : Waiting) (more whole : ℕ) → IsRun target queue place parts octets last → IsNext target queue place octets last w more whole → IsFilled w → length (items_of w) ≤ more → IsRun target queue (place + 1) (parts + more) whole (set_after w)
+pub IsRun-more : (target : ℕ) (queue : List Waiting) (place parts octets : ℕ) (last : Option ℕ) (w : Waiting) (more whole : ℕ) → IsRun target queue place parts octets last → IsNext target queue place octets last w more whole → IsFilledRun w → length (items_of w) ≤ more → IsRun target queue (place + 1) (parts + more) whole (set_after w)
 IsRun-more target queue place parts octets last w more whole run next filled all =
     let rest = items_in (drop (place + 1) queue) in
     let from : items_in (drop place queue) ≡ items_of w ++ rest = items_from queue place w next.within next.there in

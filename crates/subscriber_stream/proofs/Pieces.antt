@@ -3,7 +3,7 @@ use Rattle.std.proofs.Common.{◌≡◌, ℕ, zero, suc, ◌≤◌, Bool, true, 
 use Rattle.std.proofs.lemmas.Bool.{le-ltb, eqb-true}
 use Rattle.ipfix_template.specs.declared.template.Template.{Template}
 use Rattle.ipfix_template.specs.Template.{refusal_of}
-use Rattle.subscriber_stream.specs.Items.{Item, Announced, Brought, AreKept, total, run}
+use Rattle.subscriber_stream.specs.Items.{Item, Announced, Brought, AreItemsKept, total, run}
 
 -- an ID of 256 or more is as good as 256
 pub accepted_under : (id : ℕ) (options : Bool) (t : Template) → 256 ≤ id → refusal_of 256 options t ≡ None → refusal_of id options t ≡ None
@@ -22,11 +22,11 @@ run-total id (Brought other octets ∷ ws) = by_test (nat_eq id other) refl (run
   by_test false is le = rw is (omega arith)
 
 -- the first of them, and the others
-pub kept_take : (shapes : List Template) (n : ℕ) (ws : List Item) → AreKept shapes ws → AreKept shapes (take n ws)
+pub kept_take : (shapes : List Template) (n : ℕ) (ws : List Item) → AreItemsKept shapes ws → AreItemsKept shapes (take n ws)
 kept_take shapes zero ws all = tt
 kept_take shapes (suc n) [] all = tt
 kept_take shapes (suc n) (w ∷ ws) all = (all.0, kept_take shapes n ws all.1)
 
-pub kept_append : (shapes : List Template) (vs ws : List Item) → AreKept shapes vs → AreKept shapes ws → AreKept shapes (vs ++ ws)
+pub kept_append : (shapes : List Template) (vs ws : List Item) → AreItemsKept shapes vs → AreItemsKept shapes ws → AreItemsKept shapes (vs ++ ws)
 kept_append shapes [] ws first second = second
 kept_append shapes (v ∷ vs) ws first second = (first.0, kept_append shapes vs ws first.1 second)

@@ -4,36 +4,36 @@ use Rattle.std.proofs.lemmas.List.{length-map, take-map}
 use Rattle.ipfix_template.specs.declared.template.Template.{Template}
 use Rattle.subscriber_stream.specs.Parts.{Part, records_in}
 use Rattle.subscriber_stream.specs.Message.{message, run_length, next_message}
-use Rattle.subscriber_stream.specs.Items.{Item, Announced, Brought, part_of, parts_of, AreKept, AreFollowed, announcements, entries, total, fits}
-use Rattle.subscriber_stream.specs.declared.limits.Limits.{Limits}
+use Rattle.subscriber_stream.specs.Items.{Item, Announced, Brought, part_of, parts_of, AreItemsKept, AreFollowed, announcements, entries, total, fits}
+use Rattle.subscriber_stream.specs.declared.limits.StreamLimits.{StreamLimits}
 use Rattle.subscriber_stream.specs.declared.waiting.Waiting.{Waiting}
 use Rattle.subscriber_stream.specs.Table.{Table}
 use Rattle.subscriber_stream.specs.Waiting.{items_of, items_in, AreFilled}
-use Rattle.subscriber_stream.specs.Steps.{Counts, IsConsistent}
-use Rattle.subscriber_stream.specs.Standing.{Kept}
+use Rattle.subscriber_stream.specs.Steps.{StreamCounts, IsConsistent}
+use Rattle.subscriber_stream.specs.Standing.{KeptStream}
 use Rattle.subscriber_stream.proofs.Messages.{run_length-waiting}
 use Rattle.subscriber_stream.proofs.Standings.{next_some, queued_entries}
 use Rattle.subscriber_stream.specs.Items.{longest_body}
 use Rattle.subscriber_stream.specs.declared.limits.TheConstants.{MOST_SHAPES}
 
 -- a stream whose queue this is, the number of records handed out, and how many parts its next message takes
-pub record Pulls (k : Kept) (shapes : List Template) (ws : List Item) (handed target n : ℕ) : Type 0 where
+pub record Pulls (k : KeptStream) (shapes : List Template) (ws : List Item) (handed target n : ℕ) : Type 0 where
   pub waiting : k.standing.waiting ≡ parts_of shapes ws
   pub handed_is : k.standing.handed ≡ handed
-  pub kept : AreKept shapes ws
+  pub kept : AreItemsKept shapes ws
   pub some : 0 < length ws
   pub parts : n ≡ max 1 (fits target None 16 ws)
   pub within : n ≤ length ws
 
-pub run_is : (k : Kept) (shapes : List Template) (ws : List Item) (handed target n : ℕ) → Pulls k shapes ws handed target n → n ≡ run_length target k.standing.waiting
+pub run_is : (k : KeptStream) (shapes : List Template) (ws : List Item) (handed target n : ℕ) → Pulls k shapes ws handed target n → n ≡ run_length target k.standing.waiting
 run_is k shapes ws handed target n is =
     is.parts ∙ sym (run_length-waiting shapes target ws is.kept) ∙ ap (run_length target) (sym is.waiting)
 
-pub within_is : (k : Kept) (shapes : List Template) (ws : List Item) (handed target n : ℕ) → Pulls k shapes ws handed target n → n ≤ length k.standing.waiting
+pub within_is : (k : KeptStream) (shapes : List Template) (ws : List Item) (handed target n : ℕ) → Pulls k shapes ws handed target n → n ≤ length k.standing.waiting
 within_is k shapes ws handed target n is =
     omega (arith, is.within, length-map ws (part_of shapes), ap length is.waiting)
 
-pub message_is_next : (k : Kept) (shapes : List Template) (ws : List Item) (handed now target n : ℕ) (m : List ℕ) → Pulls k shapes ws handed target n → m ≡ message now handed (parts_of shapes (take n ws)) → Some m ≡ next_message now target k.standing.handed k.standing.waiting
+pub message_is_next : (k : KeptStream) (shapes : List Template) (ws : List Item) (handed now target n : ℕ) (m : List ℕ) → Pulls k shapes ws handed target n → m ≡ message now handed (parts_of shapes (take n ws)) → Some m ≡ next_message now target k.standing.handed k.standing.waiting
 message_is_next k shapes ws handed now target n m is m_is =
     let some : 0 < length (parts_of shapes ws) = omega (arith, length-map ws (part_of shapes), is.some) in
     let run : n ≡ run_length target (parts_of shapes ws) = is.parts ∙ sym (run_length-waiting shapes target ws is.kept) in
@@ -60,12 +60,12 @@ length_items [] = refl
 length_items (Announced id octets ∷ ws) = omega (arith, length_items ws)
 length_items (Brought id octets ∷ ws) = omega (arith, length_items ws)
 
-pub few_wait : (table : Table) (queue : List Waiting) (capacity : ℕ) (limits : Limits) (counts : Counts) (spare : ℕ) → IsConsistent table queue capacity limits counts spare → length (items_in queue) ≤ limits.queue + MOST_SHAPES
+pub few_wait : (table : Table) (queue : List Waiting) (capacity : ℕ) (limits : StreamLimits) (counts : StreamCounts) (spare : ℕ) → IsConsistent table queue capacity limits counts spare → length (items_in queue) ≤ limits.queue + MOST_SHAPES
 few_wait table queue capacity limits counts spare is =
     omega (arith, length_items (items_in queue), is.counted, is.few_waiting, is.announced_before, is.few_shapes, is.few_ids)
 
 -- one part alone fits a message
-pub first_small : (shapes : List Template) (ws : List Item) → AreKept shapes ws → total None (take 1 ws) ≤ longest_body
+pub first_small : (shapes : List Template) (ws : List Item) → AreItemsKept shapes ws → total None (take 1 ws) ≤ longest_body
 first_small shapes [] kept = omega arith
 first_small shapes (Announced id octets ∷ ws) kept = omega (arith, kept.0.few)
 first_small shapes (Brought id octets ∷ ws) kept = omega (arith, kept.0.few)

@@ -8,19 +8,19 @@ use Rattle.std.proofs.Math.ListN.{get_or-append}
 use Rattle.std.proofs.Math.Seq.{get_or-append_seam}
 use Rattle.ipfix_template.specs.declared.template.Template.{Template}
 use Rattle.ipfix_template.specs.DataRecord.{IsKept as IsKeptOf, kept_record}
-use Rattle.ipfix_template.specs.Template.{IsAccepted, is_options, template_record}
+use Rattle.ipfix_template.specs.Template.{IsAcceptable, is_options, template_record}
 use Rattle.ipfix_template.specs.Equality.{same_template}
 use Rattle.ipfix_template.specs.SameTemplate.{same_template-is, same_template-itself}
 use Rattle.ipfix_records.specs.Runs.{RunOf, records_of}
-use Rattle.subscriber_stream.specs.declared.limits.Limits.{Limits}
+use Rattle.subscriber_stream.specs.declared.limits.StreamLimits.{StreamLimits}
 use Rattle.subscriber_stream.specs.declared.waiting.Waiting.{Waiting}
 use Rattle.subscriber_stream.specs.Shapes.{is_among, with_shape, id_of}
 use Rattle.subscriber_stream.specs.Parts.{Part, Announcement, Entry}
 use Rattle.subscriber_stream.specs.Table.{Table}
-use Rattle.subscriber_stream.specs.Items.{Item, Announced, Brought, shape_at, part_of, parts_of, AreKept, AreFollowed, announcements, entries}
+use Rattle.subscriber_stream.specs.Items.{Item, Announced, Brought, shape_at, part_of, parts_of, AreItemsKept, AreFollowed, announcements, entries}
 use Rattle.subscriber_stream.specs.Waiting.{items_in, AreFilled, new_waiting}
-use Rattle.subscriber_stream.specs.Standing.{Kept}
-use Rattle.subscriber_stream.specs.Steps.{given_one, given, Counts, IsConsistent}
+use Rattle.subscriber_stream.specs.Standing.{KeptStream}
+use Rattle.subscriber_stream.specs.Steps.{given_one, after_given, StreamCounts, IsConsistent}
 use Rattle.subscriber_stream.proofs.Pieces.{kept_append}
 use Rattle.subscriber_stream.proofs.RunLaws.{brings}
 use Rattle.subscriber_stream.proofs.Queues.{items_in-append, filled_append}
@@ -87,12 +87,12 @@ placed shapes shape false is =
 same_shape_at : (shapes grown : List Template) (id : ℕ) → ((i : ℕ) (d : Template) → i < length shapes → get_or grown i d ≡ get_or shapes i d) → 256 ≤ id → id < 256 + length shapes → shape_at shapes id ≡ shape_at grown id
 same_shape_at shapes grown id before low known = sym (before (id - 256) (record { fields = []; scope = 0 }) (omega arith))
 
-kept_grown : (shapes grown : List Template) (ws : List Item) → length shapes ≤ length grown → ((i : ℕ) (d : Template) → i < length shapes → get_or grown i d ≡ get_or shapes i d) → AreKept shapes ws → AreKept grown ws × (parts_of shapes ws ≡ parts_of grown ws)
+kept_grown : (shapes grown : List Template) (ws : List Item) → length shapes ≤ length grown → ((i : ℕ) (d : Template) → i < length shapes → get_or grown i d ≡ get_or shapes i d) → AreItemsKept shapes ws → AreItemsKept grown ws × (parts_of shapes ws ≡ parts_of grown ws)
 kept_grown shapes grown [] longer before kept = (tt, refl)
 kept_grown shapes grown (Announced id octets ∷ ws) longer before kept =
     let others = kept_grown shapes grown ws longer before kept.1 in
     let same = same_shape_at shapes grown id before kept.0.low kept.0.known in
-    let A : Template → Type 0 = λ t. IsAccepted t in
+    let A : Template → Type 0 = λ t. IsAcceptable t in
     let C : Template → Type 0 = λ t. octets ≡ length (template_record 256 (is_options t) t) in (
       (record { low = kept.0.low; known = omega (arith, kept.0.known); accepted = subst A same kept.0.accepted; counted = subst C same kept.0.counted; few = kept.0.few }, others.0),
       ap (λ (t : Template). Announcement id t ∷ parts_of shapes ws) same ∙ ap (λ (ps : List Part). Announcement id (shape_at grown id) ∷ ps) others.1,
@@ -145,7 +145,7 @@ abbrev pub IsAnnounced : Template → ℕ → Type 0
 IsAnnounced t announced = announced ≡ length (template_record 256 (is_options t) t)
 
 -- the texts are kept under an ID of their template
-kept_brings : (grown : List Template) (id : ℕ) (texts : List (List ℕ)) → 256 ≤ id → id < 256 + length grown → AllByRecursion (IsKeptOf (shape_at grown id)) texts → AreKept grown (brings id texts)
+kept_brings : (grown : List Template) (id : ℕ) (texts : List (List ℕ)) → 256 ≤ id → id < 256 + length grown → AllByRecursion (IsKeptOf (shape_at grown id)) texts → AreItemsKept grown (brings id texts)
 kept_brings grown id [] low known kept = tt
 kept_brings grown id (text ∷ texts) low known kept = (
   record { low = low; known = known; kept = kept.0; few = omega (arith, kept.0.sound.record_fits, ap length kept.0.shortest) },
@@ -164,12 +164,12 @@ shown_brings grown id [] = refl
 shown_brings grown id (text ∷ texts) = ap (λ (ps : List Part). entry_of id (shape_at grown id) text ∷ ps) (shown_brings grown id texts)
 
 record IsPut (shapes : List Template) (t : Template) (texts : List (List ℕ)) (grown : List Template) (items : List Item) : Type 0 where
-  kept : AreKept grown items
+  kept : AreItemsKept grown items
   shown : parts_of grown items ≡ run_parts shapes t texts
   entries_are : entries items ≡ length texts
   counted : length shapes + announcements items ≡ length grown
 
-put_by : (shapes : List Template) (t : Template) (texts : List (List ℕ)) (announced : ℕ) (b : Bool) → is_among t shapes ≡ b → IsAccepted t → announced ≤ longest_body - set_header_octets → AllByRecursion (IsKeptOf t) texts → IsAnnounced t announced
+put_by : (shapes : List Template) (t : Template) (texts : List (List ℕ)) (announced : ℕ) (b : Bool) → is_among t shapes ≡ b → IsAcceptable t → announced ≤ longest_body - set_header_octets → AllByRecursion (IsKeptOf t) texts → IsAnnounced t announced
     → IsPut shapes t texts (cond b shapes (shapes ++ t ∷ [])) (new_items (256 + position_or_len (same_template t) shapes) (cond b None (Some announced)) texts)
 put_by shapes t texts announced true is accepted few kept announces =
     let id = 256 + position_or_len (same_template t) shapes in
@@ -186,7 +186,7 @@ put_by shapes t texts announced false is accepted few kept announces =
     let grown = shapes ++ t ∷ [] in
     let at = placed shapes t false is in
     let K : Template → Type 0 = λ u. AllByRecursion (IsKeptOf u) texts in
-    let A : Template → Type 0 = λ u. IsAccepted u in
+    let A : Template → Type 0 = λ u. IsAcceptable u in
     let C : Template → Type 0 = λ u. announced ≡ length (template_record 256 (is_options u) u) in
     record {
       kept = (
@@ -215,8 +215,8 @@ followed_append (Announced id octets ∷ vs) ws first second =
 followed_append (Brought id octets ∷ vs) ws first second = followed_append vs ws first second
 
 -- the table and the queue before and after, and what the run asks for
-pub record Takes (table grown : Table) (limits : Limits) (waiting handed spare : ℕ) (t : Template) (texts : List (List ℕ)) (announced : ℕ) : Type 0 where
-  pub accepted : IsAccepted t
+pub record Takes (table grown : Table) (limits : StreamLimits) (waiting handed spare : ℕ) (t : Template) (texts : List (List ℕ)) (announced : ℕ) : Type 0 where
+  pub accepted : IsAcceptable t
   pub announces : IsAnnounced t announced
   pub announced_few : announced ≤ longest_body - set_header_octets
   pub kept : AllByRecursion (IsKeptOf t) texts
@@ -232,7 +232,7 @@ pub record Takes (table grown : Table) (limits : Limits) (waiting handed spare :
 abbrev pub new_run : List Template → Template → List (List ℕ) → ℕ → List Waiting
 new_run shapes t texts announced = new_waiting (256 + position_or_len (same_template t) shapes) (cond (is_among t shapes) None (Some announced)) texts
 
-pub taken : (table grown : Table) (queue : List Waiting) (capacity : ℕ) (limits : Limits) (counts : Counts) (spare : ℕ) (t : Template) (texts : List (List ℕ)) (announced_octets : ℕ)
+pub taken : (table grown : Table) (queue : List Waiting) (capacity : ℕ) (limits : StreamLimits) (counts : StreamCounts) (spare : ℕ) (t : Template) (texts : List (List ℕ)) (announced_octets : ℕ)
     → IsConsistent table queue capacity limits counts spare → Takes table grown limits counts.waiting counts.handed spare t texts announced_octets
     → IsConsistent grown (queue ++ new_run table.shapes t texts announced_octets) capacity limits (record { waiting = counts.waiting + length texts; handed = counts.handed; announced = counts.announced }) (spare - length texts) × (parts_of grown.shapes (items_in (queue ++ new_run table.shapes t texts announced_octets)) ≡ parts_of table.shapes (items_in queue) ++ run_parts table.shapes t texts)
 taken table grown queue capacity limits counts spare t texts announced_octets is takes =
@@ -244,8 +244,8 @@ taken table grown queue capacity limits counts spare t texts announced_octets is
     let one = put_by table.shapes t texts announced_octets (is_among t table.shapes) refl takes.accepted takes.announced_few takes.kept takes.announces in
     let at = placed table.shapes t (is_among t table.shapes) refl in
     let old = kept_grown table.shapes (with_shape table.shapes t) (items_in queue) at.longer at.before is.kept in
-    let K : List Template → Type 0 = λ shapes. AreKept shapes (items_in (queue ++ new)) in
-    let I : List Item → Type 0 = λ ws. AreKept (with_shape table.shapes t) ws in
+    let K : List Template → Type 0 = λ shapes. AreItemsKept shapes (items_in (queue ++ new)) in
+    let I : List Item → Type 0 = λ ws. AreItemsKept (with_shape table.shapes t) ws in
     let F : List Item → Type 0 = λ ws. AreFollowed ws in
     let len : length grown.shapes ≡ length (with_shape table.shapes t) = ap length takes.shapes in (
       record {
@@ -276,7 +276,7 @@ place_holds shapes grown shape found place grown_is is at =
     sym (get_or_from_slice_get grown place found d at) ∙ ap (λ (i : ℕ). get_or grown i d) is ∙ ap (λ (ss : List Template). get_or ss first d) grown_is ∙ sym (at_place (with_shape shapes shape) first) ∙ there
 
 -- what is kept of a record says of its template
-pub template_kept : (t : Template) (texts : List (List ℕ)) → 0 < length texts → AllByRecursion (IsKeptOf t) texts → IsAccepted t × (length (template_record 256 (is_options t) t) ≤ longest_body - set_header_octets)
+pub template_kept : (t : Template) (texts : List (List ℕ)) → 0 < length texts → AllByRecursion (IsKeptOf t) texts → IsAcceptable t × (length (template_record 256 (is_options t) t) ≤ longest_body - set_header_octets)
 template_kept t [] some kept = absurd (omega arith)
 template_kept t (text ∷ texts) some kept = (kept.0.sound.accepted, omega (arith, kept.0.sound.template_fits))
 
@@ -304,24 +304,24 @@ id_same shapes t = by_test (is_among t shapes) where
   by_test true = refl
   by_test false = ap (λ (n : ℕ). 256 + n) (position_same (same_template t) t shapes (same_template-itself t))
 
-abbrev kept_with : List Template → Limits → ℕ → ℕ → ℕ → List Part → Kept
+abbrev kept_with : List Template → StreamLimits → ℕ → ℕ → ℕ → List Part → KeptStream
 kept_with shapes limits spare handed announced waiting = record { standing = record { shapes = shapes; handed = handed; announced = announced; waiting = waiting }; limits = limits; spare = spare }
 
 -- a record of a shape that is known
-one_known : (shapes : List Template) (limits : Limits) (spare handed announced : ℕ) (waiting : List Part) (t : Template) (text : List ℕ) → is_among t shapes ≡ true
+one_known : (shapes : List Template) (limits : StreamLimits) (spare handed announced : ℕ) (waiting : List Part) (t : Template) (text : List ℕ) → is_among t shapes ≡ true
     → given_one (kept_with shapes limits spare handed announced waiting) (kept_record t text) ≡ kept_with shapes limits (spare - 1) handed announced (waiting ++ entry_of (id_of t shapes) t text ∷ [])
 unfolding given_one
 one_known shapes limits spare handed announced waiting t text is = rw is refl
 
-given_known : (shapes : List Template) (limits : Limits) (spare handed announced : ℕ) (waiting : List Part) (t : Template) (texts : List (List ℕ)) → is_among t shapes ≡ true
-    → given (kept_with shapes limits spare handed announced waiting) (map (kept_record t) texts) ≡ kept_with shapes limits (spare - length texts) handed announced (waiting ++ map (entry_of (id_of t shapes) t) texts)
+given_known : (shapes : List Template) (limits : StreamLimits) (spare handed announced : ℕ) (waiting : List Part) (t : Template) (texts : List (List ℕ)) → is_among t shapes ≡ true
+    → after_given (kept_with shapes limits spare handed announced waiting) (map (kept_record t) texts) ≡ kept_with shapes limits (spare - length texts) handed announced (waiting ++ map (entry_of (id_of t shapes) t) texts)
 given_known shapes limits spare handed announced waiting t [] is =
     let none : spare ≡ spare - 0 = omega arith in
     ap (λ (n : ℕ). kept_with shapes limits n handed announced waiting) none ∙ ap (kept_with shapes limits (spare - 0) handed announced) (sym (append-nil waiting))
 given_known shapes limits spare handed announced waiting t (text ∷ texts) is =
     let e = entry_of (id_of t shapes) t text in
     let one_less : spare - 1 - length texts ≡ spare - suc (length texts) = omega arith in
-    ap (λ (k : Kept). given k (map (kept_record t) texts)) (one_known shapes limits spare handed announced waiting t text is)
+    ap (λ (k : KeptStream). after_given k (map (kept_record t) texts)) (one_known shapes limits spare handed announced waiting t text is)
     ∙ given_known shapes limits (spare - 1) handed announced (waiting ++ e ∷ []) t texts is
     ∙ ap (λ (n : ℕ). kept_with shapes limits n handed announced ((waiting ++ e ∷ []) ++ map (entry_of (id_of t shapes) t) texts)) one_less
     ∙ ap (kept_with shapes limits (spare - suc (length texts)) handed announced) (append_assoc waiting (e ∷ []) (map (entry_of (id_of t shapes) t) texts))
@@ -331,29 +331,29 @@ with_first : (waiting : List Part) (id : ℕ) (t : Template) (text : List ℕ) (
 with_first waiting id t text es true = append_assoc waiting (entry_of id t text ∷ []) es
 with_first waiting id t text es false = append_assoc waiting (Announcement id t ∷ entry_of id t text ∷ []) es
 
-first_given : (shapes : List Template) (limits : Limits) (spare handed announced : ℕ) (waiting : List Part) (t : Template) (text : List ℕ)
+first_given : (shapes : List Template) (limits : StreamLimits) (spare handed announced : ℕ) (waiting : List Part) (t : Template) (text : List ℕ)
     → given_one (kept_with shapes limits spare handed announced waiting) (kept_record t text) ≡ kept_with (with_shape shapes t) limits (spare - 1) handed announced (waiting ++ cond (is_among t shapes) (entry_of (id_of t shapes) t text ∷ []) (Announcement (id_of t shapes) t ∷ entry_of (id_of t shapes) t text ∷ []))
 unfolding given_one
 first_given shapes limits spare handed announced waiting t text = refl
 
-pub given_run : (shapes : List Template) (limits : Limits) (spare handed announced : ℕ) (waiting : List Part) (t : Template) (texts : List (List ℕ)) → 0 < length texts
-    → given (kept_with shapes limits spare handed announced waiting) (map (kept_record t) texts) ≡ kept_with (with_shape shapes t) limits (spare - length texts) handed announced (waiting ++ run_parts shapes t texts)
+pub given_run : (shapes : List Template) (limits : StreamLimits) (spare handed announced : ℕ) (waiting : List Part) (t : Template) (texts : List (List ℕ)) → 0 < length texts
+    → after_given (kept_with shapes limits spare handed announced waiting) (map (kept_record t) texts) ≡ kept_with (with_shape shapes t) limits (spare - length texts) handed announced (waiting ++ run_parts shapes t texts)
 given_run shapes limits spare handed announced waiting t [] some = absurd (omega arith)
 given_run shapes limits spare handed announced waiting t (text ∷ texts) some =
     let id = id_of t shapes in
     let first = waiting ++ cond (is_among t shapes) (entry_of id t text ∷ []) (Announcement id t ∷ entry_of id t text ∷ []) in
     let one_less : spare - 1 - length texts ≡ spare - suc (length texts) = omega arith in
-    ap (λ (k : Kept). given k (map (kept_record t) texts)) (first_given shapes limits spare handed announced waiting t text)
+    ap (λ (k : KeptStream). after_given k (map (kept_record t) texts)) (first_given shapes limits spare handed announced waiting t text)
     ∙ given_known (with_shape shapes t) limits (spare - 1) handed announced first t texts (is_among-itself shapes t)
     ∙ ap (λ (n : ℕ). kept_with (with_shape shapes t) limits n handed announced (first ++ map (entry_of (id_of t (with_shape shapes t)) t) texts)) one_less
     ∙ ap (λ (n : ℕ). kept_with (with_shape shapes t) limits (spare - suc (length texts)) handed announced (first ++ map (entry_of n t) texts)) (id_same shapes t)
     ∙ ap (kept_with (with_shape shapes t) limits (spare - suc (length texts)) handed announced) (with_first waiting id t text (map (entry_of id t) texts) (is_among t shapes))
 
 -- what a stream keeps after it
-pub given_run-view : (k : Kept) (run : RunOf) (shapes : List Template) (limits : Limits) (spare handed announced : ℕ) (waiting after : List Part) (grown : List Template) → k ≡ kept_with shapes limits spare handed announced waiting → 0 < length run.texts → grown ≡ with_shape shapes run.template → after ≡ waiting ++ run_parts shapes run.template run.texts
-    → kept_with grown limits (spare - length run.texts) handed announced after ≡ given k (records_of run)
+pub given_run-view : (k : KeptStream) (run : RunOf) (shapes : List Template) (limits : StreamLimits) (spare handed announced : ℕ) (waiting after : List Part) (grown : List Template) → k ≡ kept_with shapes limits spare handed announced waiting → 0 < length run.texts → grown ≡ with_shape shapes run.template → after ≡ waiting ++ run_parts shapes run.template run.texts
+    → kept_with grown limits (spare - length run.texts) handed announced after ≡ after_given k (records_of run)
 given_run-view k run shapes limits spare handed announced waiting after grown is some grown_is after_is =
     ap (λ (ss : List Template). kept_with ss limits (spare - length run.texts) handed announced after) grown_is
     ∙ ap (kept_with (with_shape shapes run.template) limits (spare - length run.texts) handed announced) after_is
     ∙ sym (given_run shapes limits spare handed announced waiting run.template run.texts some)
-    ∙ ap (λ (l : Kept). given l (records_of run)) (sym is)
+    ∙ ap (λ (l : KeptStream). after_given l (records_of run)) (sym is)

@@ -5,7 +5,7 @@ use Rattle.sequences.proofs.ListLaws.{drop_read}
 use Rattle.subscriber_stream.specs.declared.waiting.Waiting.{Waiting}
 use Rattle.subscriber_stream.specs.declared.waiting.Waiting.TheVariants.{Announce, Bring}
 use Rattle.subscriber_stream.specs.Items.{Item, last_after}
-use Rattle.subscriber_stream.specs.Waiting.{items_of, items_in, IsFilled, AreFilled, set_after}
+use Rattle.subscriber_stream.specs.Waiting.{items_of, items_in, IsFilledRun, AreFilled, set_after}
 use Rattle.subscriber_stream.proofs.RunLaws.{brings}
 
 pub items_in-append : (queue others : List Waiting) → items_in (queue ++ others) ≡ items_in queue ++ items_in others
@@ -20,9 +20,9 @@ items_from queue place w lt is = ap items_in (drop_read queue place w lt is)
 pub items_past : (queue : List Waiting) (place : ℕ) → length queue ≤ place → items_in (drop place queue) ≡ []
 items_past queue place le = ap items_in (drop_all place queue le)
 
-pub filled_at : (queue : List Waiting) (place : ℕ) (w : Waiting) → AreFilled queue → place < length queue → w ≡ get_or queue place w → IsFilled w
-filled_at queue place w all lt is = let P : Waiting → Type 0 = λ v. IsFilled v in subst P (sym is) (at queue place all lt) where
-  at : (queue : List Waiting) (place : ℕ) → AreFilled queue → place < length queue → IsFilled (get_or queue place w)
+pub filled_at : (queue : List Waiting) (place : ℕ) (w : Waiting) → AreFilled queue → place < length queue → w ≡ get_or queue place w → IsFilledRun w
+filled_at queue place w all lt is = let P : Waiting → Type 0 = λ v. IsFilledRun v in subst P (sym is) (at queue place all lt) where
+  at : (queue : List Waiting) (place : ℕ) → AreFilled queue → place < length queue → IsFilledRun (get_or queue place w)
   at [] place all lt = absurd (omega arith)
   at (v ∷ queue) zero all lt = all.0
   at (v ∷ queue) (suc place) all lt = at queue place all.1 (omega arith)
@@ -32,7 +32,7 @@ filled_append [] others first second = second
 filled_append (w ∷ queue) others first second = (first.0, filled_append queue others first.1 second)
 
 -- the Data Set that is the last after it
-pub set_is_last : (last : Option ℕ) (w : Waiting) → IsFilled w → last_after last (items_of w) ≡ set_after w
+pub set_is_last : (last : Option ℕ) (w : Waiting) → IsFilledRun w → last_after last (items_of w) ≡ set_after w
 set_is_last last (Announce id octets) some = refl
 set_is_last last (Bring id []) some = absurd (omega arith)
 set_is_last last (Bring id (text ∷ texts)) some = ended texts where

@@ -7,7 +7,7 @@ use Rattle.ipfix_template.specs.declared.template.Template.{Template}
 use Rattle.ipfix_template.specs.DataRecord.{DataRecord}
 use Rattle.subscriber_stream.specs.Parts.{Part, Announcement, Entry}
 use Rattle.subscriber_stream.specs.Message.{Set, Announces, Brings, with_record, sets_of}
-use Rattle.subscriber_stream.specs.LongestSets.{parts_in, IsFilled, AreApart, AreSets}
+use Rattle.subscriber_stream.specs.LongestSets.{parts_in, IsFilledSet, AreApart, AreLongestSets}
 
 -- no Data Set of the ID is the first of these sets
 abbrev BeginsOtherwise : ℕ → List Set → Type 0
@@ -31,38 +31,38 @@ begins_otherwise id records sets apart rs more e = apart [] more id records rs (
 
 -- ---- the sets of parts are such sets
 
-announced : (id : ℕ) (shape : Template) (ps : List Part) (sets : List Set) → AreSets ps sets → AreSets (Announcement id shape ∷ ps) (Announces id shape ∷ sets)
+announced : (id : ℕ) (shape : Template) (ps : List Part) (sets : List Set) → AreLongestSets ps sets → AreLongestSets (Announcement id shape ∷ ps) (Announces id shape ∷ sets)
 announced id shape ps sets h = record {
   joined = ap (λ (others : List Part). Announcement id shape ∷ others) h.joined;
   filled = (tt, h.filled);
   apart = apart_announces id shape sets h.apart;
 }
 
-alone : (id : ℕ) (r : DataRecord) (ps : List Part) (sets : List Set) → BeginsOtherwise id sets → AreSets ps sets → AreSets (Entry id r ∷ ps) (Brings id (r ∷ []) ∷ sets)
+alone : (id : ℕ) (r : DataRecord) (ps : List Part) (sets : List Set) → BeginsOtherwise id sets → AreLongestSets ps sets → AreLongestSets (Entry id r ∷ ps) (Brings id (r ∷ []) ∷ sets)
 alone id r ps sets begins h = record {
   joined = ap (λ (others : List Part). Entry id r ∷ others) h.joined;
   filled = (λ e. absurd cc, h.filled);
   apart = apart_brings id (r ∷ []) sets begins h.apart;
 }
 
-in_front : (id : ℕ) (r : DataRecord) (rs : List DataRecord) (ps : List Part) (sets : List Set) → AreSets ps (Brings id rs ∷ sets) → AreSets (Entry id r ∷ ps) (Brings id (r ∷ rs) ∷ sets)
+in_front : (id : ℕ) (r : DataRecord) (rs : List DataRecord) (ps : List Part) (sets : List Set) → AreLongestSets ps (Brings id rs ∷ sets) → AreLongestSets (Entry id r ∷ ps) (Brings id (r ∷ rs) ∷ sets)
 in_front id r rs ps sets h = record {
   joined = ap (λ (others : List Part). Entry id r ∷ others) h.joined;
   filled = (λ e. absurd cc, h.filled.1);
   apart = apart_brings id (r ∷ rs) sets (begins_otherwise id rs sets h.apart) (apart_rest (Brings id rs) sets h.apart);
 }
 
-with_one : (id : ℕ) (r : DataRecord) (ps : List Part) (sets : List Set) → AreSets ps sets → AreSets (Entry id r ∷ ps) (with_record id r sets)
+with_one : (id : ℕ) (r : DataRecord) (ps : List Part) (sets : List Set) → AreLongestSets ps sets → AreLongestSets (Entry id r ∷ ps) (with_record id r sets)
 with_one id r ps [] h = alone id r ps [] (λ rs more e. absurd cc) h
 with_one id r ps (Announces other shape ∷ sets) h = alone id r ps (Announces other shape ∷ sets) (λ rs more e. absurd cc) h
 with_one id r ps (Brings other rs ∷ sets) h = by_test (id == other) refl where
-  by_test : (same : Bool) → (id == other) ≡ same → AreSets (Entry id r ∷ ps) (cond same (Brings id (r ∷ rs) ∷ sets) (Brings id (r ∷ []) ∷ Brings other rs ∷ sets))
+  by_test : (same : Bool) → (id == other) ≡ same → AreLongestSets (Entry id r ∷ ps) (cond same (Brings id (r ∷ rs) ∷ sets) (Brings id (r ∷ []) ∷ Brings other rs ∷ sets))
   by_test true is =
-      let P : ℕ → Type 0 = λ n. AreSets ps (Brings n rs ∷ sets) in
+      let P : ℕ → Type 0 = λ n. AreLongestSets ps (Brings n rs ∷ sets) in
       in_front id r rs ps sets (subst P (sym (eqb-true id other is)) h)
   by_test false is = alone id r ps (Brings other rs ∷ sets) (λ others more e. eqb-false id other is (cc)) h
 
-found : (ps : List Part) → AreSets ps (sets_of ps)
+found : (ps : List Part) → AreLongestSets ps (sets_of ps)
 found [] = record { joined = refl; filled = tt; apart = none } where
   none : AreApart []
   none [] more id rs others e = absurd cc
@@ -82,15 +82,15 @@ one_set : (id : ℕ) (r : DataRecord) (rs : List DataRecord) (ps : List Part) (s
 one_set id r [] ps sets begins e = ap (with_record id r) e ∙ lone id r sets begins
 one_set id r (next ∷ rs) ps sets begins e = ap (with_record id r) (one_set id next rs ps sets begins e) ∙ rw (eq-eqb id id refl) refl
 
-back : (sets : List Set) → AllByRecursion IsFilled sets → AreApart sets → sets_of (flat_map parts_in sets) ≡ sets
+back : (sets : List Set) → AllByRecursion IsFilledSet sets → AreApart sets → sets_of (flat_map parts_in sets) ≡ sets
 back [] filled apart = refl
 back (Announces id shape ∷ sets) filled apart = ap (λ (ss : List Set). Announces id shape ∷ ss) (back sets filled.1 (apart_rest (Announces id shape) sets apart))
 back (Brings id [] ∷ sets) filled apart = absurd (filled.0 refl)
 back (Brings id (r ∷ rs) ∷ sets) filled apart =
     one_set id r rs (flat_map parts_in sets) sets (begins_otherwise id (r ∷ rs) sets apart) (back sets filled.1 (apart_rest (Brings id (r ∷ rs)) sets apart))
 
-pub are_sets : (ps : List Part) (sets : List Set) → sets ≡ sets_of ps → AreSets ps sets
-are_sets ps sets e = let P : List Set → Type 0 = λ ss. AreSets ps ss in subst P (sym e) (found ps)
+pub are_sets : (ps : List Part) (sets : List Set) → sets ≡ sets_of ps → AreLongestSets ps sets
+are_sets ps sets e = let P : List Set → Type 0 = λ ss. AreLongestSets ps ss in subst P (sym e) (found ps)
 
-pub are_these : (ps : List Part) (sets : List Set) → AreSets ps sets → sets ≡ sets_of ps
+pub are_these : (ps : List Part) (sets : List Set) → AreLongestSets ps sets → sets ≡ sets_of ps
 are_these ps sets h = sym (back sets h.filled h.apart) ∙ ap sets_of h.joined

@@ -7,8 +7,8 @@ use Rattle.ipfix_template.specs.declared.template.Template.{Template}
 use Rattle.subscriber_stream.specs.declared.waiting.Waiting.{Waiting}
 use Rattle.subscriber_stream.specs.declared.waiting.Waiting.TheVariants.{Announce, Bring}
 use Rattle.subscriber_stream.specs.Message.{set_head}
-use Rattle.subscriber_stream.specs.Items.{Item, Brought, IsAnnouncement, AreKept, joins, total, run, pieces}
-use Rattle.subscriber_stream.specs.Waiting.{items_of, items_in, IsFilled, set_after, span}
+use Rattle.subscriber_stream.specs.Items.{Item, Brought, IsAnnouncement, AreItemsKept, joins, total, run, pieces}
+use Rattle.subscriber_stream.specs.Waiting.{items_of, items_in, IsFilledRun, set_after, span}
 use Rattle.subscriber_stream.proofs.RunLaws.{brings, head, cost_is, same_id}
 use Rattle.subscriber_stream.proofs.Queues.{items_from}
 use Rattle.subscriber_stream.proofs.Pieces.{run-total}
@@ -54,7 +54,7 @@ regroup h t c p =
     append_assoc h t (c ++ p) ∙ ap (λ (x : List ℕ). h ++ x) (sym (append_assoc t c p)) ∙ sym (append_assoc h (t ++ c) p)
 
 -- it writes its span, and then what follows it is written
-pub span_written : (shapes : List Template) (last : Option ℕ) (left : ℕ) (w : Waiting) (queue : List Waiting) → 0 < left → IsFilled w
+pub span_written : (shapes : List Template) (last : Option ℕ) (left : ℕ) (w : Waiting) (queue : List Waiting) → 0 < left → IsFilledRun w
     → pieces shapes last (take left (items_of w ++ items_in queue)) ≡ span shapes last left w queue ++ pieces shapes (set_after w) (take (left - length (items_of w)) (items_in queue))
 span_written shapes last zero w queue some filled = absurd (omega arith)
 span_written shapes last (suc n) (Announce id octets) queue some filled =
@@ -84,7 +84,7 @@ span_small last id left texts qs some filled =
     omega (arith, total_span last id left texts qs some filled, run-total id (take (left - length texts) qs))
 
 -- the same, where the first so many of its records are in the message
-pub span_fits : (last : Option ℕ) (id left count octets others : ℕ) (w : Waiting) (texts : List (List ℕ)) (qs : List Item) → w ≡ Bring id texts → 0 < left → IsFilled w → count ≡ min (length texts) left → octets ≡ length (concat (take count texts)) → others ≡ run id (take (left - count) qs) → total last (take left (items_of w ++ qs)) ≤ longest_body → octets + others ≤ longest_body
+pub span_fits : (last : Option ℕ) (id left count octets others : ℕ) (w : Waiting) (texts : List (List ℕ)) (qs : List Item) → w ≡ Bring id texts → 0 < left → IsFilledRun w → count ≡ min (length texts) left → octets ≡ length (concat (take count texts)) → others ≡ run id (take (left - count) qs) → total last (take left (items_of w ++ qs)) ≤ longest_body → octets + others ≤ longest_body
 span_fits last id left count octets others w texts qs w_is some filled count_is octets_is others_is fits =
     let len : length (items_of w) ≡ length texts = ap (λ (v : Waiting). length (items_of v)) w_is ∙ length-map texts (Brought id) in
     let swapped : count ≡ min left (length texts) = omega (arith, count_is) in
@@ -94,11 +94,11 @@ span_fits last id left count octets others w texts qs w_is some filled count_is 
     omega (arith, span_small last id left texts qs some (omega (arith, filled, len)), octets_is, others_is, ap (λ (ts : List (List ℕ)). length (concat ts)) first, ap (λ (n : ℕ). run id (take n qs)) behind, whole, fits)
 
 -- an announcement that waits is kept
-pub announcement_of : (shapes : List Template) (w : Waiting) (id octets : ℕ) → AreKept shapes (items_of w) → w ≡ Announce id octets → IsAnnouncement shapes id octets
+pub announcement_of : (shapes : List Template) (w : Waiting) (id octets : ℕ) → AreItemsKept shapes (items_of w) → w ≡ Announce id octets → IsAnnouncement shapes id octets
 announcement_of shapes w id octets kept is =
-    let K : Waiting → Type 0 = λ v. AreKept shapes (items_of v) in (subst K is kept).0
+    let K : Waiting → Type 0 = λ v. AreItemsKept shapes (items_of v) in (subst K is kept).0
 
-pub total_after : (last : Option ℕ) (left : ℕ) (w : Waiting) (qs : List Item) → 0 < left → IsFilled w → total (set_after w) (take (left - length (items_of w)) qs) ≤ total last (take left (items_of w ++ qs))
+pub total_after : (last : Option ℕ) (left : ℕ) (w : Waiting) (qs : List Item) → 0 < left → IsFilledRun w → total (set_after w) (take (left - length (items_of w)) qs) ≤ total last (take left (items_of w ++ qs))
 total_after last zero w qs some filled = absurd (omega arith)
 total_after last (suc n) (Announce id octets) qs some filled =
     let e : suc n - 1 ≡ n = omega arith in rw e (omega arith)
@@ -108,7 +108,7 @@ total_after last (suc n) (Bring id texts) qs some filled =
 
 -- ---- along the queue
 
-kept_behind : (shapes : List Template) (vs ws : List Item) → AreKept shapes (vs ++ ws) → AreKept shapes vs × AreKept shapes ws
+kept_behind : (shapes : List Template) (vs ws : List Item) → AreItemsKept shapes (vs ++ ws) → AreItemsKept shapes vs × AreItemsKept shapes ws
 kept_behind shapes [] ws kept = (tt, kept)
 kept_behind shapes (v ∷ vs) ws kept =
     let others = kept_behind shapes vs ws kept.1 in ((kept.0, others.0), others.1)
@@ -117,28 +117,28 @@ kept_behind shapes (v ∷ vs) ws kept =
 pub record IsWriting (shapes : List Template) (queue : List Waiting) (count : ℕ) (start : List ℕ) (place left : ℕ) (last : Option ℕ) (out : List ℕ) : Type 0 where
   pub written : out ++ pieces shapes last (take left (items_in (drop place queue))) ≡ start ++ pieces shapes None (take count (items_in queue))
   pub fits : total last (take left (items_in (drop place queue))) ≤ longest_body
-  pub kept : AreKept shapes (items_in (drop place queue))
+  pub kept : AreItemsKept shapes (items_in (drop place queue))
 
 -- what the next step asks for
 pub record CanWrite (shapes : List Template) (queue : List Waiting) (place left : ℕ) (last : Option ℕ) (w : Waiting) : Type 0 where
-  pub kept : AreKept shapes (items_of w)
+  pub kept : AreItemsKept shapes (items_of w)
   pub fits : total last (take left (items_of w ++ items_in (drop (place + 1) queue))) ≤ longest_body
 
 pub can_write : (shapes : List Template) (queue : List Waiting) (count : ℕ) (start : List ℕ) (place left : ℕ) (last : Option ℕ) (out : List ℕ) (w : Waiting) → IsWriting shapes queue count start place left last out → place < length queue → w ≡ get_or queue place w → CanWrite shapes queue place left last w
 can_write shapes queue count start place left last out w is lt at =
     let from = items_from queue place w lt at in
-    let K : List Item → Type 0 = λ ws. AreKept shapes ws in
+    let K : List Item → Type 0 = λ ws. AreItemsKept shapes ws in
     record {
       kept = (kept_behind shapes (items_of w) (items_in (drop (place + 1) queue)) (subst K from is.kept)).0;
       fits = omega (arith, is.fits, ap (λ (ws : List Item). total last (take left ws)) from);
     }
 
-pub IsWriting-next : (shapes : List Template) (queue : List Waiting) (count : ℕ) (start : List ℕ) (place left : ℕ) (last : Option ℕ) (out new : List ℕ) (w : Waiting) → IsWriting shapes queue count start place left last out → place < length queue → w ≡ get_or queue place w → 0 < left → IsFilled w → new ≡ out ++ span shapes last left w (drop (place + 1) queue)
+pub IsWriting-next : (shapes : List Template) (queue : List Waiting) (count : ℕ) (start : List ℕ) (place left : ℕ) (last : Option ℕ) (out new : List ℕ) (w : Waiting) → IsWriting shapes queue count start place left last out → place < length queue → w ≡ get_or queue place w → 0 < left → IsFilledRun w → new ≡ out ++ span shapes last left w (drop (place + 1) queue)
     → IsWriting shapes queue count start (place + 1) (left - length (items_of w)) (set_after w) new
 IsWriting-next shapes queue count start place left last out new w is lt at some filled new_is =
     let rest = drop (place + 1) queue in
     let from = items_from queue place w lt at in
-    let K : List Item → Type 0 = λ ws. AreKept shapes ws in
+    let K : List Item → Type 0 = λ ws. AreItemsKept shapes ws in
     let others = pieces shapes (set_after w) (take (left - length (items_of w)) (items_in rest)) in
     record {
       written = ap (λ (t : List ℕ). t ++ others) new_is ∙ append_assoc out (span shapes last left w rest) others ∙ ap (λ (t : List ℕ). out ++ t) (sym (span_written shapes last left w rest some filled)) ∙ ap (λ (ws : List Item). out ++ pieces shapes last (take left ws)) (sym from) ∙ is.written;
@@ -176,13 +176,13 @@ other_set id other apart = by_test (nat_eq other id) refl where
   by_test true is = absurd (apart (sym (eqb-true other id is)))
 
 -- another set ends them
-ended : (id left : ℕ) (w : Waiting) (qs : List Item) → 0 < left → IsFilled w → joins (set_after w) id ≡ false → run id (take left (items_of w ++ qs)) ≡ 0
+ended : (id left : ℕ) (w : Waiting) (qs : List Item) → 0 < left → IsFilledRun w → joins (set_after w) id ≡ false → run id (take left (items_of w ++ qs)) ≡ 0
 ended id zero w qs some filled apart = absurd (omega arith)
 ended id (suc n) (Announce other octets) qs some filled apart = refl
 ended id (suc n) (Bring other []) qs some filled apart = absurd (omega arith)
 ended id (suc n) (Bring other (text ∷ texts)) qs some filled apart = rw (eqb_apart other id apart) refl
 
-pub counting_over : (queue : List Waiting) (id start count place left octets : ℕ) (w : Waiting) → IsCounting queue id start count place left octets → place < length queue → w ≡ get_or queue place w → 0 < left → IsFilled w → joins (set_after w) id ≡ false → octets ≡ run id (take count (items_in (drop start queue)))
+pub counting_over : (queue : List Waiting) (id start count place left octets : ℕ) (w : Waiting) → IsCounting queue id start count place left octets → place < length queue → w ≡ get_or queue place w → 0 < left → IsFilledRun w → joins (set_after w) id ≡ false → octets ≡ run id (take count (items_in (drop start queue)))
 counting_over queue id start count place left octets w is lt at some filled apart =
     let none : run id (take left (items_in (drop place queue))) ≡ 0 = ap (λ (ws : List Item). run id (take left ws)) (items_from queue place w lt at) ∙ ended id left w (items_in (drop (place + 1) queue)) some filled apart in
     omega (arith, is.counted, none)

@@ -2,7 +2,7 @@
 use Rattle.std.specs.Prelude.{◌≡◌, ℕ, List, [], ◌∷◌, ◌++◌, Option}
 use Rattle.ipfix_template.specs.DataRecord.{DataRecord}
 use Rattle.subscriber_stream.specs.Message.{built, place_after}
-use Rattle.subscriber_stream.specs.Standing.{Standing, StandsAt}
+use Rattle.subscriber_stream.specs.Standing.{StreamStanding, StandsAt}
 
 -- a pull: when, to what target, and all records that were given before it
 pub record Pull : Type 0 where
@@ -33,17 +33,17 @@ pulls_of records (Given more ∷ calls) = pulls_of (records ++ more) calls
 pulls_of records (Pulled now target ∷ calls) = record { now = now; target = target; records = records } ∷ pulls_of records calls
 
 -- what push_reserved says of a stream
-pub record TakesRecords (old : Standing) (more : List DataRecord) (new : Standing) : Type 0 where
+pub record TakesRecords (old : StreamStanding) (more : List DataRecord) (new : StreamStanding) : Type 0 where
   pub stands : (records : List DataRecord) (p : ℕ) → StandsAt old records p → StandsAt new (records ++ more) p
 
 -- what pull says of a stream where it answers Ok
-pub record Gives (old : Standing) (now target : ℕ) (answer : Option (List ℕ)) (new : Standing) : Type 0 where
+pub record GivesNext (old : StreamStanding) (now target : ℕ) (answer : Option (List ℕ)) (new : StreamStanding) : Type 0 where
   pub answers : (records : List DataRecord) (p : ℕ) → StandsAt old records p → answer ≡ built records p now target
   pub stands : (records : List DataRecord) (p : ℕ) → StandsAt old records p → StandsAt new records (place_after records p target)
 
 -- a stream that takes these calls one after another answers its pulls so
-abbrev pub Serves : Standing → List Call → List (Option (List ℕ)) → Type 0
-Serves s [] answers = answers ≡ []
-Serves s (Given more ∷ calls) answers = (t : Standing) × TakesRecords s more t × Serves t calls answers
-Serves s (Pulled now target ∷ calls) [] = ⊥
-Serves s (Pulled now target ∷ calls) (answer ∷ answers) = (t : Standing) × Gives s now target answer t × Serves t calls answers
+abbrev pub ServesCalls : StreamStanding → List Call → List (Option (List ℕ)) → Type 0
+ServesCalls s [] answers = answers ≡ []
+ServesCalls s (Given more ∷ calls) answers = (t : StreamStanding) × TakesRecords s more t × ServesCalls t calls answers
+ServesCalls s (Pulled now target ∷ calls) [] = ⊥
+ServesCalls s (Pulled now target ∷ calls) (answer ∷ answers) = (t : StreamStanding) × GivesNext s now target answer t × ServesCalls t calls answers

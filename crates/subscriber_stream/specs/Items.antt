@@ -3,7 +3,7 @@
 use Rattle.std.specs.Prelude.{◌≡◌, ◌≤◌, ◌<◌, ℕ, suc, ◌+◌, ◌-◌, Bool, false, ◌==◌, nat_le, List, [], ◌∷◌, ◌++◌, length, map, slice_index_or, Option, Some, None, if◌then◌else◌}
 use Rattle.ipfix_octets.specs.MessageFormat.{longest_message, header_octets, set_header_octets, least_template_id}
 use Rattle.ipfix_template.specs.declared.template.Template.{Template}
-use Rattle.ipfix_template.specs.Template.{IsAccepted, is_options, template_record}
+use Rattle.ipfix_template.specs.Template.{IsAcceptable, is_options, template_record}
 use Rattle.ipfix_template.specs.declared.data_record.TheConstants.{RECORD_ROOM}
 use Rattle.ipfix_template.specs.DataRecord.{kept_record, IsKept as IsKeptOf}
 use Rattle.subscriber_stream.specs.Parts.{Part, Announcement, Entry}
@@ -33,7 +33,7 @@ parts_of shapes ws = map (part_of shapes) ws
 pub record IsAnnouncement (shapes : List Template) (id octets : ℕ) : Type 0 where
   pub low : least_template_id ≤ id
   pub known : id < least_template_id + length shapes
-  pub accepted : IsAccepted (shape_at shapes id)
+  pub accepted : IsAcceptable (shape_at shapes id)
   pub counted : octets ≡ length (template_record least_template_id (is_options (shape_at shapes id)) (shape_at shapes id))
   pub few : octets ≤ RECORD_ROOM
 
@@ -44,13 +44,13 @@ pub record IsEntry (shapes : List Template) (id : ℕ) (octets : List ℕ) : Typ
   pub kept : IsKeptOf (shape_at shapes id) octets
   pub few : length octets ≤ RECORD_ROOM
 
-abbrev pub IsKept : List Template → Item → Type 0
-IsKept shapes (Announced id octets) = IsAnnouncement shapes id octets
-IsKept shapes (Brought id octets) = IsEntry shapes id octets
+abbrev pub IsItemKept : List Template → Item → Type 0
+IsItemKept shapes (Announced id octets) = IsAnnouncement shapes id octets
+IsItemKept shapes (Brought id octets) = IsEntry shapes id octets
 
-abbrev pub AreKept : List Template → List Item → Type 0
-AreKept shapes [] = Unit {0}
-AreKept shapes (w ∷ ws) = IsKept shapes w × AreKept shapes ws
+abbrev pub AreItemsKept : List Template → List Item → Type 0
+AreItemsKept shapes [] = Unit {0}
+AreItemsKept shapes (w ∷ ws) = IsItemKept shapes w × AreItemsKept shapes ws
 
 -- how many announcements and how many records wait
 abbrev pub announcements : List Item → ℕ

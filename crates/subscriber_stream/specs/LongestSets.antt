@@ -12,16 +12,16 @@ parts_in (Announces id shape) = Announcement id shape ∷ []
 parts_in (Brings id rs) = map (Entry id) rs
 
 -- a Data Set brings a record
-abbrev pub IsFilled : Set → Type 0
-IsFilled (Announces id shape) = Unit {0}
-IsFilled (Brings id rs) = rs ≢ []
+abbrev pub IsFilledSet : Set → Type 0
+IsFilledSet (Announces id shape) = Unit {0}
+IsFilledSet (Brings id rs) = rs ≢ []
 
 -- no Data Set stands right before another of its ID
 abbrev pub AreApart : List Set → Type 0
 AreApart sets = (front more : List Set) (id : ℕ) (rs others : List DataRecord) → sets ≢ front ++ Brings id rs ∷ Brings id others ∷ more
 
 -- the sets hold these parts in their order, each Data Set brings a record, and none could be longer
-pub record AreSets (ps : List Part) (sets : List Set) : Type 0 where
+pub record AreLongestSets (ps : List Part) (sets : List Set) : Type 0 where
   pub joined : flat_map parts_in sets ≡ ps
-  pub filled : AllByRecursion IsFilled sets
+  pub filled : AllByRecursion IsFilledSet sets
   pub apart : AreApart sets

@@ -68,8 +68,8 @@ unfoldable pub run_length : ℕ → List Part → ℕ
 run_length target ps = max 1 (last_passing (λ n. is_within target (take n ps)) (length ps))
 
 -- how many parts the message from place p on takes
-abbrev pub taken : List DataRecord → ℕ → ℕ → ℕ
-taken records p target = run_length target (drop p (parts records))
+abbrev pub parts_taken : List DataRecord → ℕ → ℕ → ℕ
+parts_taken records p target = run_length target (drop p (parts records))
 
 -- the message of the parts that wait, where handed records stood before them; none where none waits
 unfoldable pub next_message : ℕ → ℕ → ℕ → List Part → Option (List ℕ)
@@ -82,4 +82,4 @@ built records p now target = next_message now target (length (records_in (take p
 
 -- the place after that message, or the end
 abbrev pub place_after : List DataRecord → ℕ → ℕ → ℕ
-place_after records p target = p + length (take (taken records p target) (drop p (parts records)))
+place_after records p target = p + length (take (parts_taken records p target) (drop p (parts records)))

@@ -16,12 +16,12 @@ abbrev pub items_in : List Waiting → List Item
 items_in queue = flat_map items_of queue
 
 -- a run brings a record
-abbrev pub IsFilled : Waiting → Type 0
-IsFilled w = 0 < length (items_of w)
+abbrev pub IsFilledRun : Waiting → Type 0
+IsFilledRun w = 0 < length (items_of w)
 
 abbrev pub AreFilled : List Waiting → Type 0
 AreFilled [] = Unit {0}
-AreFilled (w ∷ queue) = IsFilled w × AreFilled queue
+AreFilled (w ∷ queue) = IsFilledRun w × AreFilled queue
 
 -- the Data Set that is the last after it
 abbrev pub set_after : Waiting → Option ℕ

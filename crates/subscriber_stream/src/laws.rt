@@ -6,17 +6,17 @@ ghost use Rattle.ipfix_template.specs.DataRecord.{DataRecord};
 ghost use Rattle.subscriber_stream.specs.Shapes.{shapes_of, shapes_after};
 ghost use Rattle.subscriber_stream.specs.Parts.{Part, parts, records_in};
 ghost use Rattle.subscriber_stream.specs.Message.{Set, sets_of, message, run_length};
-ghost use Rattle.subscriber_stream.specs.LongestSets.{AreSets};
-ghost use Rattle.subscriber_stream.specs.Standing.{Standing, StandsAt};
-ghost use Rattle.subscriber_stream.specs.Calls.{Call, Serves, pulls_of, octets_from};
+ghost use Rattle.subscriber_stream.specs.LongestSets.{AreLongestSets};
+ghost use Rattle.subscriber_stream.specs.Standing.{StreamStanding, StandsAt};
+ghost use Rattle.subscriber_stream.specs.Calls.{Call, ServesCalls, pulls_of, octets_from};
 ghost use Rattle.std.specs.Prelude.{true, ◌↔◌};
 
 /// The octets that a stream gives are a function of the records that it was given and of the pulls: the
 /// messages built one after another, whatever else differs between two streams.
 pub fn octets_of_pulls()
-    ensures { (s : Standing) (records : List DataRecord) (p : ℕ)
+    ensures { (s : StreamStanding) (records : List DataRecord) (p : ℕ)
         (calls : List Call) (answers : List (Option (List ℕ)))
-        → StandsAt s records p → Serves s calls answers
+        → StandsAt s records p → ServesCalls s calls answers
         → answers ≡ octets_from p (pulls_of records calls) }
 {}
 
@@ -45,7 +45,7 @@ pub fn shapes_go_on()
 /// The sets of parts hold these parts in their order, each Data Set brings a record, and none
 /// stands right before another of its ID, so that none could be longer. No other sets are so.
 pub fn sets_are_longest()
-    ensures { (ps : List Part) (sets : List Set) → (sets ≡ sets_of ps) ↔ AreSets ps sets }
+    ensures { (ps : List Part) (sets : List Set) → (sets ≡ sets_of ps) ↔ AreLongestSets ps sets }
 {}
 
 /// A run that has more than one part is at most the target long, and the next longer run is not.

@@ -4,9 +4,8 @@
 //! their octets, each value in its shortest text, and a message copies those of consecutive records at once.
 //!
 //! - [`stream`]: `Stream`, which queues records and builds the messages.
-//! - [`limits`]: `Limits`, how many records may wait, and how many templates may be announced; the greatest of
+//! - [`limits`]: `StreamLimits`, how many records may wait, and how many templates may be announced; the greatest of
 //!   each, [`MOST_QUEUE`] and [`MOST_SHAPES`].
-//! - [`pull_error`]: `PullError`, why no message was built.
 //! - [`laws`]: what a subscriber gets is a function of the records and the pulls (`octets_of_pulls`); which sets
 //!   a message has (`sets_are_longest`) and how many parts (`longest_run`).
 //!
@@ -25,7 +24,6 @@ mod announcing;
 mod fitting;
 pub mod laws;
 pub mod limits;
-pub mod pull_error;
 mod room;
 mod shape_table;
 pub mod stream;
@@ -37,6 +35,5 @@ pub use laws::{
     longest_run, octets_of_pulls, one_shape, parts_bring_the_list, parts_go_on, sets_are_longest,
     shapes_go_on,
 };
-pub use limits::{Limits, MOST_QUEUE, MOST_SHAPES};
-pub use pull_error::PullError;
+pub use limits::{MOST_QUEUE, MOST_SHAPES, StreamLimits};
 pub use stream::Stream;

@@ -8,7 +8,7 @@ pub const MOST_QUEUE: u32 = 1_000_000;
 
 /// How much a stream may hold.
 #[derive(Clone, Copy, Debug, PartialEq, Eq)]
-pub struct Limits {
+pub struct StreamLimits {
     /// The most records that may wait; in a mediator at most [`MOST_QUEUE`].
     pub queue: u32,
     /// The most distinct templates that the stream's records may have, at most [`MOST_SHAPES`].

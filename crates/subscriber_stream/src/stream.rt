@@ -10,8 +10,7 @@ mod tests;
 
 use crate::announcing::announced_octets;
 use crate::fitting::fitting;
-use crate::limits::Limits;
-use crate::pull_error::PullError;
+use crate::limits::StreamLimits;
 use crate::room::has_shape_room;
 use crate::shape_table::ShapeTable;
 use crate::texts::Texts;
@@ -32,7 +31,7 @@ use std::marker::Model;
 /// before it, modulo 2^32, and its Observation Domain is 0 (RFC 7011, section 3.1).
 pub struct Stream {
     alloc: Global,
-    limits: Limits,
+    limits: StreamLimits,
     shapes: ShapeTable,
     queue: VecDeque<Waiting>,
     waiting: u32,
@@ -59,12 +58,12 @@ impl Drop for Stream {
 
 impl Model for Stream {
     ghost use Rattle.std.specs.VecDeque.{deque_capacity};
-    ghost use Rattle.subscriber_stream.specs.Standing.{Kept};
+    ghost use Rattle.subscriber_stream.specs.Standing.{KeptStream};
     ghost use Rattle.subscriber_stream.specs.Items.{parts_of};
     ghost use Rattle.subscriber_stream.specs.Waiting.{items_in};
     ghost use Rattle.subscriber_stream.specs.Steps.{IsConsistent};
 
-    ghost Value = { Kept };
+    ghost Value = { KeptStream };
 
     ghost view = { λ s. record { standing = record { shapes = s.shapes.shapes; handed = s.handed; announced = s.announced; waiting = parts_of s.shapes.shapes (items_in s.queue.items) }; limits = s.limits; spare = s.spare } };
 
@@ -73,14 +72,14 @@ impl Model for Stream {
 }
 
 impl Stream {
-    ghost use Rattle.subscriber_stream.specs.Standing.{at_start, StandsAt, HasRoom, FitsLimits, queued};
-    ghost use Rattle.subscriber_stream.specs.Calls.{TakesRecords, Gives};
-    ghost use Rattle.subscriber_stream.specs.Steps.{given, handed_parts};
+    ghost use Rattle.subscriber_stream.specs.Standing.{at_start, StandsAt, HasStreamRoom, FitsLimits, queue_size};
+    ghost use Rattle.subscriber_stream.specs.Calls.{TakesRecords, GivesNext};
+    ghost use Rattle.subscriber_stream.specs.Steps.{after_given, handed_parts};
     ghost use Rattle.ipfix_records.specs.Runs.{records_of};
 
     /// A stream that was given no record, and that holds at most what `limits` allow. What it comes
     /// to keep is taken from `alloc`. Its templates are hashed with keys that everybody knows.
-    pub fn new(alloc: Global, limits: Limits) -> Stream
+    pub fn new(alloc: Global, limits: StreamLimits) -> Stream
         requires { limits.shapes ≤ MOST_SHAPES }
         ensures value { result ≡ record { standing = at_start; limits = limits; spare = 0 } }
         ensures stands { StandsAt result.standing [] 0 }
@@ -93,7 +92,7 @@ impl Stream {
     /// A stream that was given no record, and that holds at most what `limits` allow. What it comes
     /// to keep is taken from `alloc`. Its templates are hashed with `keys`, so that no exporter can
     /// choose templates that collide where these are secret.
-    pub fn hashed(alloc: Global, limits: Limits, keys: HashKeys) -> Stream
+    pub fn hashed(alloc: Global, limits: StreamLimits, keys: HashKeys) -> Stream
         requires { limits.shapes ≤ MOST_SHAPES }
         ensures value { result ≡ record { standing = at_start; limits = limits; spare = 0 } }
         ensures stands { StandsAt result.standing [] 0 }
@@ -113,7 +112,7 @@ impl Stream {
 
     /// How many records wait to be handed out.
     pub fn queued(&self) -> u32
-        ensures { result ≡ queued self.now.standing }
+        ensures { result ≡ queue_size self.now.standing }
     {
         self.waiting
     }
@@ -135,7 +134,7 @@ impl Stream {
     /// Whether the limits leave room for `records`: for all of them in the queue, and for their
     /// templates among those that the stream knows. It takes no memory.
     pub fn room(&self, records: &Records) -> bool
-        ensures room { IsTrue result ↔ HasRoom self.now records.now }
+        ensures room { IsTrue result ↔ HasStreamRoom self.now records.now }
         // That is room behind the list of records that the stream was given.
         ensures exact { (given_before : List DataRecord) (p : ℕ)
             → StandsAt self.now.standing given_before p
@@ -145,7 +144,7 @@ impl Stream {
     }
 
     fn has_room(&self, records: &Records) -> bool
-        ensures { IsTrue result ↔ HasRoom self.now records.now }
+        ensures { IsTrue result ↔ HasStreamRoom self.now records.now }
     {
         records.len() <= (self.limits.queue - self.waiting) as usize
             && has_shape_room(&self.shapes, records.runs(), self.limits.shapes)
@@ -155,7 +154,7 @@ impl Stream {
     /// room then. It takes no memory.
     pub fn is_held_up(&self, records: &Records) -> bool
         ensures { IsTrue result
-            ↔ (self.now.limits.queue < queued self.now.standing + length records.now)
+            ↔ (self.now.limits.queue < queue_size self.now.standing + length records.now)
             × (length records.now ≤ self.now.limits.queue) }
     {
         let (count, most) = (records.len(), self.limits.queue as usize);
@@ -189,9 +188,9 @@ impl Stream {
     /// no record before had gets the next ID, and an announcement that waits before its first
     /// record. It takes no memory.
     pub fn push_reserved(&mut self, records: Records)
-        requires room { HasRoom self.old records }
+        requires room { HasStreamRoom self.old records }
         requires reserved { length records ≤ self.old.spare }
-        requires count { self.old.standing.handed + queued self.old.standing + length records
+        requires count { self.old.standing.handed + queue_size self.old.standing + length records
             < 2 ^ 64 }
         // The list that was given goes on with the records, and the place stays.
         ensures ok { TakesRecords self.old.standing records self.new.standing }
@@ -202,11 +201,11 @@ impl Stream {
     }
 
     fn push_all(&mut self, records: Records)
-        requires room { HasRoom self.old records }
+        requires room { HasStreamRoom self.old records }
         requires reserved { length records ≤ self.old.spare }
-        requires count { self.old.standing.handed + queued self.old.standing + length records
+        requires count { self.old.standing.handed + queue_size self.old.standing + length records
             < 2 ^ 64 }
-        ensures { self.new ≡ given self.old records }
+        ensures { self.new ≡ after_given self.old records }
     {
         for next in records.into_runs() {
             self.push_run(next);
@@ -215,11 +214,11 @@ impl Stream {
 
     /// Takes the records of a run into the reserved room.
     fn push_run(&mut self, next: Run)
-        requires room { HasRoom self.old (records_of next) }
+        requires room { HasStreamRoom self.old (records_of next) }
         requires reserved { length next.texts ≤ self.old.spare }
-        requires count { self.old.standing.handed + queued self.old.standing + length next.texts
+        requires count { self.old.standing.handed + queue_size self.old.standing + length next.texts
             < 2 ^ 64 }
-        ensures { self.new ≡ given self.old (records_of next) }
+        ensures { self.new ≡ after_given self.old (records_of next) }
     {
         let count = next.len();
         if count == 0 {
@@ -278,7 +277,7 @@ impl Stream {
     /// 1970. `None` exactly at the end, where nothing is queued.
     ///
     /// # Errors
-    /// `OutOfMemory` for want of memory for the message, and then the stream is as it was.
+    /// Want of memory for the message, and then the stream is as it was.
     ///
     /// # Examples
     ///
@@ -287,12 +286,12 @@ impl Stream {
     ///
     /// ```rust
     /// use ipfix_session::Session;
-    /// use subscriber_stream::{Limits, Stream};
+    /// use subscriber_stream::{Stream, StreamLimits};
     ///
     /// let message: &[u8] = b"\x00\x0a\x00\x24\x65\x53\xf1\x00\x00\x00\x00\x00\x00\x00\x00\x07\
     ///     \x00\x02\x00\x0c\x01\x00\x00\x01\x00\x01\x00\x04\x01\x00\x00\x08\x00\x00\x05\xdc";
     /// let read = Session::new(alloc).apply(message)?;
-    /// let limits = Limits {
+    /// let limits = StreamLimits {
     ///     queue: 10,
     ///     shapes: 10,
     /// };
@@ -305,13 +304,13 @@ impl Stream {
     ///     \x00\x02\x00\x0c\x01\x00\x00\x01\x00\x01\x00\x04\x01\x00\x00\x08\x00\x00\x05\xdc";
     /// assert!(rt; sent.as_slice() == due);
     /// ```
-    pub fn pull(&mut self, now: u32, target: u16) -> Result<Option<Bytes>, PullError>
+    pub fn pull(&mut self, now: u32, target: u16) -> Result<Option<Bytes>, AllocError>
         // The message is the one that is built at the place where the stream stands, and the stream then
         // stands after its parts.
-        ensures ok { IfOk result (λ m. Gives self.old.standing now target m self.new.standing) }
-        ensures end { IfOk result (λ m. IsNone m ↔ (queued self.old.standing ≡ 0)) }
+        ensures ok { IfOk result (λ m. GivesNext self.old.standing now target m self.new.standing) }
+        ensures end { IfOk result (λ m. IsNone m ↔ (queue_size self.old.standing ≡ 0)) }
         // At the end no memory is taken.
-        ensures no_memory { queued self.old.standing ≡ 0 → IsOk result }
+        ensures no_memory { queue_size self.old.standing ≡ 0 → IsOk result }
         ensures limits { self.new.limits ≡ self.old.limits }
         ensures spare { self.new.spare ≡ self.old.spare }
         ensures err { OnErr result (self.new ≡ self.old) }

@@ -29,7 +29,7 @@ pub(crate) struct Front {
 impl Waiting {
     ghost use Rattle.ipfix_octets.specs.MessageFormat.{longest_message};
     ghost use Rattle.subscriber_stream.specs.Items.{fits, total};
-    ghost use Rattle.subscriber_stream.specs.Waiting.{items_of, set_after, IsFilled};
+    ghost use Rattle.subscriber_stream.specs.Waiting.{items_of, set_after, IsFilledRun};
 
     /// How many parts it is: an announcement is one, and so is a record.
     pub(crate) fn len(&self) -> usize
@@ -53,7 +53,7 @@ impl Waiting {
 
     /// The octets that its first part adds to a message that ends with no Data Set.
     pub(crate) fn first_octets(&self) -> usize
-        requires { IsFilled self.now }
+        requires { IsFilledRun self.now }
         ensures exact { result ≡ total None (take 1 (items_of self.now)) }
         ensures few { result < 2 ^ 32 + 4 }
     {

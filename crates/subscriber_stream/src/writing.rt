@@ -4,8 +4,8 @@ ghost use Rattle.sequences.specs.Octets.{be_octets};
 ghost use Rattle.ipfix_octets.specs.MessageFormat.{ipfix_version, longest_message, header_octets, least_template_id};
 ghost use Rattle.ipfix_template.specs.declared.data_record.TheConstants.{RECORD_ROOM};
 ghost use Rattle.subscriber_stream.specs.Message.{message, set_head, template_set};
-ghost use Rattle.subscriber_stream.specs.Items.{AreKept, parts_of, total, run, pieces, longest_body};
-ghost use Rattle.subscriber_stream.specs.Waiting.{items_of, items_in, IsFilled, AreFilled, span};
+ghost use Rattle.subscriber_stream.specs.Items.{AreItemsKept, parts_of, total, run, pieces, longest_body};
+ghost use Rattle.subscriber_stream.specs.Waiting.{items_of, items_in, IsFilledRun, AreFilled, span};
 
 use crate::shape_table::ShapeTable;
 use crate::waiting::{Front, Waiting, joins};
@@ -30,7 +30,7 @@ pub(crate) fn message_of(
     handed: u64,
 ) -> Result<Bytes, AllocError>
     requires filled { AreFilled queue.now.items }
-    requires kept { AreKept shapes.now.shapes (items_in queue.now.items) }
+    requires kept { AreItemsKept shapes.now.shapes (items_in queue.now.items) }
     // It is known how long the message of these parts is, and a message can be that long.
     requires octets { whole.octets
         ≡ header_octets + total None (take whole.parts (items_in queue.now.items)) }
@@ -66,7 +66,7 @@ fn put_parts(
     out: &mut Vec<u8>,
 ) -> Result<(), AllocError>
     requires filled { AreFilled queue.now.items }
-    requires kept { AreKept shapes.now.shapes (items_in queue.now.items) }
+    requires kept { AreItemsKept shapes.now.shapes (items_in queue.now.items) }
     requires fits { total None (take count (items_in queue.now.items)) ≤ longest_body }
     ensures { OnOk result (out.new.items
         ≡ out.old.items ++ pieces shapes.now.shapes None (take count (items_in queue.now.items))) }
@@ -96,8 +96,8 @@ fn put_span(
     last: Option<u16>,
     out: &mut Vec<u8>,
 ) -> Result<(), AllocError>
-    requires filled { IsFilled next.now × AreFilled queue.now.items }
-    requires kept { AreKept shapes.now.shapes (items_of next.now) }
+    requires filled { IsFilledRun next.now × AreFilled queue.now.items }
+    requires kept { AreItemsKept shapes.now.shapes (items_of next.now) }
     // The parts behind the place follow it in the message, and all of it fits.
     requires place { place ≤ length queue.now.items }
     requires some { 0 < left }

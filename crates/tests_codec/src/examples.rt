@@ -57,12 +57,12 @@ fn messages_of_a_stream_of_records(rt: HostRuntime) -> Result<(), Fail> {
     let alloc = rt.alloc();
     // Example of subscriber_stream::Stream::pull.
     use ipfix_session::Session;
-    use subscriber_stream::{Limits, Stream};
+    use subscriber_stream::{Stream, StreamLimits};
 
     let message: &[u8] = b"\x00\x0a\x00\x24\x65\x53\xf1\x00\x00\x00\x00\x00\x00\x00\x00\x07\
         \x00\x02\x00\x0c\x01\x00\x00\x01\x00\x01\x00\x04\x01\x00\x00\x08\x00\x00\x05\xdc";
     let read = Session::new(alloc).apply(message)?;
-    let limits = Limits {
+    let limits = StreamLimits {
         queue: 10,
         shapes: 10,
     };

@@ -1,5 +1,5 @@
 //! Streams that are read in pieces of seven octets, to their end and to each fault.
-use ipfix_reader::{FramingFault, Intake, IntakeFault};
+use ipfix_reader::{Fault as IntakeFault, FramingFault, Intake};
 use octet_io::Device;
 use std::alloc::Global;
 use std::io::ErrorKind::Interrupted;

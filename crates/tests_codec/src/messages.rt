@@ -1,6 +1,6 @@
 //! Worked cases of framing, and of what is no message.
 use bytes::Bytes;
-use ipfix_message::{DecodeError, FrameError, Framer, items};
+use ipfix_message::{Fault, Framer, items};
 use std::alloc::{AllocError, Global};
 use std::process::Abort;
 use std::test::Fail;
@@ -14,9 +14,9 @@ const ONE_RECORD: &[u8] = b"\x00\x0a\x00\x32\x65\x53\xf1\x00\x00\x00\x00\x00\x00
 /// After it so many octets wait, and this fault stands.
 struct Piece {
     octets: &'static [u8],
-    answer: Result<usize, FrameError>,
+    answer: Result<usize, Fault>,
     pending: usize,
-    fault: Option<FrameError>,
+    fault: Option<Fault>,
 }
 
 /// The pieces of a stream, by the name of the case that they work out.
@@ -27,9 +27,9 @@ struct Case {
 
 const BAD_VERSION: Piece = Piece {
     octets: b"\x10",
-    answer: Err(FrameError::BadVersion),
+    answer: Err(Fault::BadVersion),
     pending: 0,
-    fault: Some(FrameError::BadVersion),
+    fault: Some(Fault::BadVersion),
 };
 
 static CASES: [Case; 8] = [
@@ -43,19 +43,19 @@ static CASES: [Case; 8] = [
 \x01\x00\x00\x0e\xc0\x00\x02\x4d\x01\xbb\x00\x00\x05\xdc\x00\x09\x00\x10",
                 answer: Ok(1),
                 pending: 0,
-                fault: Some(FrameError::BadVersion),
+                fault: Some(Fault::BadVersion),
             },
             Piece {
                 octets: ONE_RECORD,
-                answer: Err(FrameError::BadVersion),
+                answer: Err(Fault::BadVersion),
                 pending: 0,
-                fault: Some(FrameError::BadVersion),
+                fault: Some(Fault::BadVersion),
             },
             Piece {
                 octets: b"",
-                answer: Err(FrameError::BadVersion),
+                answer: Err(Fault::BadVersion),
                 pending: 0,
-                fault: Some(FrameError::BadVersion),
+                fault: Some(Fault::BadVersion),
             },
         ],
     },
@@ -83,9 +83,9 @@ static CASES: [Case; 8] = [
             },
             Piece {
                 octets: b"\x0f",
-                answer: Err(FrameError::BadVersion),
+                answer: Err(Fault::BadVersion),
                 pending: 0,
-                fault: Some(FrameError::BadVersion),
+                fault: Some(Fault::BadVersion),
             },
         ],
     },
@@ -112,9 +112,9 @@ static CASES: [Case; 8] = [
             },
             Piece {
                 octets: b"\x0f",
-                answer: Err(FrameError::BadLength),
+                answer: Err(Fault::BadLength),
                 pending: 0,
-                fault: Some(FrameError::BadLength),
+                fault: Some(Fault::BadLength),
             },
         ],
     },
@@ -129,9 +129,9 @@ static CASES: [Case; 8] = [
             },
             Piece {
                 octets: b"\x00",
-                answer: Err(FrameError::BadLength),
+                answer: Err(Fault::BadLength),
                 pending: 0,
-                fault: Some(FrameError::BadLength),
+                fault: Some(Fault::BadLength),
             },
         ],
     },
@@ -184,7 +184,7 @@ fn feed(
     framer: &mut Framer,
     octets: &[u8],
     message: &[u8],
-) -> Result<usize, FrameError> {
+) -> Result<usize, Fault> {
     let found = framer.feed(octets)?;
     for next in &found {
         assert_eq!(rt; next.as_slice(), message);
@@ -209,27 +209,13 @@ fn pieces(rt: HostRuntime) {
     }
 }
 
-static NAMES: [(FrameError, &str); 3] = [
-    (FrameError::BadVersion, "BadVersion"),
-    (FrameError::BadLength, "BadLength"),
-    (FrameError::OutOfMemory, "OutOfMemory"),
-];
-
-#[test]
-fn faults_are_shown_as_their_names(rt: HostRuntime) -> Result<(), Fail> {
-    for (fault, name) in &NAMES {
-        assert_eq!(rt; fault.to_string(rt.alloc())?.as_str(), *name);
-    }
-    Ok(())
-}
-
-static FAULTS: [(DecodeError, &str); 6] = [
-    (DecodeError::ShortHeader, "ShortHeader"),
-    (DecodeError::BadVersion, "BadVersion"),
-    (DecodeError::BadLength, "BadLength"),
-    (DecodeError::BadSetLength, "BadSetLength"),
-    (DecodeError::TemplateOverrun, "TemplateOverrun"),
-    (DecodeError::OutOfMemory, "OutOfMemory"),
+static FAULTS: [(Fault, &str); 6] = [
+    (Fault::ShortHeader, "ShortHeader"),
+    (Fault::BadVersion, "BadVersion"),
+    (Fault::BadLength, "BadLength"),
+    (Fault::BadSetLength, "BadSetLength"),
+    (Fault::TemplateOverrun, "TemplateOverrun"),
+    (Fault::OutOfMemory, "OutOfMemory"),
 ];
 
 #[test]
@@ -241,7 +227,7 @@ fn error_texts(rt: HostRuntime) -> Result<(), Fail> {
 }
 
 /// Why octets are no message, if they are none.
-fn fault_of(alloc: Global, octets: &[u8]) -> Option<DecodeError> {
+fn fault_of(alloc: Global, octets: &[u8]) -> Option<Fault> {
     match items(alloc, octets) {
         Ok(_) => None,
         Err(fault) => Some(fault),
@@ -253,9 +239,9 @@ fn fault_of(alloc: Global, octets: &[u8]) -> Option<DecodeError> {
 fn fronts_of_a_message(rt: HostRuntime) {
     for length in 0..ONE_RECORD.len() {
         let fault = if length < 16 {
-            DecodeError::ShortHeader
+            Fault::ShortHeader
         } else {
-            DecodeError::BadLength
+            Fault::BadLength
         };
         let found = fault_of(rt.alloc(), &ONE_RECORD[..length]);
         assert_eq!(rt; found, Some(fault), "{length}");
@@ -271,7 +257,7 @@ fn fronts_with_their_length(rt: HostRuntime) -> Result<(), AllocError> {
         let fault = match length {
             16 => None,
             36 => None,
-            _ => Some(DecodeError::BadSetLength),
+            _ => Some(Fault::BadSetLength),
         };
         assert_eq!(rt; fault_of(rt.alloc(), octets.as_slice()), fault, "{length}");
     }

@@ -1,7 +1,7 @@
 //! Worked cases, message by message: what each brings, and which templates are in force after it.
 use bytes::Bytes;
-use ipfix_message::DecodeError;
-use ipfix_session::{Gap, Read, ReadError, Session, Skips};
+use ipfix_message::Fault as DecodeError;
+use ipfix_session::{Fault as ReadError, Gap, Read, Session, Skips};
 use ipfix_template::Record;
 use std::alloc::{AllocError, Global};
 use std::process::Abort;

@@ -6,9 +6,7 @@ ghost use Rattle.event_journal.specs.Spelled.{IsSpelled};
 
 use bytes::Bytes;
 use event_journal::{Entry, Journal, PolicyText};
-use journal_files::{
-    JournalFault, JournalReader, JournalWriter, ReadFault, WriteFault, decode, encode,
-};
+use journal_files::{Fault, JournalReader, JournalWriter, decode, encode};
 use octet_io::Device;
 use policy_text::Name;
 use std::alloc::{AllocError, Global};
@@ -84,9 +82,9 @@ fn message(alloc: Global) -> Result<Entry, AllocError>
 }
 
 /// The journal of a file.
-fn decoded(alloc: Global, octets: &[u8]) -> Result<Journal, JournalFault> {
+fn decoded(alloc: Global, octets: &[u8]) -> Result<Journal, Fault> {
     match decode(alloc, octets) {
-        Err(JournalFault::OutOfMemory) => decode(alloc, octets),
+        Err(Fault::OutOfMemory) => decode(alloc, octets),
         answer => answer,
     }
 }
@@ -136,7 +134,7 @@ static EDITS: [(&[u8], Option<&str>); 3] = [
 ];
 
 /// Whether the last edit of a file's journal has this text.
-fn is_last_edit(alloc: Global, octets: &[u8], text: Option<&str>) -> Result<bool, JournalFault> {
+fn is_last_edit(alloc: Global, octets: &[u8], text: Option<&str>) -> Result<bool, Fault> {
     let journal = decoded(alloc, octets)?;
     Ok(journal.last_edit() == text)
 }
@@ -150,7 +148,7 @@ fn the_last_edit_is_told(rt: HostRuntime) -> Result<(), Fail> {
 }
 
 /// The fault of a file, if it has one.
-fn fault_of(alloc: Global, octets: &[u8]) -> Option<JournalFault> {
+fn fault_of(alloc: Global, octets: &[u8]) -> Option<Fault> {
     decoded(alloc, octets).err()
 }
 
@@ -159,40 +157,40 @@ fn each_front_of_it_is_cut_off(rt: HostRuntime) -> Result<(), Fail> {
     let file = file(rt.alloc())?;
     for count in 0..file.len() {
         let front = file.as_slice().get(..count).ok_or("count")?;
-        assert!(rt; fault_of(rt.alloc(), front) == Some(JournalFault::Truncated));
+        assert!(rt; fault_of(rt.alloc(), front) == Some(Fault::Truncated));
     }
     Ok(())
 }
 
 /// Octets that are no journal file, and the fault.
-static FAULTS: [(&[u8], JournalFault); 10] = [
-    (b"", JournalFault::Truncated),
-    (b"IPM", JournalFault::Truncated),
+static FAULTS: [(&[u8], Fault); 10] = [
+    (b"", Fault::Truncated),
+    (b"IPM", Fault::Truncated),
     (
         b"IPMK\x00\x01\x00\x00\x00\x00\x00\x00\x00\x00",
-        JournalFault::BadMagic,
+        Fault::BadMagic,
     ),
-    (b"IPMK", JournalFault::BadMagic),
-    (b"IPMJ\x00\x02", JournalFault::BadVersion),
+    (b"IPMK", Fault::BadMagic),
+    (b"IPMJ\x00\x02", Fault::BadVersion),
     (
         b"IPMJ\x00\x01\x00\x00\x00\x00\x00\x00\x00\x00\x01",
-        JournalFault::BadEntry,
+        Fault::BadEntry,
     ),
     (
         b"IPMJ\x00\x01\x00\x00\x00\x00\x00\x00\x00\x01\x00",
-        JournalFault::BadEntry,
+        Fault::BadEntry,
     ),
     (
         b"IPMJ\x00\x01\x00\x00\x00\x00\x00\x00\x00\x01\x09",
-        JournalFault::BadEntry,
+        Fault::BadEntry,
     ),
     (
         b"IPMJ\x00\x01\x00\x00\x00\x00\x00\x00\x00\x01\x05\x00\x00\x00\x00\x00\x00\x00\x01\x04Acme",
-        JournalFault::BadEntry,
+        Fault::BadEntry,
     ),
     (
         b"IPMJ\x00\x01\x00\x00\x00\x00\x00\x00\x00\x01\x04\x00\x00\x00\x00\x00\x00\x00\x01\xff",
-        JournalFault::BadEntry,
+        Fault::BadEntry,
     ),
 ];
 
@@ -210,27 +208,23 @@ fn device(alloc: Global, most: usize, calls: usize) -> Result<Device<Narrow>, Al
 }
 
 /// Begins a file of four entries.
-fn start(alloc: Global, device: &mut Device<Narrow>) -> Result<JournalWriter, WriteFault>
+fn start(alloc: Global, device: &mut Device<Narrow>) -> Result<JournalWriter, Fault>
     ensures { IfOk result (λ writer. writer ≡ 4) }
 {
     match JournalWriter::start(alloc, 4, device) {
-        Err(WriteFault::OutOfMemory) => JournalWriter::start(alloc, 4, device),
+        Err(Fault::OutOfMemory) => JournalWriter::start(alloc, 4, device),
         answer => answer,
     }
 }
 
 /// Writes the next entry.
-fn put(
-    writer: &mut JournalWriter,
-    entry: &Entry,
-    device: &mut Device<Narrow>,
-) -> Result<(), WriteFault>
+fn put(writer: &mut JournalWriter, entry: &Entry, device: &mut Device<Narrow>) -> Result<(), Fault>
     requires left { 0 < writer.old }
     requires spelled { IsSpelled entry.now }
     ensures left { OnOk result (writer.new + 1 ≡ writer.old) }
 {
     match writer.put(entry, device) {
-        Err(WriteFault::OutOfMemory) => writer.put(entry, device),
+        Err(Fault::OutOfMemory) => writer.put(entry, device),
         answer => answer,
     }
 }
@@ -242,7 +236,7 @@ fn write_entries(
     subscribe: &Entry,
     message: &Entry,
     device: &mut Device<Narrow>,
-) -> Result<(), WriteFault>
+) -> Result<(), Fault>
     requires edit { IsSpelled edit.now }
     requires subscribe { IsSpelled subscribe.now }
     requires message { IsSpelled message.now }
@@ -255,10 +249,7 @@ fn write_entries(
 }
 
 /// Writes the four entries.
-fn write_all(
-    alloc: Global,
-    device: &mut Device<Narrow>,
-) -> Result<Result<(), WriteFault>, AllocError> {
+fn write_all(alloc: Global, device: &mut Device<Narrow>) -> Result<Result<(), Fault>, AllocError> {
     let edit = edit(alloc)?;
     let subscribe = subscribe(alloc)?;
     let message = message(alloc)?;
@@ -310,7 +301,7 @@ fn expect_stopped(
     sent: usize,
 ) -> Result<(), AllocError> {
     let mut device = device(alloc, most, calls)?;
-    assert!(rt; write_all(alloc, &mut device)? == Err(WriteFault::Write { sent }));
+    assert!(rt; write_all(alloc, &mut device)? == Err(Fault::Write { sent }));
     let file = file(alloc)?;
     let front = file.as_slice().get(..begin.saturating_add(sent));
     assert!(rt; Some(device.into_inner().octets.as_slice()) == front);
@@ -341,7 +332,7 @@ fn reads(
     source: &mut Device<Sparing<'_>>,
     due: &[Entry],
     parts: &mut usize,
-) -> Result<bool, ReadFault> {
+) -> Result<bool, Fault> {
     let mut reader = JournalReader::start(alloc, source)?;
     *parts = 1;
     if reader.left() != due.len() as u64 {
@@ -371,13 +362,13 @@ fn is_told(
     let mut source = source(octets, most, calls);
     let mut parts = 0;
     let answer = reads(alloc, &mut source, due, &mut parts);
-    if answer == Err(ReadFault::File(JournalFault::OutOfMemory)) {
+    if answer == Err(Fault::OutOfMemory) {
         return Err(AllocError);
     }
     let told = if source.has_failed() {
-        answer == Err(ReadFault::Read)
+        answer == Err(Fault::Read)
     } else if octets.len() < 202 {
-        answer == Err(ReadFault::File(JournalFault::Truncated))
+        answer == Err(Fault::Truncated)
     } else {
         answer == Ok(true)
     };

@@ -4,7 +4,7 @@
 use crate::peers::{reach, send, take_all};
 use crate::stage::{Scene, Stage, run, set_up};
 use crate::world::{Left, Time, World};
-use mediator_server::{ListenFault, Plan};
+use mediator_server::{Fault as ListenFault, RunPlan};
 use shared_mediator::Closed;
 use std::alloc::{AllocError, Global};
 use std::net::{Net, Shutdown, SocketAddr, TcpListener, TcpStream};
@@ -116,10 +116,10 @@ fn meet<R: Net<Listener = TcpListener, Stream = TcpStream> + Threads + Wait + Cl
 }
 
 /// The collectors of a plan as notes name them.
-fn names_of(alloc: Global, plan: &Plan) -> Result<Vec<String>, AllocError> {
+fn names_of(alloc: Global, plan: &RunPlan) -> Result<Vec<String>, AllocError> {
     let mut names = Vec::new(alloc);
     for collector in &plan.deliver {
-        let (name, address) = (collector.name.as_str(), collector.address.as_str());
+        let (name, address) = (collector.subscriber.as_str(), collector.address.as_str());
         names.push(format!(in alloc; "{name} {address}")?)?;
     }
     Ok(names)

@@ -2,7 +2,7 @@
 
 use log::Log;
 use mediator_calls::{Limits, Mediator};
-use mediator_server::{Collector, Ended, ListenFault, Plan, listen};
+use mediator_server::{Collector, Ended, Fault as ListenFault, RunPlan, listen};
 use mediator_state::Fault;
 use shared_mediator::Closed;
 use std::alloc::{AllocError, Global};
@@ -40,7 +40,7 @@ pub(crate) const USUAL: Scene = Scene {
 /// A plan, the limits of its mediator, and the doors of its collectors.
 #[derive(Drop)]
 pub(crate) struct Stage {
-    pub(crate) plan: Plan,
+    pub(crate) plan: RunPlan,
     pub(crate) limits: Limits,
     pub(crate) doors: Vec<TcpListener>,
 }
@@ -74,7 +74,7 @@ pub(crate) fn set_up<R: Net<Listener = TcpListener, Stream = TcpStream> + Abort>
     for name in scene.subscribers {
         let door = open_door(rt);
         deliver.push(Collector {
-            name: String::from_str(alloc, *name)?,
+            subscriber: String::from_str(alloc, *name)?,
             address: address_of(rt, alloc, &door)?,
         })?;
         doors.push(door)?;
@@ -86,7 +86,7 @@ pub(crate) fn set_up<R: Net<Listener = TcpListener, Stream = TcpStream> + Abort>
         entries: 100,
         octets: 1_000_000,
     };
-    let plan = Plan {
+    let plan = RunPlan {
         run: 1,
         exporters: free_address(rt, alloc)?,
         admin: free_address(rt, alloc)?,
@@ -119,6 +119,6 @@ pub(crate) fn run<
             let Ended { closed, stopped: _ } = listen(rt, alloc, &stage.plan, mediator)?;
             Ok(closed)
         }
-        Err(_) => Err(ListenFault::Core(Fault::OutOfMemory)),
+        Err(_) => Err(ListenFault::Mediator(Fault::OutOfMemory)),
     }
 }

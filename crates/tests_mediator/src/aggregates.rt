@@ -4,7 +4,7 @@ use crate::octets::{
     FIRST_CLOSED, LATE_FLOW, LATER_CLOSED, LATER_FLOW, MOST_CLOSED, ONE_CLOSED, ONE_CLOSED_NEXT,
     ONE_FLOW, PORTS_CLOSED, SECOND_CLOSED, SHORT_PORTS, THREE_FLOWS, UNEVEN_FLOWS,
 };
-use mediator_state::{Fault, Limits};
+use mediator_core::{Fault, Limits};
 
 /// What goes to each port in five minutes, closed a minute after their end.
 pub(crate) const WEB: &str =
@@ -22,6 +22,8 @@ const ONE_RECORD_WAITS: Limits = Limits {
     queue: 1,
     shapes: 100,
     audit: 100,
+    entries: 1000,
+    octets: 1_000_000,
 };
 
 /// At most one record may wait for a subscription, and three entries in the audit.
@@ -29,6 +31,8 @@ const THREE_ENTRIES_WAIT: Limits = Limits {
     queue: 1,
     shapes: 100,
     audit: 3,
+    entries: 1000,
+    octets: 1_000_000,
 };
 
 /// The ends of the first and the second interval, each with its grace, a millisecond before the first, and the first without
@@ -53,8 +57,6 @@ pub(crate) static AGGREGATES: &[Case] = &[
     Case {
         name: "aggregate_web",
         limits: HUNDRED,
-        entries: 1000,
-        octets: 1_000_000,
         begin: BEGIN_WEB,
         steps: &[
             Step::Accept(1, 0, THREE_FLOWS, 3, 3),
@@ -84,8 +86,6 @@ pub(crate) static AGGREGATES: &[Case] = &[
     Case {
         name: "sums_and_order: the greatest sum, and what doesn't count",
         limits: HUNDRED,
-        entries: 1000,
-        octets: 1_000_000,
         begin: BEGIN_WEB,
         steps: &[
             Step::Accept(1, 0, UNEVEN_FLOWS, 3, 4),
@@ -106,8 +106,6 @@ pub(crate) static AGGREGATES: &[Case] = &[
     Case {
         name: "sums_and_order: by the key, at full width",
         limits: HUNDRED,
-        entries: 1000,
-        octets: 1_000_000,
         begin: BEGIN_WEB,
         steps: &[
             Step::Accept(1, 0, SHORT_PORTS, 3, 2),
@@ -119,8 +117,6 @@ pub(crate) static AGGREGATES: &[Case] = &[
     Case {
         name: "edit_keeps_groups: the aggregate stays",
         limits: HUNDRED,
-        entries: 1000,
-        octets: 1_000_000,
         begin: BEGIN_WEB,
         steps: &[
             Step::Accept(1, 0, ONE_FLOW, 3, 1),
@@ -135,8 +131,6 @@ pub(crate) static AGGREGATES: &[Case] = &[
     Case {
         name: "edit_keeps_groups: the aggregate goes",
         limits: HUNDRED,
-        entries: 1000,
-        octets: 1_000_000,
         begin: BEGIN_WEB,
         steps: &[
             Step::Accept(1, 0, ONE_FLOW, 3, 1),
@@ -152,8 +146,6 @@ pub(crate) static AGGREGATES: &[Case] = &[
     Case {
         name: "changed_grace",
         limits: HUNDRED,
-        entries: 1000,
-        octets: 1_000_000,
         begin: BEGIN_WEB,
         steps: &[
             Step::Accept(1, 0, ONE_FLOW, 3, 1),
@@ -170,8 +162,6 @@ pub(crate) static AGGREGATES: &[Case] = &[
     Case {
         name: "aggregate_cut",
         limits: ONE_RECORD_WAITS,
-        entries: 1000,
-        octets: 1_000_000,
         begin: BEGIN_WEB,
         steps: &[
             Step::Accept(1, 0, THREE_FLOWS, 3, 3),
@@ -197,8 +187,6 @@ pub(crate) static AGGREGATES: &[Case] = &[
     Case {
         name: "aggregate_unsubscribed",
         limits: HUNDRED,
-        entries: 1000,
-        octets: 1_000_000,
         begin: BEGIN_WEB,
         steps: &[
             Step::Accept(1, 0, ONE_FLOW, 3, 1),
@@ -212,9 +200,10 @@ pub(crate) static AGGREGATES: &[Case] = &[
     // The clock stays where it was: an earlier advance, which closes one record, has room.
     Case {
         name: "full_limits: no room for the cut of an advance",
-        limits: ONE_RECORD_WAITS,
-        entries: 5,
-        octets: 1_000_000,
+        limits: Limits {
+            entries: 5,
+            ..ONE_RECORD_WAITS
+        },
         begin: BEGIN_WEB,
         steps: &[
             Step::Accept(1, 0, THREE_FLOWS, 3, 3),
@@ -227,8 +216,6 @@ pub(crate) static AGGREGATES: &[Case] = &[
     Case {
         name: "full_limits: the audit and the cut of an advance",
         limits: THREE_ENTRIES_WAIT,
-        entries: 1000,
-        octets: 1_000_000,
         begin: BEGIN_WEB,
         steps: &[
             Step::Accept(1, 0, THREE_FLOWS, 3, 3),

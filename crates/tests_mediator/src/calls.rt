@@ -5,13 +5,14 @@ ghost use Rattle.mediator_state.specs.Calls.{StandsForSome};
 use bytes::Bytes;
 use disclosure_audit::AuditEntry;
 use event_journal::Chronicle;
+use mediator_calls::{SessionId, SubId};
 use mediator_state::{Fault, Receipt, State};
 use std::alloc::{AllocError, Global};
 
 /// The Export Time of what is pulled.
 pub(crate) const NOW: u32 = 0x6553_f13c;
 
-pub(crate) fn open<C: Chronicle + Drop>(state: &mut State<C>) -> Result<u64, Fault>
+pub(crate) fn open<C: Chronicle + Drop>(state: &mut State<C>) -> Result<SessionId, Fault>
     requires stands { StandsForSome C.tells state.old }
     ensures stands { StandsForSome C.tells state.new }
 {
@@ -21,7 +22,10 @@ pub(crate) fn open<C: Chronicle + Drop>(state: &mut State<C>) -> Result<u64, Fau
     }
 }
 
-pub(crate) fn close<C: Chronicle + Drop>(state: &mut State<C>, session: u64) -> Result<(), Fault>
+pub(crate) fn close<C: Chronicle + Drop>(
+    state: &mut State<C>,
+    session: SessionId,
+) -> Result<(), Fault>
     requires stands { StandsForSome C.tells state.old }
     ensures stands { StandsForSome C.tells state.new }
 {
@@ -35,7 +39,7 @@ pub(crate) fn close<C: Chronicle + Drop>(state: &mut State<C>, session: u64) -> 
 pub(crate) fn receive<C: Chronicle + Drop>(
     alloc: Global,
     state: &mut State<C>,
-    session: u64,
+    session: SessionId,
     number: u64,
     octets: &[u8],
 ) -> Result<Receipt, Fault>
@@ -65,7 +69,10 @@ pub(crate) fn edit<C: Chronicle + Drop>(state: &mut State<C>, text: &str) -> Res
     }
 }
 
-pub(crate) fn subscribe<C: Chronicle + Drop>(state: &mut State<C>, name: &str) -> Result<u64, Fault>
+pub(crate) fn subscribe<C: Chronicle + Drop>(
+    state: &mut State<C>,
+    name: &str,
+) -> Result<SubId, Fault>
     requires stands { StandsForSome C.tells state.old }
     ensures stands { StandsForSome C.tells state.new }
 {
@@ -75,7 +82,10 @@ pub(crate) fn subscribe<C: Chronicle + Drop>(state: &mut State<C>, name: &str) -
     }
 }
 
-pub(crate) fn unsubscribe<C: Chronicle + Drop>(state: &mut State<C>, sub: u64) -> Result<(), Fault>
+pub(crate) fn unsubscribe<C: Chronicle + Drop>(
+    state: &mut State<C>,
+    sub: SubId,
+) -> Result<(), Fault>
     requires stands { StandsForSome C.tells state.old }
     ensures stands { StandsForSome C.tells state.new }
 {
@@ -97,7 +107,7 @@ pub(crate) fn advance<C: Chronicle + Drop>(state: &mut State<C>, t: u64) -> Resu
 
 pub(crate) fn pull<C: Chronicle + Drop>(
     state: &mut State<C>,
-    sub: u64,
+    sub: SubId,
     target: u16,
 ) -> Result<Option<Bytes>, Fault>
     requires stands { StandsForSome C.tells state.old }

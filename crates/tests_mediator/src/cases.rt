@@ -1,4 +1,4 @@
-//! The worked cases. A row of them is a state's limits, the calls, and what each must answer. Those of aggregates stand in
+//! The worked cases. A row of them is the limits, the calls, and what each must answer. Those of aggregates stand in
 //! `aggregates`.
 use crate::octets::{
     DISCLOSED, EMPTY, FIRST_ALONE, LENGTH_FIFTEEN, LONG_NAME, NAMES, NEXT_RECORD, NEXT_THREE,
@@ -6,10 +6,10 @@ use crate::octets::{
     SHORT_HEADER, SHORT_SET, SHORT_TEMPLATE, TEMPLATE_ALONE, THIRD_RECORD, THREE_RECORDS,
     TWO_DISCLOSED, TWO_RECORDS, VERSION_NINE, WITHDRAWN,
 };
-use ipfix_message::DecodeError;
-use ipfix_session::{Gap, ReadError, Skips};
-use mediator_state::{Fault, Limits, Receipt};
-use policy_text::{FaultKind, PolicyFault};
+use ipfix_message::Fault as DecodeError;
+use ipfix_session::{Fault as ReadError, Gap, Skips};
+use mediator_core::{Fault, Limits, Receipt};
+use policy_text::{Fault as PolicyFault, FaultKind};
 
 /// A call, and what it must answer.
 pub(crate) enum Step {
@@ -40,9 +40,6 @@ pub(crate) enum Step {
 pub(crate) struct Case {
     pub(crate) name: &'static str,
     pub(crate) limits: Limits,
-    /// The most entries and octets of the history.
-    pub(crate) entries: u64,
-    pub(crate) octets: u64,
     /// What comes first, and then the case.
     pub(crate) begin: &'static [Step],
     pub(crate) steps: &'static [Step],
@@ -62,12 +59,16 @@ pub(crate) const HUNDRED: Limits = Limits {
     queue: 100,
     shapes: 100,
     audit: 100,
+    entries: 1000,
+    octets: 1_000_000,
 };
 
 const ONE_SHAPE: Limits = Limits {
     queue: 100,
     shapes: 1,
     audit: 100,
+    entries: 1000,
+    octets: 1_000_000,
 };
 
 /// At most three records may wait for a subscription.
@@ -75,18 +76,24 @@ const THREE_RECORDS_WAIT: Limits = Limits {
     queue: 3,
     shapes: 100,
     audit: 100,
+    entries: 1000,
+    octets: 1_000_000,
 };
 
 const TWO_RECORDS_WAIT: Limits = Limits {
     queue: 2,
     shapes: 100,
     audit: 100,
+    entries: 1000,
+    octets: 1_000_000,
 };
 
 const NO_RECORD_WAITS: Limits = Limits {
     queue: 0,
     shapes: 100,
     audit: 100,
+    entries: 1000,
+    octets: 1_000_000,
 };
 
 /// At most one entry may wait in the audit.
@@ -94,12 +101,16 @@ const ONE_ENTRY_WAITS: Limits = Limits {
     queue: 100,
     shapes: 100,
     audit: 1,
+    entries: 1000,
+    octets: 1_000_000,
 };
 
 const TWO_ENTRIES_WAIT: Limits = Limits {
     queue: 100,
     shapes: 100,
     audit: 2,
+    entries: 1000,
+    octets: 1_000_000,
 };
 
 const NO_SKIPS: Skips = Skips {
@@ -196,8 +207,6 @@ pub(crate) static CASES: &[Case] = &[
     Case {
         name: "one_record",
         limits: HUNDRED,
-        entries: 1000,
-        octets: 1_000_000,
         begin: BEGIN,
         steps: &[
             Step::Served(1, 0, 0, 0),
@@ -212,8 +221,6 @@ pub(crate) static CASES: &[Case] = &[
     Case {
         name: "empty_message",
         limits: HUNDRED,
-        entries: 1000,
-        octets: 1_000_000,
         begin: BEGIN,
         steps: &[
             Step::Accept(1, 0, EMPTY, 3, 0),
@@ -224,8 +231,6 @@ pub(crate) static CASES: &[Case] = &[
     Case {
         name: "malformed_messages",
         limits: HUNDRED,
-        entries: 1000,
-        octets: 1_000_000,
         begin: BEGIN,
         steps: &[
             Step::Receive(1, 0, LENGTH_FIFTEEN, Err(BAD_LENGTH)),
@@ -242,8 +247,6 @@ pub(crate) static CASES: &[Case] = &[
     Case {
         name: "record_overrun",
         limits: HUNDRED,
-        entries: 1000,
-        octets: 1_000_000,
         begin: BEGIN,
         steps: &[
             Step::Accept(1, 0, NAMES, 3, 0),
@@ -256,8 +259,6 @@ pub(crate) static CASES: &[Case] = &[
     Case {
         name: "edit_between_messages",
         limits: HUNDRED,
-        entries: 1000,
-        octets: 1_000_000,
         begin: BEGIN,
         steps: &[
             Step::Accept(1, 0, ONE_RECORD, 3, 1),
@@ -271,17 +272,16 @@ pub(crate) static CASES: &[Case] = &[
     Case {
         name: "full_queue",
         limits: THREE_RECORDS_WAIT,
-        entries: 1000,
-        octets: 1_000_000,
         begin: BEGIN_TWO,
         steps: ONE_IS_CUT,
     },
     // With an entry less than the cut and the message take, nothing happens: to beta neither.
     Case {
         name: "full_queue: room for the cut alone",
-        limits: THREE_RECORDS_WAIT,
-        entries: 6,
-        octets: 1_000_000,
+        limits: Limits {
+            entries: 6,
+            ..THREE_RECORDS_WAIT
+        },
         begin: BEGIN_TWO,
         steps: &[
             Step::Accept(1, 0, ONE_RECORD, 4, 1),
@@ -295,9 +295,10 @@ pub(crate) static CASES: &[Case] = &[
     },
     Case {
         name: "full_queue: room for the cut and the message",
-        limits: THREE_RECORDS_WAIT,
-        entries: 7,
-        octets: 1_000_000,
+        limits: Limits {
+            entries: 7,
+            ..THREE_RECORDS_WAIT
+        },
         begin: BEGIN_TWO,
         steps: ONE_IS_CUT,
     },
@@ -305,8 +306,6 @@ pub(crate) static CASES: &[Case] = &[
     Case {
         name: "full_queue: at its limit",
         limits: TWO_RECORDS_WAIT,
-        entries: 1000,
-        octets: 1_000_000,
         begin: BEGIN,
         steps: &[
             Step::Accept(1, 0, TWO_RECORDS, 3, 2),
@@ -331,8 +330,6 @@ pub(crate) static CASES: &[Case] = &[
     Case {
         name: "small_target",
         limits: HUNDRED,
-        entries: 1000,
-        octets: 1_000_000,
         begin: BEGIN,
         steps: &[
             Step::Accept(1, 0, TWO_RECORDS, 3, 2),
@@ -347,8 +344,6 @@ pub(crate) static CASES: &[Case] = &[
     Case {
         name: "named_refusals",
         limits: HUNDRED,
-        entries: 1000,
-        octets: 1_000_000,
         begin: BEGIN,
         steps: &[
             Step::Advance(1000, Ok(())),
@@ -371,9 +366,10 @@ pub(crate) static CASES: &[Case] = &[
     // The first four entries count for 188 octets. With no room left, a call's own refusals still come first.
     Case {
         name: "full_limits: entries",
-        limits: HUNDRED,
-        entries: 4,
-        octets: 1_000_000,
+        limits: Limits {
+            entries: 4,
+            ..HUNDRED
+        },
         begin: BEGIN,
         steps: &[
             Step::Accept(1, 0, ONE_RECORD, 3, 1),
@@ -394,9 +390,10 @@ pub(crate) static CASES: &[Case] = &[
     },
     Case {
         name: "full_limits: as many octets",
-        limits: HUNDRED,
-        entries: 1000,
-        octets: 188,
+        limits: Limits {
+            octets: 188,
+            ..HUNDRED
+        },
         begin: BEGIN,
         steps: &[
             Step::Accept(1, 0, ONE_RECORD, 3, 1),
@@ -406,9 +403,10 @@ pub(crate) static CASES: &[Case] = &[
     },
     Case {
         name: "full_limits: an octet less",
-        limits: HUNDRED,
-        entries: 1000,
-        octets: 187,
+        limits: Limits {
+            octets: 187,
+            ..HUNDRED
+        },
         begin: BEGIN,
         steps: &[
             Step::Receive(1, 0, ONE_RECORD, Err(Fault::JournalFull)),
@@ -419,9 +417,10 @@ pub(crate) static CASES: &[Case] = &[
     // A cut wants an entry too.
     Case {
         name: "full_limits: no room for a cut",
-        limits: NO_RECORD_WAITS,
-        entries: 4,
-        octets: 1_000_000,
+        limits: Limits {
+            entries: 4,
+            ..NO_RECORD_WAITS
+        },
         begin: BEGIN,
         steps: &[
             Step::Receive(1, 0, ONE_RECORD, Err(Fault::JournalFull)),
@@ -431,9 +430,10 @@ pub(crate) static CASES: &[Case] = &[
     },
     Case {
         name: "full_limits: room for a cut",
-        limits: NO_RECORD_WAITS,
-        entries: 5,
-        octets: 1_000_000,
+        limits: Limits {
+            entries: 5,
+            ..NO_RECORD_WAITS
+        },
         begin: BEGIN,
         steps: &[
             Step::Receive(
@@ -454,8 +454,6 @@ pub(crate) static CASES: &[Case] = &[
     Case {
         name: "full_limits: the audit",
         limits: ONE_ENTRY_WAITS,
-        entries: 1000,
-        octets: 1_000_000,
         begin: BEGIN_UNEDITED,
         steps: &[
             Step::Receive(
@@ -479,9 +477,10 @@ pub(crate) static CASES: &[Case] = &[
     // Without room in the journal, a full audit isn't asked about; and a drain that hands out nothing makes no room.
     Case {
         name: "full_limits: the journal before the audit",
-        limits: ONE_ENTRY_WAITS,
-        entries: 3,
-        octets: 1_000_000,
+        limits: Limits {
+            entries: 3,
+            ..ONE_ENTRY_WAITS
+        },
         begin: BEGIN_WITHOUT_RULES,
         steps: &[
             Step::Receive(1, 0, TWO_RECORDS, Err(Fault::JournalFull)),
@@ -491,9 +490,10 @@ pub(crate) static CASES: &[Case] = &[
     },
     Case {
         name: "full_limits: the audit, behind a drain of nothing too",
-        limits: ONE_ENTRY_WAITS,
-        entries: 4,
-        octets: 1_000_000,
+        limits: Limits {
+            entries: 4,
+            ..ONE_ENTRY_WAITS
+        },
         begin: BEGIN_WITHOUT_RULES,
         steps: &[
             Step::Receive(
@@ -516,8 +516,6 @@ pub(crate) static CASES: &[Case] = &[
     Case {
         name: "full_limits: the oldest entries first",
         limits: TWO_ENTRIES_WAIT,
-        entries: 1000,
-        octets: 1_000_000,
         begin: BEGIN_UNEDITED,
         steps: &[
             Step::Accept(1, 0, TWO_RECORDS, 2, 2),
@@ -530,8 +528,6 @@ pub(crate) static CASES: &[Case] = &[
     Case {
         name: "sequence_gap",
         limits: HUNDRED,
-        entries: 1000,
-        octets: 1_000_000,
         begin: BEGIN,
         steps: &[
             Step::Accept(1, 0, ONE_RECORD, 3, 1),
@@ -555,8 +551,6 @@ pub(crate) static CASES: &[Case] = &[
     Case {
         name: "closed_session",
         limits: HUNDRED,
-        entries: 1000,
-        octets: 1_000_000,
         begin: BEGIN,
         steps: &[
             Step::Accept(1, 0, ONE_RECORD, 3, 1),
@@ -570,8 +564,6 @@ pub(crate) static CASES: &[Case] = &[
     Case {
         name: "shapes_limit",
         limits: ONE_SHAPE,
-        entries: 1000,
-        octets: 1_000_000,
         begin: BEGIN,
         steps: &[
             Step::Receive(
@@ -599,8 +591,6 @@ pub(crate) static CASES: &[Case] = &[
     Case {
         name: "isolation: acme alone",
         limits: HUNDRED,
-        entries: 1000,
-        octets: 1_000_000,
         begin: &[
             Step::Edit(NOT_EIGHT, Ok(1)),
             Step::Subscribe("acme", Ok(1)),
@@ -614,8 +604,6 @@ pub(crate) static CASES: &[Case] = &[
     Case {
         name: "isolation: beside beta",
         limits: HUNDRED,
-        entries: 1000,
-        octets: 1_000_000,
         begin: &[
             Step::Edit(NOT_EIGHT, Ok(1)),
             Step::Subscribe("acme", Ok(1)),
@@ -634,8 +622,6 @@ pub(crate) static CASES: &[Case] = &[
     Case {
         name: "session_end",
         limits: HUNDRED,
-        entries: 1000,
-        octets: 1_000_000,
         begin: BEGIN,
         steps: &[
             Step::Accept(1, 0, ONE_RECORD, 3, 1),
@@ -657,8 +643,6 @@ pub(crate) static CASES: &[Case] = &[
     Case {
         name: "two_sessions",
         limits: HUNDRED,
-        entries: 1000,
-        octets: 1_000_000,
         begin: BEGIN,
         steps: &[
             Step::Open(Ok(2)),

@@ -1,4 +1,4 @@
-//! Tests of the mediator's state over a journal and over a tally, side by side, and of a mediator's run. Nothing else is here,
+//! Tests of the mediator's state over a journal and over its sizes alone, side by side, and of a mediator's run. Nothing else is here,
 //! and no crate stands on it.
 //!
 //! - `cases`, `aggregates`: the calls of each worked case, with what they must answer; `octets`: the messages in them.

@@ -3,13 +3,13 @@
 use crate::calls::{NOW, copy};
 use bytes::Bytes;
 use disclosure_audit::AuditEntry;
-use mediator_core::{Fault, Limits, Mediator, Receipt, RunFault, SessionId, SubId};
-use prepared_message::{PrepareFault, Prepared, Snapshot};
+use mediator_core::{Fault, Limits, Mediator, Receipt, SessionId, SubId};
+use prepared_message::{Fault as PrepareFault, Prepared, Snapshot};
 use std::alloc::{AllocError, Global};
 
-pub(crate) fn begin(alloc: Global, limits: Limits) -> Result<Mediator, RunFault> {
+pub(crate) fn begin(alloc: Global, limits: Limits) -> Result<Mediator, Fault> {
     match Mediator::new(alloc, limits) {
-        Err(RunFault::OutOfMemory) => Mediator::new(alloc, limits),
+        Err(Fault::OutOfMemory) => Mediator::new(alloc, limits),
         answer => answer,
     }
 }

@@ -3,9 +3,7 @@ use crate::aggregates::AGGREGATES;
 use crate::cases::{CASES, Case, Step};
 use crate::worked::{are_lines, is_message, plain, status};
 use bytes::Bytes;
-use mediator_core::{
-    Call, Fault, Limits, Receipt, Reply, RunFault, SessionId, SubId, Transcript, run,
-};
+use mediator_core::{Call, Fault, Receipt, Reply, SessionId, SubId, Transcript, run};
 use std::alloc::{AllocError, Global};
 use std::process::Abort;
 use std::test::Fail;
@@ -130,19 +128,9 @@ fn calls_of(alloc: Global, case: &Case) -> Result<Vec<Call>, AllocError> {
     Ok(calls)
 }
 
-fn limits_of(case: &Case) -> Limits {
-    Limits {
-        queue: case.limits.queue,
-        shapes: case.limits.shapes,
-        audit: case.limits.audit,
-        entries: case.entries,
-        octets: case.octets,
-    }
-}
-
 /// A run of a case's calls.
-fn run_case(alloc: Global, case: &Case) -> Result<Transcript, RunFault> {
-    run(alloc, limits_of(case), calls_of(alloc, case)?)
+fn run_case(alloc: Global, case: &Case) -> Result<Transcript, Fault> {
+    run(alloc, case.limits, calls_of(alloc, case)?)
 }
 
 /// Whether memory was refused to a call.
@@ -151,7 +139,7 @@ fn wanted_memory(transcript: &Transcript) -> bool {
 }
 
 /// A run of a case's calls, made again where memory is refused.
-fn run_again(alloc: Global, case: &Case) -> Result<Transcript, RunFault> {
+fn run_again(alloc: Global, case: &Case) -> Result<Transcript, Fault> {
     match run_case(alloc, case) {
         Ok(transcript) if !wanted_memory(&transcript) => Ok(transcript),
         _ => run_case(alloc, case),
@@ -181,11 +169,12 @@ fn expect_case(rt: &impl Abort, alloc: Global, case: &Case) -> Result<(), AllocE
             assert!(rt; transcript.replies.len() == count, "{}", case.name);
             expect_replies(rt, alloc, case, &transcript.replies)
         }
-        Err(RunFault::BadLimits) => {
+        Err(Fault::OutOfMemory) => Err(AllocError),
+        Err(fault) => {
+            assert!(rt; fault == Fault::BadLimits, "{}", case.name);
             assert!(rt; case.limits.queue == 0, "{}", case.name);
             Ok(())
         }
-        Err(RunFault::OutOfMemory) => Err(AllocError),
     }
 }
 

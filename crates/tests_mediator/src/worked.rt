@@ -1,4 +1,4 @@
-//! The worked cases, carried out over a journal and over a tally: each call answers the same over both.
+//! The worked cases, carried out over a journal and over its sizes alone: each call answers the same over both.
 ghost use Rattle.std.specs.Prelude.{[], IfOk};
 ghost use Rattle.mediator_state.specs.Calls.{StandsForSome};
 
@@ -7,12 +7,15 @@ use crate::calls;
 use crate::cases::{CASES, Case, Step};
 use bytes::Bytes;
 use disclosure_audit::{AuditEntry, line};
-use event_journal::{Chronicle, Journal, MOST_ENTRIES, MOST_OCTETS, Tally};
+use event_journal::{Chronicle, Journal, JournalSizes, MOST_ENTRIES, MOST_OCTETS};
 use ipfix_session::Skips;
-use mediator_state::{Fault, Limits, Receipt, State, Status};
+use mediator_calls::{SessionId, SubId};
+use mediator_core::Limits;
+use mediator_state::{Fault, Receipt, State, Status};
 use std::alloc::{AllocError, Global};
 use std::process::Abort;
 use std::test::Fail;
+use subscriber_stream::StreamLimits;
 
 /// A state over a chronicle of no entry.
 fn begin<C: Chronicle + Drop>(
@@ -28,7 +31,11 @@ fn begin<C: Chronicle + Drop>(
     assert!(rt; limits.shapes <= 65_280);
     assert!(rt; 1 <= limits.audit);
     assert!(rt; limits.audit <= 10_000_000);
-    State::new(alloc, limits, chronicle)
+    let streams = StreamLimits {
+        queue: limits.queue,
+        shapes: limits.shapes,
+    };
+    State::new(alloc, streams, limits.audit, chronicle)
 }
 
 /// Whether a message is the one that is wanted, or both are none.
@@ -94,6 +101,22 @@ pub(crate) fn status(queued: u32, handed: u64, shapes: u32, cut: bool) -> Option
     })
 }
 
+/// Whether an answer is this number of a session, or this fault.
+fn is_opened(answer: Result<SessionId, Fault>, due: &Result<u64, Fault>) -> bool {
+    match answer {
+        Ok(session) => *due == Ok(session.0),
+        Err(fault) => *due == Err(fault),
+    }
+}
+
+/// Whether an answer is this number of a subscription, or this fault.
+fn is_subscribed(answer: Result<SubId, Fault>, due: &Result<u64, Fault>) -> bool {
+    match answer {
+        Ok(sub) => *due == Ok(sub.0),
+        Err(fault) => *due == Err(fault),
+    }
+}
+
 /// Whether a call answers what is wanted.
 fn answers<C: Chronicle + Drop>(
     alloc: Global,
@@ -104,27 +127,27 @@ fn answers<C: Chronicle + Drop>(
     ensures stands { StandsForSome C.tells state.new }
 {
     match step {
-        Step::Open(due) => Ok(calls::open(state) == *due),
-        Step::Close(session, due) => Ok(calls::close(state, *session) == *due),
+        Step::Open(due) => Ok(is_opened(calls::open(state), due)),
+        Step::Close(session, due) => Ok(calls::close(state, SessionId(*session)) == *due),
         Step::Accept(session, number, octets, position, records) => {
             let due = Ok(plain(*position, *records));
-            Ok(calls::receive(alloc, state, *session, *number, octets) == due)
+            Ok(calls::receive(alloc, state, SessionId(*session), *number, octets) == due)
         }
         Step::Receive(session, number, octets, due) => {
-            Ok(calls::receive(alloc, state, *session, *number, octets) == *due)
+            Ok(calls::receive(alloc, state, SessionId(*session), *number, octets) == *due)
         }
         Step::Edit(text, due) => Ok(calls::edit(state, text) == *due),
-        Step::Subscribe(name, due) => Ok(calls::subscribe(state, name) == *due),
-        Step::Unsubscribe(sub, due) => Ok(calls::unsubscribe(state, *sub) == *due),
+        Step::Subscribe(name, due) => Ok(is_subscribed(calls::subscribe(state, name), due)),
+        Step::Unsubscribe(sub, due) => Ok(calls::unsubscribe(state, SubId(*sub)) == *due),
         Step::Advance(t, due) => Ok(calls::advance(state, *t) == *due),
-        Step::Pull(sub, target, due) => Ok(is_pull(&calls::pull(state, *sub, *target), due)),
+        Step::Pull(sub, target, due) => Ok(is_pull(&calls::pull(state, SubId(*sub), *target), due)),
         Step::Served(sub, queued, handed, shapes) => {
-            Ok(state.status(*sub) == status(*queued, *handed, *shapes, false))
+            Ok(state.status(SubId(*sub)) == status(*queued, *handed, *shapes, false))
         }
         Step::WasCut(sub, queued, handed, shapes) => {
-            Ok(state.status(*sub) == status(*queued, *handed, *shapes, true))
+            Ok(state.status(SubId(*sub)) == status(*queued, *handed, *shapes, true))
         }
-        Step::Gone(sub) => Ok(state.status(*sub).is_none()),
+        Step::Gone(sub) => Ok(state.status(SubId(*sub)).is_none()),
         Step::Audit(most, due) => are_lines(alloc, &calls::drain_audit(state, *most)?, due),
     }
 }
@@ -167,9 +190,9 @@ fn expect_case<C: Chronicle + Drop>(
     expect_steps(rt, alloc, case.name, &mut state, case.steps)
 }
 
-/// That a case's calls answer what is wanted over a journal, and over a tally.
+/// That a case's calls answer what is wanted over a journal, and over its sizes alone.
 fn expect_both(rt: &impl Abort, alloc: Global, case: &Case) -> Result<(), AllocError> {
-    let (entries, octets) = (case.entries, case.octets);
+    let (entries, octets) = (case.limits.entries, case.limits.octets);
     assert!(rt; 1 <= entries);
     assert!(rt; entries <= MOST_ENTRIES);
     assert!(rt; 1 <= octets);
@@ -185,8 +208,8 @@ fn expect_both(rt: &impl Abort, alloc: Global, case: &Case) -> Result<(), AllocE
         rt,
         alloc,
         case,
-        Tally::new(entries, octets),
-        Tally::new(entries, octets),
+        JournalSizes::new(entries, octets),
+        JournalSizes::new(entries, octets),
     )
 }
 

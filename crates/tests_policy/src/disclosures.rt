@@ -216,7 +216,7 @@ fn is_record(kept: &Record, due: &Record) -> bool {
 }
 
 /// Whether what is disclosed is what is to be.
-fn is_wanted(alloc: Global, case: &Case, found: &Disclosure) -> Result<bool, Fail> {
+fn is_wanted(alloc: Global, case: &Case, found: &Disclosure<Record>) -> Result<bool, Fail> {
     Ok(match (found, &case.wanted) {
         (Disclosure::Passed { kept, removed }, Wanted::Passed(fields, gone)) => {
             let due = built(alloc, fields, case.scope)?;

@@ -1,7 +1,7 @@
 //! Many groups, which one advance of the clock closes; and many messages that are refused, which leave none.
 use ipfix_session::Session;
 use mediator_shares::{InForce, Shares};
-use mediator_tables::{RunningGroups, Served, Tally};
+use mediator_tables::{RunningGroups, Served, SubId, Tally};
 use policy_text::Policy;
 use std::alloc::{AllocError, Global};
 use std::process::Abort;
@@ -65,12 +65,12 @@ fn one_advance_closes_a_hundred_thousand_groups(rt: HostRuntime) -> Result<(), F
         let message = message(rt.alloc(), minute)?;
         add_all(&mut groups, shared(rt.alloc(), &mut in_force, &message)?)?;
     }
-    assert_eq!(rt; groups.closing(1, 64_999)?.len(), 0);
-    assert_eq!(rt; groups.closing(1, 965_000)?.len(), 100_000);
+    assert_eq!(rt; groups.closing(SubId(1), 64_999)?.len(), 0);
+    assert_eq!(rt; groups.closing(SubId(1), 965_000)?.len(), 100_000);
     groups.close(905_000);
-    assert_eq!(rt; groups.closing(1, 965_000)?.len(), 6250);
-    groups.remove(1);
-    assert_eq!(rt; groups.closing(1, 965_000)?.len(), 0);
+    assert_eq!(rt; groups.closing(SubId(1), 965_000)?.len(), 6250);
+    groups.remove(SubId(1));
+    assert_eq!(rt; groups.closing(SubId(1), 965_000)?.len(), 0);
     Ok(())
 }
 
@@ -116,9 +116,9 @@ fn a_hundred_thousand_refused_messages_leave_no_group(rt: HostRuntime) -> Result
         )?;
     }
     // That of the last one goes with the next.
-    assert_eq!(rt; groups.len(1), 1);
+    assert_eq!(rt; groups.len(SubId(1)), 1);
     groups.release();
-    assert_eq!(rt; groups.len(1), 0);
+    assert_eq!(rt; groups.len(SubId(1)), 0);
     Ok(())
 }
 
@@ -130,9 +130,9 @@ fn what_was_refused_is_dropped_and_what_was_added_stays(rt: HostRuntime) -> Resu
     add_all(&mut groups, shared(rt.alloc(), &mut in_force, &accepted)?)?;
     let refused = message(rt.alloc(), 8)?;
     refuse_all(&mut groups, shared(rt.alloc(), &mut in_force, &refused)?)?;
-    assert_eq!(rt; groups.len(1), 12_500);
+    assert_eq!(rt; groups.len(SubId(1)), 12_500);
     groups.close(0);
-    assert_eq!(rt; groups.len(1), 6250);
-    assert_eq!(rt; groups.closing(1, 545_000)?.len(), 6250);
+    assert_eq!(rt; groups.len(SubId(1)), 6250);
+    assert_eq!(rt; groups.closing(SubId(1), 545_000)?.len(), 6250);
     Ok(())
 }

@@ -1,5 +1,5 @@
 //! Texts from outside and what they are: the fault of each, or what it prints; and printed texts of faults.
-use policy_text::{FaultKind, Policy, PolicyFault, Version, is_name};
+use policy_text::{Fault as PolicyFault, FaultKind, Policy, Version, is_name};
 use std::fmt::Write;
 use std::test::Fail;
 

@@ -1,5 +1,5 @@
 //! Worked cases, and texts at the edges of the grammar.
-use flow_prefix::{Prefix, PrefixFault, keep_bits};
+use flow_prefix::{Fault as PrefixFault, Prefix, keep_bits};
 use std::test::Fail;
 
 /// Octets, and what is left where so many bits are kept.

@@ -3,7 +3,7 @@ use crate::groups::add_all;
 use ipfix_session::Session;
 use ipfix_template::Record;
 use mediator_shares::{InForce, Shares};
-use mediator_tables::{RunningGroups, Served};
+use mediator_tables::{RunningGroups, Served, SubId};
 use policy_text::Policy;
 use std::alloc::{AllocError, Global};
 use std::process::Abort;
@@ -109,7 +109,7 @@ fn a_plain_list_added_up(rt: HostRuntime) -> Result<(), Fail> {
     let list = flows(rt.alloc())?;
     let groups = counted(rt.alloc(), &list)?;
     let mut got = Vec::new(rt.alloc());
-    let records = groups.closing(1, 185_000)?.to_vec(rt.alloc())?;
+    let records = groups.closing(SubId(1), 185_000)?.to_vec(rt.alloc())?;
     for closed in &records {
         put_record(&mut got, closed)?;
     }

@@ -4,7 +4,7 @@ use crate::groups::add_all;
 use crate::tables::read_policy;
 use ipfix_session::Session;
 use mediator_shares::{InForce, Shares};
-use mediator_tables::{RunningGroups, Served};
+use mediator_tables::{RunningGroups, Served, SubId};
 use std::alloc::Global;
 use std::process::Abort;
 use std::test::Fail;
@@ -191,7 +191,7 @@ fn closing(alloc: Global, message: &[u8], time: u64) -> Result<Vec<u8>, Fail> {
     let mut groups = RunningGroups::new(alloc);
     add_all(&mut groups, shared(alloc, message)?)?;
     let mut octets = Vec::new(alloc);
-    for closed in &groups.closing(1, time)?.to_vec(alloc)? {
+    for closed in &groups.closing(SubId(1), time)?.to_vec(alloc)? {
         for (_, value) in closed.entries() {
             octets.extend_from_slice(value)?;
         }

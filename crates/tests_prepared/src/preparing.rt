@@ -3,8 +3,8 @@
 use bytes::Bytes;
 use ipfix_session::{Read, Session};
 use mediator_shares::{InForce, Terms};
-use prepared_message::{ApplyFault, PrepareFault, Prepared, Snapshot};
-use std::alloc::Global;
+use prepared_message::{Fault as PrepareFault, Prepared, Snapshot};
+use std::alloc::{AllocError, Global};
 use std::fmt::Display;
 use std::sync::Arc;
 use std::test::Fail;
@@ -52,22 +52,22 @@ fn prepared(session: &mut Session, octets: &'static [u8]) -> Result<Prepared, Pr
 }
 
 /// What a session answers to a prepared message.
-fn taken(message: &Prepared, session: &mut Session) -> Result<Read, ApplyFault> {
+fn taken(message: &Prepared, session: &mut Session) -> Result<Option<Read>, AllocError> {
     match message.apply_to(session) {
-        Err(ApplyFault::OutOfMemory) => message.apply_to(session),
+        Err(AllocError) => message.apply_to(session),
         answer => answer,
     }
 }
 
 fn is_stale(message: &Prepared, session: &mut Session) -> bool {
-    matches!(taken(message, session), Err(ApplyFault::Stale))
+    matches!(taken(message, session), Ok(None))
 }
 
 /// Whether a session takes in so many records, where so many Data Sets are skipped for want of a template.
 fn gives(message: &Prepared, session: &mut Session, records: usize, unknown: u64) -> bool {
     match taken(message, session) {
-        Ok(read) => read.records.len() == records && read.skips.unknown == unknown,
-        Err(_) => false,
+        Ok(Some(read)) => read.records.len() == records && read.skips.unknown == unknown,
+        Ok(None) | Err(_) => false,
     }
 }
 
@@ -170,8 +170,6 @@ fn texts(rt: HostRuntime) {
     assert!(rt; is_shown(rt.alloc(), &PrepareFault::HasTemplates, "HasTemplates"));
     assert!(rt; is_shown(rt.alloc(), &PrepareFault::Malformed, "Malformed"));
     assert!(rt; is_shown(rt.alloc(), &PrepareFault::OutOfMemory, "OutOfMemory"));
-    assert!(rt; is_shown(rt.alloc(), &ApplyFault::Stale, "Stale"));
-    assert!(rt; is_shown(rt.alloc(), &ApplyFault::OutOfMemory, "OutOfMemory"));
 }
 
 /// Whether a flow is judged too where it is prepared, and whether that is so once what was judged is taken.

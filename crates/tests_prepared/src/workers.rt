@@ -1,9 +1,9 @@
 //! Three messages by one, two and four workers; how many workers there may be; workers that overlap; the names of the faults.
 //! Where memory is refused a call is made again.
 use bytes::Bytes;
-use decode_workers::{Gate, NoGate, WorkersFault, prepare_all};
+use decode_workers::{Fault as WorkersFault, Gate, NoGate, prepare_all};
 use ipfix_session::Session;
-use prepared_message::{PrepareFault, Prepared, Snapshot};
+use prepared_message::{Fault as PrepareFault, Prepared, Snapshot};
 use std::alloc::{AllocError, Global};
 use std::sync::Wait;
 use std::sync::atomic::{AtomicU64, Ordering};

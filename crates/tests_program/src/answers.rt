@@ -5,7 +5,7 @@ use answer_writing::{AnswerBuffer, Stopped};
 use disclosure_audit::{AuditEntry, What};
 use mediator_state::{Fault, Status};
 use octet_io::Device;
-use policy_text::{FaultKind, PolicyFault};
+use policy_text::{Fault as PolicyFault, FaultKind};
 use std::alloc::{AllocError, Global};
 use std::io::ErrorKind::BrokenPipe;
 use std::process::Abort;

@@ -2,7 +2,7 @@
 //! a closed pipe or a full device does to the process is tested from outside.
 use crate::places::is_at;
 use ipmd_command_line::{OfflineOptions, PolicySource, Task, read_command_line};
-use ipmd_commands::{Place, ProgramFault, check_policy, filter, show, tell};
+use ipmd_commands::{Fault as ProgramFault, Place, check_policy, filter, show, tell};
 use mediator_offline::OfflineReport;
 use octet_io::{Device, write_all};
 use std::alloc::{AllocError, Global};

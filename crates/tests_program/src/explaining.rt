@@ -1,7 +1,7 @@
 //! `ipmd explain` where one allocation is refused: a front of what is due was written, and the run that is made again then writes
 //! all.
 use crate::octets::{RULED, RUN};
-use ipmd_commands::ProgramFault;
+use ipmd_commands::Fault as ProgramFault;
 use ipmd_explain::{Question, explain_input};
 use ipmd_verify::OnTerminal;
 use octet_io::Device;

@@ -8,8 +8,8 @@ use crate::offline::{ONE_RECORD, REMOVE};
 use bytes::Bytes;
 use disclosure_audit::{AuditEntry, RemovedField, What};
 use event_journal::Journal;
-use history_verify::{Count, Verified, VerifyFault, verify};
-use mediator_core::{Call, Fault, Finished, Limits, Reply, RunFault, SessionId, Transcript, run};
+use history_verify::{Count, Fault as VerifyFault, Verified, verify};
+use mediator_core::{Call, Fault, Finished, Limits, Reply, SessionId, Transcript, run};
 use mediator_legal_runs::{runs_are_legal, verify_finished};
 use std::alloc::{AllocError, Global};
 use std::process::Abort;
@@ -95,23 +95,23 @@ fn wanted_memory(replies: &[Reply]) -> bool {
 }
 
 /// What stays of a run of these calls, each of which was accepted.
-fn ended_once(alloc: Global) -> Result<Finished, RunFault>
+fn ended_once(alloc: Global) -> Result<Finished, Fault>
     ensures { IfOk result (λ f. IsLegal f.journal.entries) }
 {
     runs_are_legal();
     let Transcript { replies, mediator } = run(alloc, LIMITS, calls(alloc)?)?;
     if wanted_memory(replies.as_slice()) {
-        return Err(RunFault::OutOfMemory);
+        return Err(Fault::OutOfMemory);
     }
     Ok(mediator.finish())
 }
 
 /// The same, by a second run where memory was refused to the first.
-fn ended(alloc: Global) -> Result<Finished, RunFault>
+fn ended(alloc: Global) -> Result<Finished, Fault>
     ensures { IfOk result (λ f. IsLegal f.journal.entries) }
 {
     match ended_once(alloc) {
-        Err(RunFault::OutOfMemory) => ended_once(alloc),
+        Err(Fault::OutOfMemory) => ended_once(alloc),
         answer => answer,
     }
 }

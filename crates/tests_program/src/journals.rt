@@ -1,9 +1,7 @@
 //! A journal's file: read, kept and written. Each call is made once, and again where it was refused memory.
 use crate::octets::RUN;
 use event_journal::{Entry, Journal};
-use journal_files::{
-    JournalFault, JournalReader, ReadFault, WriteFault, decode, encode, write_journal,
-};
+use journal_files::{Fault, JournalReader, decode, encode, write_journal};
 use octet_io::Device;
 use std::alloc::{AllocError, Global};
 use std::process::Abort;
@@ -20,9 +18,9 @@ const TEXT: &str =
     "policy 1\nrule for * in * from * to * pass\nrule for * in * from * to * element * keep\n";
 
 /// The journal of the file.
-pub(crate) fn journal(alloc: Global) -> Result<Journal, JournalFault> {
+pub(crate) fn journal(alloc: Global) -> Result<Journal, Fault> {
     match decode(alloc, RUN) {
-        Err(JournalFault::OutOfMemory) => decode(alloc, RUN),
+        Err(Fault::OutOfMemory) => decode(alloc, RUN),
         answer => answer,
     }
 }
@@ -63,7 +61,7 @@ fn encoded(rt: HostRuntime) -> Result<(), Fail> {
 /// What writing a file answered, and the octets that it wrote.
 #[derive(Drop)]
 struct Written {
-    answer: Result<(), WriteFault>,
+    answer: Result<(), Fault>,
     octets: Vec<u8>,
 }
 
@@ -84,7 +82,7 @@ fn is_whole(file: &Written) -> bool {
 
 /// Whether memory was refused, and a front of the file was written.
 fn is_front(file: &Written) -> bool {
-    file.answer == Err(WriteFault::OutOfMemory) && RUN.starts_with(file.octets.as_slice())
+    file.answer == Err(Fault::OutOfMemory) && RUN.starts_with(file.octets.as_slice())
 }
 
 /// Whether the file is written, to a second writer where memory was refused over the first.
@@ -101,7 +99,7 @@ fn written_to_a_sink(rt: HostRuntime) -> Result<(), Fail> {
 }
 
 /// Whether the file is read from a source, entry by entry, as this journal.
-fn reads(alloc: Global, journal: &Journal) -> Result<bool, ReadFault> {
+fn reads(alloc: Global, journal: &Journal) -> Result<bool, Fault> {
     let mut source = Device::new(RUN);
     let mut reader = JournalReader::start(alloc, &mut source)?;
     for position in 0..7 {
@@ -114,9 +112,9 @@ fn reads(alloc: Global, journal: &Journal) -> Result<bool, ReadFault> {
 }
 
 /// The same from its begin, where memory was refused: what was read last is lost then.
-fn reads_again(alloc: Global, journal: &Journal) -> Result<bool, ReadFault> {
+fn reads_again(alloc: Global, journal: &Journal) -> Result<bool, Fault> {
     match reads(alloc, journal) {
-        Err(ReadFault::File(JournalFault::OutOfMemory)) => reads(alloc, journal),
+        Err(Fault::OutOfMemory) => reads(alloc, journal),
         answer => answer,
     }
 }

@@ -2,7 +2,7 @@
 //! front of what is due. A run that was refused memory is made again, and gives all. Nothing refuses memory here;
 //! `bench/refuse_allocations tests_program` refuses each allocation in turn.
 use ipmd_command_line::{OfflineOptions, PolicySource};
-use ipmd_commands::{ProgramFault, check_policy, filter};
+use ipmd_commands::{Fault as ProgramFault, check_policy, filter};
 use octet_io::Device;
 use std::alloc::AllocError;
 use std::process::Abort;

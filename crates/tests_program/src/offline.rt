@@ -1,8 +1,9 @@
 //! Streams that are filtered with a bound on reads, and on devices of which each call fails; and the names of faults. A run that is
 //! refused memory has written a front of what is due.
 use ipfix_reader::FramingFault;
-use mediator_offline::{Device, Fault, OfflineFault, OfflineJob, OfflineReport, offline};
-use policy_text::{FaultKind, PolicyFault};
+use mediator_offline::{Device, Fault as OfflineFault, OfflineJob, OfflineReport, offline};
+use mediator_state::Fault;
+use policy_text::{Fault as PolicyFault, FaultKind};
 use std::alloc::{AllocError, Global};
 use std::fmt::Display;
 use std::io::ErrorKind::{BrokenPipe, ConnectionReset};
@@ -61,7 +62,7 @@ fn was_refused(ran: &Ran) -> bool {
     matches!(
         ran.answer,
         Err(
-            OfflineFault::Core(Fault::OutOfMemory)
+            OfflineFault::Mediator(Fault::OutOfMemory)
                 | OfflineFault::Write { .. }
                 | OfflineFault::AuditWrite
         )
@@ -184,7 +185,7 @@ fn expect_run(
     audited: usize,
 ) -> Result<(), AllocError> {
     let mut ran = run_by(alloc, devices)?;
-    if ran.answer == Err(OfflineFault::Core(Fault::OutOfMemory)) {
+    if ran.answer == Err(OfflineFault::Mediator(Fault::OutOfMemory)) {
         assert!(rt; BOTH_WITHOUT_OCTETS.starts_with(ran.written.as_slice()));
         assert!(rt; BOTH_LINES.starts_with(ran.audit.as_slice()));
         ran = run_by(alloc, devices)?;
@@ -282,13 +283,13 @@ const NAMES: &[(OfflineFault, &str)] = &[
     (OfflineFault::Write { sent: 3 }, "Write"),
     (OfflineFault::Framing(FramingFault::CutOff), "Framing"),
     (OfflineFault::Turns, "Turns"),
-    (OfflineFault::Core(Fault::BadName), "Core"),
+    (OfflineFault::Mediator(Fault::BadName), "Mediator"),
     (OfflineFault::Cut, "Cut"),
     (OfflineFault::AuditWrite, "AuditWrite"),
 ];
 
 /// Those that the program says are left out.
-const NAMES_OF_THE_CORE: &[(Fault, &str)] = &[
+const NAMES_OF_THE_MEDIATOR: &[(Fault, &str)] = &[
     (Fault::Policy(NO_HEADER), "Policy"),
     (Fault::JournalFull, "JournalFull"),
     (Fault::AuditFull { need: 2, room: 1 }, "AuditFull"),
@@ -311,5 +312,5 @@ fn expect_names<F: Display>(
 #[test]
 fn names_of_faults(rt: HostRuntime) -> Result<(), Fail> {
     expect_names(&rt, rt.alloc(), NAMES)?;
-    expect_names(&rt, rt.alloc(), NAMES_OF_THE_CORE)
+    expect_names(&rt, rt.alloc(), NAMES_OF_THE_MEDIATOR)
 }

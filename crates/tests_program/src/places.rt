@@ -1,5 +1,5 @@
 //! Which device a fault names.
-use ipmd_commands::{Failure, Place, ProgramFault};
+use ipmd_commands::{Failure, Fault as ProgramFault, Place};
 
 /// Whether it is this one.
 pub(crate) fn is_at(fault: &ProgramFault, place: &Place) -> bool {

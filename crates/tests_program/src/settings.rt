@@ -1,5 +1,5 @@
 //! Settings that are read.
-use ipmd_settings::{Collector, Key, Settings, SettingsFault, read_settings};
+use ipmd_settings::{Collector, Fault as SettingsFault, Key, Settings, read_settings};
 use mediator_calls::Limits;
 use std::alloc::{AllocError, Global};
 use std::process::Abort;

@@ -2,7 +2,7 @@
 //! again then, and answers as if nothing had happened.
 use crate::octets::{RULED, RULED_TEXT, RUN};
 use crate::places::{is_at, is_at_file};
-use ipmd_commands::{Place, ProgramFault};
+use ipmd_commands::{Fault as ProgramFault, Place};
 use ipmd_verify::{OnTerminal, verify_input};
 use octet_io::Device;
 use std::alloc::{AllocError, Global};

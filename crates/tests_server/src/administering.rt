@@ -7,7 +7,7 @@ use crate::returned_handles::{
 use crate::server::Told;
 use crate::stage::{Case, ReturnedHandles, play};
 use ipfix_reader::FramingFault;
-use mediator_connections::{ServeFault, serve_admin};
+use mediator_connections::{Fault as ServeFault, serve_admin};
 use mediator_core::SubId;
 use octet_io::Device;
 use shared_mediator::{
@@ -126,7 +126,7 @@ fn begin_beta<E: EntryLedger, H: RecordLedger, R: Wait + Abort>(
 ) -> Result<DeliveryHandle<H>, AllocError> {
     let mut acme = shared.delivery(rt, SubId(1)).expect(rt, "a delivery");
     let pulled = acme.pull_some(rt, shared, NOW, SMALL, 4);
-    assert!(rt; pulled == Ok(4));
+    assert!(rt; matches!(pulled, Ok(messages) if messages.len() == 4));
     let sub = admin.subscribe(rt, shared, "beta");
     assert!(rt; sub == Ok(SubId(2)));
     offer_all(rt, alloc, shared, exporter, &[TWO_RECORDS; 3])?;

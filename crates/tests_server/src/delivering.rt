@@ -5,12 +5,11 @@ use crate::returned_handles::{
     Bounds, ENOUGH, PASS, ROOMY, SMALL, begin, limits_of, offer_all, returned_handles,
 };
 use crate::stage::{Case, ReturnedHandles, play};
-use mediator_connections::{Clock, ServeFault, deliver};
-use mediator_core::{Fault, SubId, UnknownSub};
+use mediator_connections::{Clock, Fault as ServeFault, deliver};
+use mediator_core::{Fault, SubId};
 use octet_io::Device;
 use shared_mediator::{
-    AdminHandle, DeliveryHandle, EntryLedger, ExporterHandle, PullFault, RecordLedger,
-    SharedMediator,
+    AdminHandle, DeliveryHandle, EntryLedger, ExporterHandle, RecordLedger, SharedMediator,
 };
 use std::alloc::{AllocError, Global};
 use std::io::ErrorKind::BrokenPipe;
@@ -143,7 +142,7 @@ fn expect_delivered<E: EntryLedger, H: RecordLedger, R: Wait + Abort>(
     }
     let left = match delivered.admin.status(rt, shared, SubId(1)) {
         Ok(status) => Some((status.queued, status.handed)),
-        Err(UnknownSub) => None,
+        Err(_) => None,
     };
     assert!(rt; left == row.left, "{left:?}");
     let again = delivered.admin.subscribe(rt, shared, "acme");
@@ -241,7 +240,7 @@ const FIRST_WRITE: Answer = Err((ServeFault::Write { sent: 966 }, 0));
 /// The first pull had the template and 31 of the records: nine wait.
 const NOTHING_SENT: Answer = Err((ServeFault::Write { sent: 0 }, 9));
 
-const UNKNOWN: Answer = Err((ServeFault::Core(PullFault::Core(Fault::UnknownSub)), 0));
+const UNKNOWN: Answer = Err((ServeFault::Mediator(Fault::UnknownSub), 0));
 
 /// What is offered, the bounds, and what is done then; how many writes of any length come before one that fails; what is answered,
 /// and what is left. The template has 36 octets, and each record 30; the first write has 32 of these messages.

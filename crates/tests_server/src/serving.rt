@@ -10,13 +10,13 @@ use crate::returned_handles::{
 use crate::server::Told;
 use crate::stage::{Case, ReturnedHandles, play};
 use event_journal::Entry;
-use ipfix_message::DecodeError;
+use ipfix_message::Fault as DecodeError;
 use ipfix_reader::FramingFault;
-use ipfix_session::ReadError;
-use mediator_connections::{ServeFault, Served, serve_exporter};
+use ipfix_session::Fault as ReadError;
+use mediator_connections::{Fault as ServeFault, Served, serve_exporter};
 use mediator_core::Fault;
 use octet_io::Device;
-use shared_mediator::{Closed, EntryLedger, PullFault, RecordLedger, SharedMediator};
+use shared_mediator::{Closed, EntryLedger, RecordLedger, SharedMediator};
 use std::alloc::{AllocError, Global};
 use std::io::ErrorKind::ConnectionReset;
 use std::process::Abort;
@@ -217,7 +217,7 @@ fn refusals(rt: HostRuntime) -> Result<(), Fail> {
             reads: ENOUGH,
             turns: 1000,
             workers: 0,
-            due: Err(ServeFault::Core(PullFault::Core(*fault))),
+            due: Err(ServeFault::Mediator(*fault)),
             // Each message before it has one record.
             brought: brought((*messages, *messages, 0)),
         };

@@ -5,8 +5,8 @@ ghost use Rattle.shared_mediator.specs.Counted.{handed_live};
 use crate::{administering, delivering, holding, serving};
 use mediator_core::{Limits, Mediator};
 use shared_mediator::{
-    AdminHandle, CloseFault, Closed, DeliveryHandle, EntryLedger, ExporterHandle, RecordLedger,
-    SharedMediator,
+    AdminHandle, Closed, DeliveryHandle, EntryLedger, ExporterHandle, Fault as CloseFault,
+    RecordLedger, SharedMediator,
 };
 use std::alloc::{AllocError, Global};
 use std::marker::Brand;

@@ -55,7 +55,7 @@ fn share_by<E: EntryLedger, H: RecordLedger, R: Wait + Abort>(
     exporter.offer(rt, &shared, message).expect(rt, "a receipt");
     let mut delivery = shared.delivery(rt, acme).expect(rt, "a delivery");
     let pulled = delivery.pull(rt, &shared, 1_700_000_060, 1400);
-    assert!(rt; pulled == Ok(true));
+    assert!(rt; matches!(pulled, Ok(Some(handed)) if handed.records == 1));
     // All handles come back.
     let exporters = vec![in alloc; exporter].expect(rt, "memory");
     let deliveries = vec![in alloc; delivery].expect(rt, "memory");

@@ -6,7 +6,7 @@ use crate::sharing::{Case, ReturnedHandles, one, share};
 use bytes::Bytes;
 use disclosure_audit::{AuditEntry, Reason, What};
 use event_journal::{Entry, Journal};
-use mediator_core::{Fault, SubId, UnknownSub};
+use mediator_core::{Fault, SubId};
 use prepared_message::Prepared;
 use shared_mediator::{
     AdminHandle, DeliveryHandle, EntryLedger, ExporterHandle, RecordLedger, SharedMediator,
@@ -130,7 +130,7 @@ fn expect_bob_ends<E: EntryLedger, H: RecordLedger, R: Wait + Abort>(
     let ended = admin.unsubscribe(rt, shared, SubId(2));
     assert!(rt; ended == Ok(()));
     let unknown = admin.status(rt, shared, SubId(2));
-    assert!(rt; unknown == Err(UnknownSub));
+    assert!(rt; unknown == Err(Fault::UnknownSub));
     expect_status(rt, shared, admin, ADA);
     expect_status(rt, shared, admin, CYD);
 }

@@ -9,8 +9,8 @@ use crate::waits::waits;
 use bytes::Bytes;
 use mediator_core::{Limits, Mediator, SubId};
 use shared_mediator::{
-    AdminHandle, CloseFault, Closed, DeliveryHandle, EntryLedger, ExporterHandle, RecordLedger,
-    SharedMediator,
+    AdminHandle, Closed, DeliveryHandle, EntryLedger, ExporterHandle, Fault as CloseFault,
+    RecordLedger, SharedMediator,
 };
 use std::alloc::{AllocError, Global};
 use std::marker::Brand;

@@ -3,7 +3,7 @@ ghost use Rattle.std.specs.Prelude.{◌≡◌, ◌+◌, ◌≤◌, length};
 ghost use Rattle.sequences.specs.Octets.{number_at};
 ghost use Rattle.ipfix_message.specs.Fronts.{IsFront, IsExtent};
 
-use crate::FrameError;
+use crate::fault::Fault;
 use ipfix_octets::message_format::{HEADER_OCTETS, IPFIX_VERSION};
 
 /// The octets at the front of a header that hold its version and its length.
@@ -17,7 +17,7 @@ pub enum Front {
     /// A whole message, of this many octets.
     Whole(usize),
     /// Octets that begin no message.
-    Faulty(FrameError),
+    Faulty(Fault),
 }
 
 /// How many octets at the front are whole messages, and the fault that follows them.
@@ -26,7 +26,7 @@ pub struct Extent {
     /// How many octets at the front are whole messages.
     pub whole: usize,
     /// The fault of the octets behind these messages, if they begin no message.
-    pub fault: Option<FrameError>,
+    pub fault: Option<Fault>,
 }
 
 /// The number in the two octets at `place`.
@@ -46,11 +46,11 @@ pub fn front_of(octets: &[u8]) -> Front
         return Front::Partial;
     }
     if number_in_two(octets, 0) != IPFIX_VERSION {
-        return Front::Faulty(FrameError::BadVersion);
+        return Front::Faulty(Fault::BadVersion);
     }
     let length = usize::from(number_in_two(octets, 2));
     if length < HEADER_OCTETS {
-        return Front::Faulty(FrameError::BadLength);
+        return Front::Faulty(Fault::BadLength);
     }
     if octets.len() < length {
         return Front::Partial;

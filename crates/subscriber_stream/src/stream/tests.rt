@@ -1,6 +1,6 @@
 //! A run of records waits as the ID of its shape and its octets, and is handed out record by record. The queue's fields
 //! are named by their types, so that nothing that keeps records compiles.
-use crate::limits::Limits;
+use crate::limits::StreamLimits;
 use crate::stream::Stream;
 use crate::texts::Texts;
 use crate::waiting::Waiting;
@@ -43,7 +43,7 @@ fn records(alloc: Global) -> Result<Records, Fail> {
 fn stream_of(alloc: Global, records: Records) -> Result<Stream, AllocError> {
     let mut stream = Stream::new(
         alloc,
-        Limits {
+        StreamLimits {
             queue: 1,
             shapes: 1,
         },

@@ -6,7 +6,7 @@ use Rattle.ipfix_template.specs.Values.{record_text}
 use Rattle.ipfix_template.specs.DataRecord.{DataRecord, IsKept, kept_record}
 use Rattle.ipfix_template.proofs.TextLaws.{kept_from, kept_is}
 use Rattle.disclosure_audit.specs.declared.entry.RemovedField.{RemovedField}
-use Rattle.flow_anonymize.specs.Outcome.{Passes}
+use Rattle.flow_anonymize.specs.declared.disclosure.Disclosure.TheVariants.{Passed}
 use Rattle.flow_anonymize.specs.Remaining.{kept_values}
 use Rattle.flow_anonymize.proofs.plan.pass.Goals as goal
 
@@ -21,4 +21,5 @@ returns c =
     let values = kept_values c.args.flow_record.now.values c.args.verdicts.now in
     let same = kept_is (arc_value c.args.template.now) values c.in_ok-text.text c.requires.sound.fit (c.in_ok-text.ensures ∙ ap (λ (fs : List FieldSpec). record_text fs values) (sym c.requires.fields)) in
     let kept = c.from_octets-kept.ensures ∙ ap (λ (t : Template). kept_record t c.in_ok-text.text) c.in_ok-clone.ensures.cases ∙ same in
-    ap (λ (r : DataRecord). Passes r c.in_ok-removed.removed) kept ∙ ap (λ (fields : List RemovedField). Passes (record { template = arc_value c.args.template.now; values = values }) fields) c.in_ok-removed.ensures.cases
+    let left : DataRecord = record { template = arc_value c.args.template.now; values = values } in
+    ap (λ (r : DataRecord). Passed r c.in_ok-removed.removed) kept ∙ ap (λ (fields : List RemovedField). Passed left fields) c.in_ok-removed.ensures.cases

@@ -1,6 +1,6 @@
 use Rattle.std.proofs.Common.{sym, ap, ◌∙◌, arith}
 use Rattle.flow_prefix.specs.Family.{separator}
-use Rattle.flow_prefix.specs.Parts.{continued}
+use Rattle.flow_prefix.specs.Parts.{added_parts}
 use Rattle.flow_prefix.specs.Reading.{cut_at}
 use Rattle.flow_prefix.proofs.PartsLaws.{read_parts-turn, read_parts-fault, cut_at-shorter, parts_of-whole}
 use Rattle.flow_prefix.proofs.parts.read_parts.Goals as goal
@@ -25,4 +25,4 @@ words-preserved c =
 pub returns-clause-value : goal.returns-clause-value
 returns-clause-value c =
     let none = ap (λ b. cut_at b c.words.rest.now) (sym c.separator.ensures) ∙ sym c.in_default.ensures in
-    c.with_word-2.ensures.value ∙ ap (continued c.args.family c.words.parts) (sym (parts_of-whole c.args.family c.words.rest.now none)) ∙ c.words.invariant.reading
+    c.with_word-2.ensures.value ∙ ap (added_parts c.args.family c.words.parts) (sym (parts_of-whole c.args.family c.words.rest.now none)) ∙ c.words.invariant.reading

@@ -1,6 +1,6 @@
 use Rattle.std.proofs.Common.{[], ◌∙◌, ◌∷◌, ◌++◌, take, sym, subst, arith}
 use Rattle.std.proofs.lemmas.List.{take_all}
-use Rattle.history_verify.specs.declared.fault.VerifyFault.{VerifyFault}
+use Rattle.history_verify.specs.declared.fault.Fault.{Fault}
 use Rattle.history_verify.specs.Answers.{IsVerified, NamesFirstOfAny}
 use Rattle.history_verify.specs.Standing.{IsFed}
 use Rattle.history_verify.proofs.FeedLaws.{err_gives, err_map, if_ok_map, none_within, fed_short, fed_next, first_of_all}
@@ -16,7 +16,7 @@ pub returns-in_err-feed-in-Some-clause-err : goal.returns-in_err-feed-in-Some-cl
 returns-in_err-feed-in-Some-clause-err c =
     err_gives c.from_residual-in_err-feed-in-Some.result c.from_residual-in_err-feed-in-Some.ensures
     (λ e same. first_of_all e c.args.journal.now.entries c.entries.position c.in-Some.entry.now (sym c.in-Some.ensures)
-    (subst (λ (w : VerifyFault). NamesFirstOfAny w (take c.entries.position c.args.journal.now.entries ++ c.in-Some.entry.now ∷ [])) (sym same) (c.in_err-feed-in-Some.ensures.err (take c.entries.position c.args.journal.now.entries) c.entries.invariant.fed)))
+    (subst (λ (w : Fault). NamesFirstOfAny w (take c.entries.position c.args.journal.now.entries ++ c.in-Some.entry.now ∷ [])) (sym same) (c.in_err-feed-in-Some.ensures.err (take c.entries.position c.args.journal.now.entries) c.entries.invariant.fed)))
 
 pub unreachable-requires : goal.unreachable-requires
 unreachable-requires c = none_within c.args.journal.now.entries c.entries.position (sym c.in-None.ensures) (omega (arith, c.entries-test.true, c.len-position-end.ensures.value))

@@ -1,5 +1,5 @@
 use Rattle.std.proofs.Common.{Some, ◌∙◌, ap}
-use Rattle.ipfix_element.specs.Lines.{shown}
+use Rattle.ipfix_element.specs.Lines.{as_line}
 use Rattle.ipfix_element.proofs.NameLaws.{line_only, no_line, not_both}
 use Rattle.ipfix_element.proofs.name.by_name.Goals as goal
 
@@ -19,7 +19,7 @@ pub returns-in-Some-entry_for-clause-only : goal.returns-in-Some-entry_for-claus
 returns-in-Some-entry_for-clause-only c = λ e ok is.
     let unlisted = no_line c.args.text.now c.in_default.ensures.only e is in
     let same = c.in_ok-element.ensures.only e ok unlisted.1 in
-    absurd (not_both c.in_ok-element.element e (shown c.in_ok-element.element.number c.in-Some-entry_for.field-0) same c.in-Some-entry_for.ensures unlisted.0)
+    absurd (not_both c.in_ok-element.element e (as_line c.in_ok-element.element.number c.in-Some-entry_for.field-0) same c.in-Some-entry_for.ensures unlisted.0)
 
 pub returns-in-None-clause-only : goal.returns-in-None-clause-only
 returns-in-None-clause-only c = λ e ok is.

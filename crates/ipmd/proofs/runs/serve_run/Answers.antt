@@ -1,6 +1,6 @@
 use Rattle.std.proofs.Common.{[], ◌∙◌, inl, inr, refl, subst, sym, true≢false}
 use Rattle.octet_io.specs.Device.{device_inner}
-use Rattle.ipmd_commands.specs.declared.fault.ProgramFault.TheVariants.{OutOfMemory}
+use Rattle.ipmd_commands.specs.declared.fault.Fault.TheVariants.{OutOfMemory}
 use Rattle.mediator_offline.proofs.Receiving.{err_gives}
 use Rattle.ipmd.specs.Serving.{IsPlanOf, StopsRun, policy_after, run_of}
 use Rattle.ipmd.proofs.Running.{told_all}

@@ -1,7 +1,7 @@
 use Rattle.std.proofs.Common.{arith, subst, sym}
 use Rattle.octet_io.specs.Device.{device_inner}
 use Rattle.mediator_offline.proofs.Receiving.{err_gives}
-use Rattle.ipmd.specs.Serving.{MakesRun, StopsServing}
+use Rattle.ipmd.specs.Serving.{MakesRun, StopsServingRuns}
 use Rattle.ipmd.proofs.Running.{begins, ends_at_last, ends_early, goes_on, stops, stops_first}
 use Rattle.ipmd.proofs.runs.serve_runs.Goals as goal
 
@@ -12,13 +12,13 @@ pub returns-in_err-keeping-clause-err : goal.returns-in_err-keeping-clause-err
 returns-in_err-keeping-clause-err g c =
     let held = g.O.Write.contents (device_inner c.args.output.now) in
     err_gives c.from_residual.result c.from_residual.ensures
-    (λ e is. subst (λ x. StopsServing x held held) (sym is) (stops_first c.args.service held c.in_err-keeping.field-0.0 c.requires.asked c.in_err-keeping.ensures.err))
+    (λ e is. subst (λ x. StopsServingRuns x held held) (sym is) (stops_first c.args.service held c.in_err-keeping.field-0.0 c.requires.asked c.in_err-keeping.ensures.err))
 
 pub returns-in_err-keys-clause-err : goal.returns-in_err-keys-clause-err
 returns-in_err-keys-clause-err g c =
     let held = g.O.Write.contents (device_inner c.args.output.now) in
     err_gives c.from_residual-in_err-keys.result c.from_residual-in_err-keys.ensures
-    (λ e is. subst (λ x. StopsServing x held held) (sym is) (stops_first c.args.service held c.in_err-keys.field-0.0 c.requires.asked c.in_err-keys.ensures.err))
+    (λ e is. subst (λ x. StopsServingRuns x held held) (sym is) (stops_first c.args.service held c.in_err-keys.field-0.0 c.requires.asked c.in_err-keys.ensures.err))
 
 pub returns-in_err-serve_run-clause-err : goal.returns-in_err-serve_run-clause-err
 returns-in_err-serve_run-clause-err g c =
@@ -26,7 +26,7 @@ returns-in_err-serve_run-clause-err g c =
     let between = g.O.Write.contents (device_inner c.runs.output) in
     let holds = g.O.Write.contents (device_inner c.serve_run.new.output) in
     err_gives c.from_residual-in_err-serve_run.result c.from_residual-in_err-serve_run.ensures
-    (λ e is. subst (λ x. StopsServing x held holds) (sym is)
+    (λ e is. subst (λ x. StopsServingRuns x held holds) (sym is)
     (stops c.runs.plan c.args.service.runs c.runs.run held between holds c.in_err-serve_run.field-0.0 c.runs.invariant.0 c.in_err-serve_run.ensures.err))
 
 pub returns-then-not-branch-clause-ok : goal.returns-then-not-branch-clause-ok

@@ -3,7 +3,7 @@ use Rattle.std.proofs.lemmas.Result.{IfOk-weaker}
 use Rattle.clap.specs.Words.{Rule, app_of, new_app, rule_of, with_rule}
 use Rattle.clap.specs.declared.builder.arg.Arg.{Arg}
 use Rattle.clap.specs.declared.builder.value_parser.ValueParser.{ValueParser}
-use Rattle.ipmd_command_line.specs.CommandLine.{greatest_of_32_bits, long_number, needed, short_number}
+use Rattle.ipmd_command_line.specs.CommandLine.{greatest_of_32_bits, long_number, needed_option, short_number}
 use Rattle.ipmd_command_line.proofs.command_line.explain_command.Goals as goal
 
 abbrev is_global : Arg → Bool
@@ -17,7 +17,7 @@ returns c =
     let used : app_of c.override_usage.result ≡ app_of c.new.result = rw (c.override_usage.ensures) refl in
     let told : app_of c.about.result ≡ app_of c.override_usage.result = rw (c.about.ensures) refl in
     let helped : app_of c.after_help.result ≡ app_of c.about.result = rw (c.after_help.ensures) refl in
-    let journal : rule_of c.help.result ≡ needed (codes "journal") =
+    let journal : rule_of c.help.result ≡ needed_option (codes "journal") =
     ap rule_of c.help.ensures ∙ ap rule_of c.required.ensures ∙ ap (λ (r : Rule). record r { required = true }) c.option.ensures.rule in
     let journal_local : c.help.result.global ≡ false = ap is_global c.help.ensures ∙ ap is_global c.required.ensures ∙ c.option.ensures.local in
     let read_sub = c.value_parser-2.ensures.given in

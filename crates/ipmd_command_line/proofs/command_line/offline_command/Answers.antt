@@ -4,7 +4,7 @@ use Rattle.clap.specs.Words.{Rule, app_of, new_app, rule_of, with_rule}
 use Rattle.clap.specs.declared.builder.action.ArgAction.TheVariants.{SetTrue}
 use Rattle.clap.specs.declared.builder.arg.Arg.{Arg}
 use Rattle.clap.specs.declared.builder.value_parser.ValueParser.{ValueParser}
-use Rattle.ipmd_command_line.specs.CommandLine.{flag, greatest_of_16_bits, greatest_of_32_bits, needed, number, valued, with_policy}
+use Rattle.ipmd_command_line.specs.CommandLine.{flag, greatest_of_16_bits, greatest_of_32_bits, needed_option, number, valued_option, with_policy}
 use Rattle.ipmd_command_line.proofs.command_line.offline_command.Goals as goal
 
 abbrev is_global : Arg → Bool
@@ -19,7 +19,7 @@ returns c =
     let used : app_of c.override_usage.result ≡ app_of c.in_ok-with_policy.field-0 = rw (c.override_usage.ensures) refl in
     let told : app_of c.about.result ≡ app_of c.override_usage.result = rw (c.about.ensures) refl in
     let helped : app_of c.after_help.result ≡ app_of c.about.result = rw (c.after_help.ensures) refl in
-    let subscriber : rule_of c.help.result ≡ needed (codes "subscriber") =
+    let subscriber : rule_of c.help.result ≡ needed_option (codes "subscriber") =
     ap rule_of c.help.ensures ∙ ap rule_of c.required.ensures ∙ ap (λ (r : Rule). record r { required = true }) c.option.ensures.rule in
     let subscriber_local : c.help.result.global ≡ false = ap is_global c.help.ensures ∙ ap is_global c.required.ensures ∙ c.option.ensures.local in
     let read_now = c.value_parser-2.ensures.given in
@@ -32,7 +32,7 @@ returns c =
     ap rule_of c.help-3.ensures ∙ ap rule_of c.value_parser-4.ensures.others
     ∙ ap₂ with_parser (ap rule_of c.default_value-2.ensures ∙ ap (λ (r : Rule). record r { defaults = codes "1400" ∷ [] }) c.option-3.ensures.rule) (read_target.1 ∙ ap Some (read_target.2 ∙ c.value_parser-3.ensures)) in
     let target_local : c.help-3.result.global ≡ false = ap is_global c.help-3.ensures ∙ ap is_global c.value_parser-4.ensures.others ∙ ap is_global c.default_value-2.ensures ∙ c.option-3.ensures.local in
-    let audit : rule_of c.help-4.result ≡ valued (codes "audit") = ap rule_of c.help-4.ensures ∙ c.option-4.ensures.rule in
+    let audit : rule_of c.help-4.result ≡ valued_option (codes "audit") = ap rule_of c.help-4.ensures ∙ c.option-4.ensures.rule in
     let audit_local : c.help-4.result.global ≡ false = ap is_global c.help-4.ensures ∙ c.option-4.ensures.local in
     let hex : rule_of c.help-5.result ≡ flag (codes "hex") =
     ap rule_of c.help-5.ensures ∙ ap rule_of c.action.ensures

@@ -2,7 +2,7 @@ use Rattle.std.proofs.Common.{ap, ap₂, refl, codes, false, true, Bool, ◌≡�
 use Rattle.std.proofs.lemmas.Result.{IfOk-weaker}
 use Rattle.clap.specs.Words.{Rule, app_of, rule_of, with_rule}
 use Rattle.clap.specs.declared.builder.arg.Arg.{Arg}
-use Rattle.ipmd_command_line.specs.CommandLine.{needed, valued}
+use Rattle.ipmd_command_line.specs.CommandLine.{needed_option, valued_option}
 use Rattle.ipmd_command_line.proofs.command_line.replay_command.Goals as goal
 
 abbrev is_global : Arg → Bool
@@ -13,10 +13,10 @@ returns c =
     let used : app_of c.override_usage.result ≡ app_of c.new.result = rw (c.override_usage.ensures) refl in
     let told : app_of c.about.result ≡ app_of c.override_usage.result = rw (c.about.ensures) refl in
     let helped : app_of c.after_help.result ≡ app_of c.about.result = rw (c.after_help.ensures) refl in
-    let calls : rule_of c.help.result ≡ needed (codes "calls") =
+    let calls : rule_of c.help.result ≡ needed_option (codes "calls") =
     ap rule_of c.help.ensures ∙ ap rule_of c.required.ensures ∙ ap (λ (r : Rule). record r { required = true }) c.option.ensures.rule in
     let calls_local : c.help.result.global ≡ false = ap is_global c.help.ensures ∙ ap is_global c.required.ensures ∙ c.option.ensures.local in
-    let journal : rule_of c.help-2.result ≡ valued (codes "journal") = ap rule_of c.help-2.ensures ∙ c.option-2.ensures.rule in
+    let journal : rule_of c.help-2.result ≡ valued_option (codes "journal") = ap rule_of c.help-2.ensures ∙ c.option-2.ensures.rule in
     let journal_local : c.help-2.result.global ≡ false = ap is_global c.help-2.ensures ∙ c.option-2.ensures.local in
     let first = c.in_ok-arg.ensures.shape calls_local ∙ ap₂ with_rule (helped ∙ told ∙ used ∙ c.new.ensures.app) calls in
     IfOk-weaker c.arg-2.result _ _ (λ r h. h.shape journal_local ∙ ap₂ with_rule first journal) c.arg-2.ensures

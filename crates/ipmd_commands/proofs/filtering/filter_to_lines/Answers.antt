@@ -2,8 +2,8 @@ use Rattle.std.proofs.Common.{rules, ◌≡◌, ◌⊎◌, refl, inl, inr, sym, 
 use Rattle.std.proofs.lemmas.Result.{IfErr-weaker, IfOk-weaker}
 use Rattle.octet_io.specs.Device.{device_inner}
 use Rattle.mediator_offline.proofs.Receiving.{err_gives}
-use Rattle.ipmd_commands.specs.declared.fault.ProgramFault.{ProgramFault}
-use Rattle.ipmd_commands.specs.declared.fault.ProgramFault.TheVariants.{OutOfMemory}
+use Rattle.ipmd_commands.specs.declared.fault.Fault.{Fault}
+use Rattle.ipmd_commands.specs.declared.fault.Fault.TheVariants.{OutOfMemory}
 use Rattle.ipmd_commands.specs.Runs.{IsWriteFault}
 use Rattle.ipmd_commands.proofs.Naming.{not_written}
 use Rattle.ipmd_commands.proofs.Inputs.{ends_over, fails_lines, finishes_lines, whole_lines}
@@ -24,7 +24,7 @@ pub returns-in_err-write_lines-clause-err : goal.returns-in_err-write_lines-clau
 returns-in_err-write_lines-clause-err g c =
     err_gives c.from_residual.result c.from_residual.ensures
     (λ e is. inr (
-      subst (λ (x : ProgramFault). (x ≡ OutOfMemory) ⊎ IsWriteFault x) (sym is) (not_written c.in_err-write_lines.field-0.0 c.in_err-write_lines.ensures.err.0),
+      subst (λ (x : Fault). (x ≡ OutOfMemory) ⊎ IsWriteFault x) (sym is) (not_written c.in_err-write_lines.field-0.0 c.in_err-write_lines.ensures.err.0),
       record {
         stream = c.as_slice.result.now;
         ends = ends_over c.args.job.now c.args.octets.now c.as_slice.result.now c.filter_octets-report.result _ _ _ _ (search rules) (search rules) c.filter_octets-report.ensures.ok c.filter_octets-report.ensures.err;

@@ -1,6 +1,6 @@
 use Rattle.std.proofs.Common.{sym, subst, subst₂}
-use Rattle.ipfix_message.specs.declared.frame_error.FrameError.TheVariants as frame
-use Rattle.ipfix_message.specs.FramerState.{GoesOn, FailsBy}
+use Rattle.ipfix_message.specs.declared.fault.Fault.TheVariants as frame
+use Rattle.ipfix_message.specs.FramerState.{FeedGoesOn, FailsBy}
 use Rattle.ipmd_commands.specs.HexText.{AreMessagesOf}
 use Rattle.ipmd_commands.proofs.Lines.{messages_fed, no_messages}
 use Rattle.ipmd_commands.proofs.output.messages_of.Goals as goal
@@ -8,7 +8,7 @@ use Rattle.ipmd_commands.proofs.output.messages_of.Goals as goal
 pub returns-in-Ok : goal.returns-in-Ok
 returns-in-Ok c =
     messages_fed c.args.stream.now c.in-Ok.messages.items c.feed.new.self
-    (subst (λ s. GoesOn s c.args.stream.now c.in-Ok.messages.items c.feed.new.self) c.new.ensures c.in-Ok.ensures.ok)
+    (subst (λ s. FeedGoesOn s c.args.stream.now c.in-Ok.messages.items c.feed.new.self) c.new.ensures c.in-Ok.ensures.ok)
 
 pub returns-in-Err-BadVersion : goal.returns-in-Err-BadVersion
 returns-in-Err-BadVersion c =

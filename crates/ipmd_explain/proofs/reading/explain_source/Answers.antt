@@ -5,12 +5,12 @@ use Rattle.std.specs.Io.KnownBytes.{Appends}
 use Rattle.octet_io.specs.Device.{device_inner}
 use Rattle.ipmd_commands.specs.declared.failure.Place.TheVariants.{Output}
 use Rattle.ipmd_commands.specs.Failures.{FailedAt}
-use Rattle.ipmd_commands.specs.HexText.{WritesSome}
+use Rattle.ipmd_commands.specs.HexText.{WritesSomeOf}
 use Rattle.history_verify.proofs.FeedLaws.{err_map}
 use Rattle.ipmd_verify.proofs.ReadingLaws.{all_said, begun, head_refuses, read_on, step_refuses}
 use Rattle.ipmd_verify.specs.Found.{RefusesFile}
 use Rattle.ipmd_explain.specs.declared.question.Question.{Question}
-use Rattle.ipmd_explain.specs.Answers.{Refuses}
+use Rattle.ipmd_explain.specs.Answers.{RefusesQuestion}
 use Rattle.ipmd_explain.specs.Explaining.{absent_of, explained_at}
 use Rattle.ipmd_explain.specs.Reading.{NamesEnd}
 use Rattle.ipmd_explain.proofs.ReadingLaws.{end_explains, err_gives, ok_both, written_all, written_front, written_more}
@@ -111,7 +111,7 @@ returns-in_err-put_text-in-Ok-clause-err g c =
       inr (written_front c.args.question given _ _ _ (g.S.Source.remaining c.next.new.source) c.next.new.self inv.history c.in-Some.entry (string_bytes c.in-Ok.text)
           (read_on given (g.S.Source.remaining c.entries.source) (g.S.Source.remaining c.next.new.source) c.entries.reader c.next.new.self inv.history c.in-Some.entry inv.reads (rw c.in-Some.is at c.in_ok-entry.ensures.ok))
           (subst (λ (q : Question). string_bytes c.in-Ok.text ≡ explained_at q inv.history c.in-Some.entry) inv.question taken.taken.said) inv.written
-          (subst (λ (t : List ℕ). WritesSome t (g.O.Write.contents (device_inner c.entries.output)) (g.O.Write.contents (device_inner c.put_text.new.output))) c.as_str.ensures.value c.in_err-put_text-in-Ok.ensures.err.1)),
+          (subst (λ (t : List ℕ). WritesSomeOf t (g.O.Write.contents (device_inner c.entries.output)) (g.O.Write.contents (device_inner c.put_text.new.output))) c.as_str.ensures.value c.in_err-put_text-in-Ok.ensures.err.1)),
     ))
 
 pub returns-in_err-explainer-clause-err : goal.returns-in_err-explainer-clause-err

@@ -1,5 +1,5 @@
 use Rattle.std.proofs.Common.{◌++◌, ◌∷◌, [], subst, sym}
-use Rattle.history_verify.specs.declared.fault.VerifyFault.{VerifyFault}
+use Rattle.history_verify.specs.declared.fault.Fault.{Fault as VerifyFault}
 use Rattle.history_verify.specs.Answers.{NamesFirstOfAny}
 use Rattle.ipmd_explain.proofs.ReadingLaws.{err_gives, fed_accepted}
 use Rattle.ipmd_explain.proofs.reading.take.Goals as goal

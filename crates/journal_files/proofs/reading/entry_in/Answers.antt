@@ -10,4 +10,4 @@ returns-in_err-entry-clause-err c =
 
 pub returns-then-is_past-clause-err : goal.returns-then-is_past-clause-err
 returns-then-is_past-clause-err c =
-    past_fails_in c.args.count c.args.octets c.args.held.now c.in_ok-entry.field-0-1.now c.in_ok-entry.entry c.in_ok-entry.ensures.read (sym c.if-is_past.ensures)
+    past_fails_in c.args.count c.args.octets c.args.held.now c.in_ok-entry.field-0-1.now c.in_ok-entry.entry c.in_ok-entry.ensures.read.0 (sym c.if-is_past.ensures)

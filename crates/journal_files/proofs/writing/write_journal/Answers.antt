@@ -2,15 +2,21 @@ use Rattle.std.proofs.Common.{◌≡◌, ◌<◌, ◌∙◌, Some, sym, subst, a
 use Rattle.std.specs.Prelude.{slice_get}
 use Rattle.std.specs.Io.KnownBytes.{Appends}
 use Rattle.event_journal.specs.Spelled.{IsSpelled}
+use Rattle.std.proofs.lemmas.Result.{err_from_is_err_and}
 use Rattle.std.proofs.lemmas.Option.{slice_get_within, get_or_from_slice_get}
-use Rattle.journal_files.specs.Format.{head_octets}
-use Rattle.journal_files.proofs.FileWriting.{writing_start, writing_more, writing_end, stops_at_head, stops_at_entry}
+use Rattle.journal_files.specs.Format.{head_octets, octets_of}
+use Rattle.journal_files.proofs.FileWriting.{writing_start, writing_more, writing_end, writing_fault, stops_at_head, stops_at_entry}
 use Rattle.journal_files.proofs.Gathered.{whatever_err}
 use Rattle.journal_files.proofs.writing.write_journal.Goals as goal
 
 pub returns-in_err-writer-clause-err : goal.returns-in_err-writer-clause-err
 returns-in_err-writer-clause-err g c =
     whatever_err _ c.from_residual.result (stops_at_head c.in_err-writer.field-0.0 (g.S.Sink.contents c.args.sink.now) (g.S.Sink.contents c.start.new.sink) c.args.journal.now.entries c.len.result _ _ c.len.ensures.value c.in_err-writer.ensures.err)
+
+pub returns-in_err-writer-clause-fault : goal.returns-in_err-writer-clause-fault
+returns-in_err-writer-clause-fault g c =
+    let p = err_from_is_err_and c.from_residual.result c.from_residual.ensures.1 in
+    rw (p.1, p.2) (writing_fault c.in_err-writer.field-0.0 (g.S.Sink.contents c.args.sink.now) (g.S.Sink.contents c.start.new.sink) (head_octets c.len.result) _ _ c.in_err-writer.ensures.err)
 
 pub entries-init : goal.entries-init
 entries-init g c = record {
@@ -34,6 +40,11 @@ pub returns-in_err-put-clause-err : goal.returns-in_err-put-clause-err
 returns-in_err-put-clause-err g c =
     whatever_err _ c.from_residual-in_err-put.result (stops_at_entry c.in_err-put.field-0.0 (g.S.Sink.contents c.args.sink.now) (g.S.Sink.contents c.entries.sink) (g.S.Sink.contents c.put.new.sink) c.args.journal.now.entries
     c.entries.position c.entries.writer c.in-Some.entry.now _ _ (sym c.in-Some.ensures) c.entries.invariant.writing c.in_err-put.ensures.err)
+
+pub returns-in_err-put-clause-fault : goal.returns-in_err-put-clause-fault
+returns-in_err-put-clause-fault g c =
+    let p = err_from_is_err_and c.from_residual-in_err-put.result c.from_residual-in_err-put.ensures.1 in
+    rw (p.1, p.2) (writing_fault c.in_err-put.field-0.0 (g.S.Sink.contents c.entries.sink) (g.S.Sink.contents c.put.new.sink) (octets_of c.in-Some.entry.now) _ _ c.in_err-put.ensures.err)
 
 pub entries-preserved : goal.entries-preserved
 entries-preserved g c =

@@ -1,6 +1,6 @@
 use Rattle.std.proofs.Common.{sym, ap, ◌∙◌, subst, arith, length, ◌-◌}
 use Rattle.std.specs.Prelude.{MatchOption}
-use Rattle.ipfix_reader.specs.Intake.{Ends, Takes}
+use Rattle.ipfix_reader.specs.Intake.{Ends, Yields}
 use Rattle.mediator_connections.specs.Serving.{StopsServing, RefusesAmong}
 use Rattle.mediator_connections.proofs.Offering.{err_gives, receipts_count}
 use Rattle.mediator_connections.proofs.Reading.{reading_starts, reads_on, reading_ends, begins_not, message_stops, intake_stops}
@@ -21,12 +21,12 @@ returns-in_err-messages-clause-stops g c =
 
 pub returns-in_default-clause-serves : goal.returns-in_default-clause-serves
 returns-in_default-clause-serves g c =
-    reading_ends c.args.pace.turns (length c.kept.result.now - length c.kept-before.result.now) c.reads.intake c.next.new.self (g.R.Source.remaining c.args.reader.now) (g.R.Source.remaining c.reads.reader) (g.R.Source.remaining c.next.new.reader) c.args.handle.now c.reads.handle c.reads.invariant.0 (subst (λ o. MatchOption o (Ends c.reads.intake (g.R.Source.remaining c.reads.reader) (g.R.Source.remaining c.next.new.reader) c.next.new.self) (λ out. Takes c.reads.intake (g.R.Source.remaining c.reads.reader) (g.R.Source.remaining c.next.new.reader) out.items c.next.new.self)) c.in_default.is c.in_ok-messages.ensures.ok)
+    reading_ends c.args.pace.turns (length c.kept.result.now - length c.kept-before.result.now) c.reads.intake c.next.new.self (g.R.Source.remaining c.args.reader.now) (g.R.Source.remaining c.reads.reader) (g.R.Source.remaining c.next.new.reader) c.args.handle.now c.reads.handle c.reads.invariant.0 (subst (λ o. MatchOption o (Ends c.reads.intake (g.R.Source.remaining c.reads.reader) (g.R.Source.remaining c.next.new.reader) c.next.new.self) (λ out. Yields c.reads.intake (g.R.Source.remaining c.reads.reader) (g.R.Source.remaining c.next.new.reader) out.items c.next.new.self)) c.in_default.is c.in_ok-messages.ensures.ok)
     (omega (arith, ap length c.kept.ensures.value, c.reads.invariant.2, receipts_count c.args.handle.now c.reads.handle c.reads.invariant.0.messages c.reads.invariant.0.all.offers))
 
 pub reads-preserved : goal.reads-preserved
 reads-preserved g c = (
-  reads_on c.args.pace.turns c.reads.intake c.next.new.self (g.R.Source.remaining c.args.reader.now) (g.R.Source.remaining c.reads.reader) (g.R.Source.remaining c.next.new.reader) c.args.handle.now c.reads.handle c.offer_piece.new.handle c.in-Some.messages.items c.reads.invariant.0 (subst (λ o. MatchOption o (Ends c.reads.intake (g.R.Source.remaining c.reads.reader) (g.R.Source.remaining c.next.new.reader) c.next.new.self) (λ out. Takes c.reads.intake (g.R.Source.remaining c.reads.reader) (g.R.Source.remaining c.next.new.reader) out.items c.next.new.self)) c.in-Some.is c.in_ok-messages.ensures.ok) c.in_ok-offer_piece.ensures.ok,
+  reads_on c.args.pace.turns c.reads.intake c.next.new.self (g.R.Source.remaining c.args.reader.now) (g.R.Source.remaining c.reads.reader) (g.R.Source.remaining c.next.new.reader) c.args.handle.now c.reads.handle c.offer_piece.new.handle c.in-Some.messages.items c.reads.invariant.0 (subst (λ o. MatchOption o (Ends c.reads.intake (g.R.Source.remaining c.reads.reader) (g.R.Source.remaining c.next.new.reader) c.next.new.self) (λ out. Yields c.reads.intake (g.R.Source.remaining c.reads.reader) (g.R.Source.remaining c.next.new.reader) out.items c.next.new.self)) c.in-Some.is c.in_ok-messages.ensures.ok) c.in_ok-offer_piece.ensures.ok,
   c.in_ok-messages.ensures.sound ∙ c.reads.invariant.1,
   c.reads.invariant.2,
 )
@@ -34,5 +34,5 @@ reads-preserved g c = (
 pub returns-in_err-offer_piece-clause-stops : goal.returns-in_err-offer_piece-clause-stops
 returns-in_err-offer_piece-clause-stops g c =
     err_gives c.from_residual-in_err-offer_piece.result c.from_residual-in_err-offer_piece.ensures
-    (λ e is. message_stops e c.args.pace.turns c.reads.intake c.next.new.self (g.R.Source.remaining c.args.reader.now) (g.R.Source.remaining c.reads.reader) (g.R.Source.remaining c.next.new.reader) c.args.handle.now c.reads.handle c.offer_piece.new.handle c.in-Some.messages.items c.reads.invariant.0 (subst (λ o. MatchOption o (Ends c.reads.intake (g.R.Source.remaining c.reads.reader) (g.R.Source.remaining c.next.new.reader) c.next.new.self) (λ out. Takes c.reads.intake (g.R.Source.remaining c.reads.reader) (g.R.Source.remaining c.next.new.reader) out.items c.next.new.self)) c.in-Some.is c.in_ok-messages.ensures.ok)
+    (λ e is. message_stops e c.args.pace.turns c.reads.intake c.next.new.self (g.R.Source.remaining c.args.reader.now) (g.R.Source.remaining c.reads.reader) (g.R.Source.remaining c.next.new.reader) c.args.handle.now c.reads.handle c.offer_piece.new.handle c.in-Some.messages.items c.reads.invariant.0 (subst (λ o. MatchOption o (Ends c.reads.intake (g.R.Source.remaining c.reads.reader) (g.R.Source.remaining c.next.new.reader) c.next.new.self) (λ out. Yields c.reads.intake (g.R.Source.remaining c.reads.reader) (g.R.Source.remaining c.next.new.reader) out.items c.next.new.self)) c.in-Some.is c.in_ok-messages.ensures.ok)
     (subst (λ x. RefusesAmong x c.reads.handle c.offer_piece.new.handle c.in-Some.messages.items) (sym is) c.in_err-offer_piece.ensures.err))

@@ -1,6 +1,6 @@
 use Rattle.std.proofs.Common.{rules, ap, ◌∙◌, filter, not, arith, []}
 use Rattle.indexmap.proofs.CallerLemmas.{filter-RetainsPairs}
-use Rattle.flow_aggregate.specs.Running.{Entries, Held, is_due}
+use Rattle.flow_aggregate.specs.Running.{Entries, HeldGroups, is_due}
 use Rattle.flow_aggregate.proofs.PlaceLaws.{all_counted, held_whole}
 use Rattle.flow_aggregate.proofs.KeptLaws.{kept_some}
 use Rattle.flow_aggregate.proofs.running.Running.keep_open.Goals as goal
@@ -16,5 +16,5 @@ returns c =
     held_whole c.len-self-inside.result c.retain.new.self.entries (omega (arith, c.len-self-inside.ensures.len))
     ∙ ap (λ (ds : Entries). counted_only ds) (is ∙ ap (λ (ds : Entries). filter (λ e. not (is_due c.args.t e.0)) ds) (all_counted c.self.inside.counted c.self.inside.groups.entries c.args.self.now c.self.view_is c.requires))
   where
-    counted_only : Entries → Held
+    counted_only : Entries → HeldGroups
     counted_only ds = record { groups = ds; ready = [] }

@@ -2,7 +2,7 @@ use Rattle.std.proofs.Common.{ap, sym, subst, List, string_bytes}
 use Rattle.std.specs.Arc.{arc_value}
 use Rattle.std.specs.Option.{option_map}
 use Rattle.flow_anonymize.specs.declared.slot.Slot.{Slot}
-use Rattle.flow_anonymize.specs.Plans.{PlansOf, PlansFor, IsSlot, AreKept}
+use Rattle.flow_anonymize.specs.Plans.{PlansOf, PlansFor, IsSlot, ArePlansKept}
 use Rattle.flow_anonymize.proofs.PlanLaws.{kept_put}
 use Rattle.flow_anonymize.proofs.plans.Plans.disclose_anew.Goals as goal
 
@@ -10,5 +10,5 @@ pub invariant_of-self-2 : goal.invariant_of-self-2
 invariant_of-self-2 c =
     let for : PlansFor = record { rules = (arc_value c.self.inside.table); cuts = (arc_value c.self.inside.classes); name = (string_bytes c.self.inside.name); domain = c.self.inside.domain; template = option_map arc_value c.self.inside.template } in
     let P : PlansFor → Type 0 = λ f. IsSlot f c.in_ok-slot.slot in
-    subst (λ (slots : List Slot). AreKept for slots) (sym c.give.ensures.slots)
+    subst (λ (slots : List Slot). ArePlansKept for slots) (sym c.give.ensures.slots)
     (kept_put for c.self.inside.cache.slots c.in_ok-slot.slot c.in_ok-place.place c.keep.new.self.slots c.self.invariant (subst P (sym (ap (λ (p : PlansOf). p.for) c.self.view_is)) c.in_ok-slot.ensures.1) c.in_ok-place.ensures.put)

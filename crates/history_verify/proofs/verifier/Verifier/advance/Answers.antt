@@ -1,6 +1,6 @@
 use Rattle.std.proofs.Common.{refl, sym, subst}
 use Rattle.event_journal.specs.declared.entry.Entry.TheVariants.{Advance}
-use Rattle.history_verify.specs.declared.fault.VerifyFault.{VerifyFault}
+use Rattle.history_verify.specs.declared.fault.Fault.{Fault}
 use Rattle.history_verify.specs.Standing.{NamesUnborne, IsFirstOr}
 use Rattle.history_verify.proofs.FeedLaws.{err_gives, on_err, not_where, where_true, refused, names_unborne, fed_same, fed_more, short_front}
 use Rattle.history_verify.proofs.verifier.Verifier.advance.Goals as goal
@@ -16,7 +16,7 @@ pub returns-in_err-borne_out-clause-err : goal.returns-in_err-borne_out-clause-e
 returns-in_err-borne_out-clause-err c =
     err_gives c.from_residual-in_err-borne_out.result c.from_residual-in_err-borne_out.ensures
     (λ e same h fed. names_unborne c.args.self.now h (Advance c.args.t) e c.in_ok-unborne.unborne fed
-    (subst (λ (w : VerifyFault). NamesUnborne w c.args.self.now c.in_ok-unborne.unborne) (sym same) c.in_err-borne_out.ensures.err) refl
+    (subst (λ (w : Fault). NamesUnborne w c.args.self.now c.in_ok-unborne.unborne) (sym same) c.in_err-borne_out.ensures.err) refl
     (where_true c.may_advance.result (c.may_advance.ensures fed.front fed.over.stands) c.if-not-may_advance.false)
     (c.in_ok-unborne.ensures.first fed.over.stands.settled fed.front fed.over.stands.over))
 

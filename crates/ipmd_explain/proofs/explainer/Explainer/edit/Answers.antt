@@ -1,6 +1,6 @@
 use Rattle.std.proofs.Common.{refl, sym, ap, ◌∙◌, Option}
 use Rattle.std.specs.Prelude.{string_bytes, unwrap_or}
-use Rattle.policy_text.specs.Policies.{Meaning as Policy}
+use Rattle.policy_text.specs.Policies.{PolicyMeaning as Policy}
 use Rattle.event_journal.specs.declared.entry.Entry.TheVariants.{Edit}
 use Rattle.history_verify.proofs.ExporterLaws.{exporters_stay}
 use Rattle.ipmd_explain.proofs.StandingLaws.{or_none, taken_silent}

@@ -1,27 +1,19 @@
-use Rattle.std.proofs.Common.{subst, ◌∙◌}
+use Rattle.std.proofs.Common.{subst}
 use Rattle.mediator_calls.specs.Mediation.{Mediation}
 use Rattle.mediator_calls.specs.View.{view_of}
 use Rattle.mediator_calls.specs.Calls.{Opens}
-use Rattle.mediator_calls.proofs.CallLaws.{if_ok_at, if_ok_none, opens, kept_open, kept_same, same_on, on_err_at, on_err_none}
-use Rattle.mediator_calls.proofs.mediator.Mediator.open.Goals.{in-Ok, in-Err}
+use Rattle.mediator_calls.proofs.CallLaws.{if_ok_gives, opens, kept_by, kept_open, refused_same}
 use Rattle.mediator_calls.proofs.mediator.Mediator.open.Goals as goal
 
 pub invariant_of-self : goal.invariant_of-self
-invariant_of-self c = elim c.match-open.branch [
-  | in-Ok w ↦ kept_open c.self.inside.state c.open.new.self w.in-Ok.session c.self.invariant (w.in-Ok.ensures.ok.goes_on c.self.inside.state.chronicle.entries c.self.invariant.stands) w.in-Ok.ensures.ok.untouched w.in-Ok.ensures.ok.journaled
-  | in-Err w ↦ kept_same c.self.inside.state c.open.new.self c.self.invariant w.in-Err.ensures.unchanged
-]
+invariant_of-self c = kept_by c.open.result c.self.inside.state c.open.new.self c.self.invariant c.open.ensures.ok
+    (λ x ok. kept_open c.self.inside.state c.open.new.self x.0 c.self.invariant (ok.goes_on c.self.inside.state.chronicle.entries c.self.invariant.stands) ok.untouched ok.journaled)
+    c.open.ensures.unchanged
 
 pub returns-clause-ok : goal.returns-clause-ok
-returns-clause-ok c = elim c.match-open.branch [
-  | in-Ok w ↦ if_ok_at _ c.match-open.result _ w.result-is
-      (subst (λ (m : Mediation). Opens m w.in-Ok.session (view_of c.open.new.self)) c.self.view_is
-      (opens c.self.inside.state c.open.new.self w.in-Ok.session c.self.invariant.stands (w.in-Ok.ensures.ok.goes_on c.self.inside.state.chronicle.entries c.self.invariant.stands) w.in-Ok.ensures.ok.untouched w.in-Ok.ensures.ok.journaled))
-  | in-Err w ↦ if_ok_none _ c.match-open.result _ w.result-is
-]
+returns-clause-ok c = if_ok_gives c.open.result c.open.ensures.ok
+    (λ x ok. subst (λ (m : Mediation). Opens m x.0 (view_of c.open.new.self)) c.self.view_is
+    (opens c.self.inside.state c.open.new.self x.0 c.self.invariant.stands (ok.goes_on c.self.inside.state.chronicle.entries c.self.invariant.stands) ok.untouched ok.journaled))
 
 pub returns-clause-unchanged : goal.returns-clause-unchanged
-returns-clause-unchanged c = elim c.match-open.branch [
-  | in-Ok w ↦ on_err_none _ c.match-open.result _ w.result-is
-  | in-Err w ↦ on_err_at c.match-open.result _ w.result-is (same_on c.self.inside.state c.open.new.self c.self.invariant.stands w.in-Err.ensures.unchanged ∙ c.self.view_is)
-]
+returns-clause-unchanged c = refused_same c.open.result c.self.inside.state c.open.new.self c.args.self.now c.self.invariant.stands c.self.view_is c.open.ensures.unchanged

@@ -1,9 +1,8 @@
 use Rattle.std.proofs.Common.{◌≡◌, ◌++◌, ◌∷◌, List, ℕ, Some, IfOk, slice_get, length, sym, ap, ◌∙◌, subst, arith}
 use Rattle.std.proofs.lemmas.Result.{IfOk-weaker}
 use Rattle.std.proofs.lemmas.List.{length-map}
-use Rattle.flow_anonymize.specs.declared.decision.Decision.{Decision}
 use Rattle.flow_anonymize.specs.Classes.{classes_of}
-use Rattle.flow_anonymize.specs.Outcome.{passed, decision_of}
+use Rattle.flow_anonymize.specs.Outcome.{Decision, passed, decision_of}
 use Rattle.flow_anonymize.specs.Plans.{PlansFor, outcome_for}
 use Rattle.mediator_shares.specs.Judges.{Judges, for_of, given_to}
 use Rattle.mediator_shares.proofs.JudgeLaws.{own_for, which_for, set_same}

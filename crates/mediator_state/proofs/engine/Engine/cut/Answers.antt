@@ -1,12 +1,12 @@
 use Rattle.std.proofs.Common.{[], ◌∷◌, refl, sym, ap, subst, rules}
-use Rattle.disclosure_audit.specs.Queue.{Takes}
+use Rattle.disclosure_audit.specs.Queue.{TakesEntries}
 use Rattle.disclosure_audit.specs.declared.entry.What.TheVariants.{Cut as CutOff}
 use Rattle.mediator_history.specs.Auditing.{audit_entry}
-use Rattle.flow_aggregate.specs.Running.{Held}
+use Rattle.flow_aggregate.specs.Running.{HeldGroups}
 use Rattle.mediator_state.proofs.CutSteps.{cut_step}
 use Rattle.mediator_state.proofs.engine.Engine.cut.Goals as goal
 
 pub returns-clause-stands : goal.returns-clause-stands
 returns-clause-stands c = λ h so counted.
-    cut_step c.args.self.now _ h c.args.number so (record { in_force = refl; edits = refl; opened = refl; begun = refl; sessions = refl; limits = refl; audit_limit = search rules; drained = search rules }) c.cut.ensures.each c.cut.ensures.served (ap (λ (x : Held). x.groups) c.remove.ensures.gone) (λ q other. ap (λ (x : Held). x.groups) (c.remove.ensures.others q other))
-    (subst (λ n. Takes c.args.self.now.audit.standing (audit_entry n 0 c.args.number CutOff ∷ []) c.push_reserved.new.self.standing) (sym counted) c.push_reserved.ensures.stands)
+    cut_step c.args.self.now _ h c.args.sub.0 so (record { in_force = refl; edits = refl; opened = refl; begun = refl; sessions = refl; limits = refl; audit_limit = search rules; drained = search rules }) c.cut.ensures.each c.cut.ensures.served (ap (λ (x : HeldGroups). x.groups) c.remove.ensures.gone) (λ q other. ap (λ (x : HeldGroups). x.groups) (c.remove.ensures.others q other))
+    (subst (λ n. TakesEntries c.args.self.now.audit.standing (audit_entry n 0 c.args.sub.0 CutOff ∷ []) c.push_reserved.new.self.standing) (sym counted) c.push_reserved.ensures.stands)

@@ -2,5 +2,5 @@ use Rattle.std.proofs.Common.{arith}
 use Rattle.mediator_state.proofs.EntrySteps.{few_opened}
 use Rattle.mediator_state.proofs.engine.Engine.next_session.Goals as goal
 
-pub overflow_add-result : goal.overflow_add-result
-overflow_add-result c = omega (arith, few_opened c.args.self.now c.args.position c.requires.somewhere)
+pub overflow_add-number : goal.overflow_add-number
+overflow_add-number c = omega (arith, few_opened c.args.self.now c.args.position c.requires.somewhere)

@@ -4,7 +4,7 @@ use Rattle.mediator_state.specs.declared.engine.Engine.{Engine}
 use Rattle.mediator_state.specs.declared.fault.Fault.{Fault}
 use Rattle.mediator_state.specs.Seen.{IsSameEngine}
 use Rattle.mediator_state.specs.Advancing.{IsClosingFor}
-use Rattle.mediator_state.specs.Calls.{RefusesAdvance}
+use Rattle.mediator_state.specs.Calls.{RefusesAdvanceAfter}
 use Rattle.mediator_state.proofs.SameLaws.{untouched_same, untouched_after}
 use Rattle.mediator_state.proofs.CallLaws.{full_where, room_where, same_state, same_roomed, err_gives, on_err}
 use Rattle.mediator_state.proofs.AdvanceCalls.{ahead_of, ahead_memory, closing_held, closing_found, closing_full, closing_audit, closing_for, advanced}
@@ -47,7 +47,7 @@ pub returns-in_err-make_room_to_close-clause-err : goal.returns-in_err-make_room
 returns-in_err-make_room_to_close-clause-err g c =
     err_gives c.from_residual-in_err-make_room_to_close.result c.from_residual-in_err-make_room_to_close.ensures
     (λ e is h s.
-    subst (λ (why : Fault). RefusesAdvance why (g.C.Chronicle.limits c.args.self.now.chronicle) c.args.self.now.engine h c.args.t) (sym is)
+    subst (λ (why : Fault). RefusesAdvanceAfter why (g.C.Chronicle.limits c.args.self.now.chronicle) c.args.self.now.engine h c.args.t) (sym is)
     (closing_audit c.in_err-make_room_to_close.field-0.0 (g.C.Chronicle.limits c.args.self.now.chronicle) (g.C.Chronicle.count c.args.self.now.chronicle) (g.C.Chronicle.octets c.args.self.now.chronicle) c.args.self.now.engine h c.args.t c.in_ok-closing.closing c.in_ok-entries.entries.items (g.met.C.Chronicle.counted c.args.self.now.chronicle h s.told)
     (closing_found c.args.self.now.engine h c.args.t c.in_ok-closing.closing c.in_ok-entries.entries.items c.deref.result.now (ahead_of c.args.self.now.engine h c.args.t c.clock-last.result s.stands c.clock-last.ensures (omega (arith, c.if-t-last.false))) (c.in_ok-closing.ensures h s.stands) c.in_ok-entries.ensures c.deref.ensures.value)
     (room_where c.room.result (g.C.Chronicle.limits c.args.self.now.chronicle) (g.C.Chronicle.count c.args.self.now.chronicle) (g.C.Chronicle.octets c.args.self.now.chronicle) c.deref-2.result.now c.in_ok-entries.entries.items c.room.ensures c.deref-2.ensures.value c.if-not-room.false)

@@ -15,7 +15,7 @@ pub returns-clause-ok : goal.returns-clause-ok
 returns-clause-ok g c = record {
   goes_on = λ h s. record {
     opened = sym (c.is_open.ensures h s.stands) ∙ c.if-not-is_open.false;
-    accepts = accepts_one g.C.Chronicle.tells g.C.Chronicle.limits g.C.Chronicle.count g.C.Chronicle.octets c.args.self.now c.make_room.new.self c.push_reserved.new.self c.close.new.self h (Close c.args.session) (Close c.args.session)
+    accepts = accepts_one g.C.Chronicle.tells g.C.Chronicle.limits g.C.Chronicle.count g.C.Chronicle.octets c.args.self.now c.make_room.new.self c.push_reserved.new.self c.close.new.self h (Close c.args.session.0) (Close c.args.session.0)
         s (g.met.C.Chronicle.counted c.args.self.now.chronicle h s.told) c.make_room.ensures.limits c.make_room.ensures.count c.make_room.ensures.octets c.in_ok-make_room.ensures.room
         refl c.make_room.ensures.tells c.push_reserved.ensures.tells c.make_room.ensures.engine c.close.ensures.stands;
   };

@@ -28,7 +28,7 @@ pub returns-in_err-make_room-clause-err : goal.returns-in_err-make_room-clause-e
 returns-in_err-make_room-clause-err g c =
     err_gives c.from_residual-in_err-make_room.result c.from_residual-in_err-make_room.ensures
     (λ e is h s. subst (λ (why : Fault). RefusesSubscribe why (g.C.Chronicle.limits c.args.self.now.chronicle) h c.args.name.now) (sym is)
-    (refused_subscribe c.in_err-make_room.field-0.0 (g.C.Chronicle.limits c.args.self.now.chronicle) (g.C.Chronicle.count c.args.self.now.chronicle) (g.C.Chronicle.octets c.args.self.now.chronicle) h c.args.name.now c.next_subscription-sub.result c.in_ok-copy.copy
+    (refused_subscribe c.in_err-make_room.field-0.0 (g.C.Chronicle.limits c.args.self.now.chronicle) (g.C.Chronicle.count c.args.self.now.chronicle) (g.C.Chronicle.octets c.args.self.now.chronicle) h c.args.name.now c.next_subscription-sub.result.0 c.in_ok-copy.copy
     (c.next_subscription-sub.ensures.next h s.stands) (c.in_ok-copy.ensures ∙ c.as_bytes.ensures.value) (g.met.C.Chronicle.counted c.args.self.now.chronicle h s.told) (sym c.is_name.ensures ∙ c.if-not-is_name.false) (c.in_default.ensures.none h s.stands) c.in_err-make_room.ensures.err))
 
 pub returns-in_err-subscribe-clause-err : goal.returns-in_err-subscribe-clause-err
@@ -42,9 +42,9 @@ returns-clause-ok g c = record {
     named = sym c.is_name.ensures ∙ c.if-not-is_name.false;
     free = c.in_default.ensures.none h s.stands;
     number = c.next_subscription-sub.ensures.next h s.stands;
-    accepts = accepts_one g.C.Chronicle.tells g.C.Chronicle.limits g.C.Chronicle.count g.C.Chronicle.octets c.args.self.now c.make_room.new.self c.push_reserved.new.self c.subscribe.new.self h (Subscribe c.next_subscription-sub.result c.in_ok-copy.copy) (Subscribe c.next_subscription-sub.result c.args.name.now)
+    accepts = accepts_one g.C.Chronicle.tells g.C.Chronicle.limits g.C.Chronicle.count g.C.Chronicle.octets c.args.self.now c.make_room.new.self c.push_reserved.new.self c.subscribe.new.self h (Subscribe c.next_subscription-sub.result.0 c.in_ok-copy.copy) (Subscribe c.next_subscription-sub.result.0 c.args.name.now)
         s (g.met.C.Chronicle.counted c.args.self.now.chronicle h s.told) c.make_room.ensures.limits c.make_room.ensures.count c.make_room.ensures.octets c.in_ok-make_room.ensures.room
-        (ap (λ (n : List ℕ). Subscribe c.next_subscription-sub.result n) (c.in_ok-copy.ensures ∙ c.as_bytes.ensures.value))
+        (ap (λ (n : List ℕ). Subscribe c.next_subscription-sub.result.0 n) (c.in_ok-copy.ensures ∙ c.as_bytes.ensures.value))
         c.make_room.ensures.tells c.push_reserved.ensures.tells c.make_room.ensures.engine c.in_ok-subscribe.ensures.ok;
   };
   untouched = subst (λ (e : Engine). IsUntouched e c.subscribe.new.self) c.make_room.ensures.engine c.subscribe.ensures.untouched;

@@ -1,5 +1,5 @@
 use Rattle.std.proofs.Common.{◌≡◌, ℕ, List, ◌∙◌, subst}
-use Rattle.mediator_state.specs.Calls.{Proceeds, Receives, RefusesReceive}
+use Rattle.mediator_state.specs.Calls.{Proceeds, ReceivesAfter, RefusesReceiveAfter}
 use Rattle.mediator_state.proofs.CallLaws.{if_ok_gives, if_err_gives, refused_as_prepared, same_state, on_err}
 use Rattle.mediator_state.proofs.state.State.take_prepared.Goals as goal
 
@@ -13,11 +13,11 @@ pub returns-clause-ok : goal.returns-clause-ok
 returns-clause-ok g c = if_ok_gives c.take_in.result c.take_in.ensures.ok
     (λ r got.
     let same : c.in_ok-message.message ≡ c.args.prepared.now.message = c.in_ok-message.ensures.cases ∙ c.message.ensures.value in
-    subst (λ (m : List ℕ). Proceeds g.C.Chronicle.tells g.C.Chronicle.limits c.args.self.now c.take_in.new.self (Receives c.args.self.now.engine c.args.session c.args.number m r)) same got)
+    subst (λ (m : List ℕ). Proceeds g.C.Chronicle.tells g.C.Chronicle.limits c.args.self.now c.take_in.new.self (ReceivesAfter c.args.self.now.engine c.args.session.0 c.args.number m r)) same got)
 
 pub returns-clause-err : goal.returns-clause-err
 returns-clause-err g c = if_err_gives c.take_in.result c.take_in.ensures.err
     (λ e refused h s.
     let same : c.in_ok-message.message ≡ c.args.prepared.now.message = c.in_ok-message.ensures.cases ∙ c.message.ensures.value in
-    refused_as_prepared e (g.C.Chronicle.limits c.args.self.now.chronicle) c.args.self.now.engine h c.args.session c.args.number c.args.prepared.now c.in_ok-reading.reading (c.in_ok-reading.ensures.ok h s.stands)
-    (subst (λ (m : List ℕ). RefusesReceive e (g.C.Chronicle.limits c.args.self.now.chronicle) c.args.self.now.engine h c.args.session c.args.number m) same (refused h s)))
+    refused_as_prepared e (g.C.Chronicle.limits c.args.self.now.chronicle) c.args.self.now.engine h c.args.session.0 c.args.number c.args.prepared.now c.in_ok-reading.reading (c.in_ok-reading.ensures.ok h s.stands)
+    (subst (λ (m : List ℕ). RefusesReceiveAfter e (g.C.Chronicle.limits c.args.self.now.chronicle) c.args.self.now.engine h c.args.session.0 c.args.number m) same (refused h s)))

@@ -1,7 +1,7 @@
 use Rattle.std.proofs.Common.{rules, ap, sym, subst, ◌∙◌, ◌++◌, map}
 use Rattle.std.specs.Map.{keys_of}
-use Rattle.flow_aggregate.specs.Running.{Held, StandsFor}
-use Rattle.flow_aggregate.specs.Additions.{AreReady}
+use Rattle.flow_aggregate.specs.Running.{HeldGroups, SumsStand}
+use Rattle.flow_aggregate.specs.Additions.{AreReadyToAdd}
 use Rattle.flow_aggregate.specs.Counts.{count_of}
 use Rattle.mediator_tables.specs.GroupTable.{held_at}
 use Rattle.mediator_tables.proofs.GroupTableLaws.{Table, at_table, held_before, held_after, others_held, keys_written, once_written, nowhere}
@@ -17,7 +17,7 @@ invariant_of-self c = elim c.match-get_index_mut.branch [
 pub add_reserved-requires : goal.add_reserved-requires
 add_reserved-requires c = (
   c.requires.1,
-  subst (λ (h : Held). AreReady h c.args.reserved.additions.items c.requires.1)
+  subst (λ (h : HeldGroups). AreReadyToAdd h c.args.reserved.additions.items c.requires.1)
       (held_before c.args.self.now c.self.inside.by_number.entries c.args.reserved.place c.requires.0 c.in-Some.groups.now c.in-Some.groups.now c.self.view_is c.requires.2.0 c.self.invariant (search rules)) c.requires.2.1,
 )
 
@@ -25,16 +25,16 @@ pub returns-clause-adds : goal.returns-clause-adds
 returns-clause-adds c sub before more ready stands = elim c.match-get_index_mut.branch [
   | in-Some w ↦ rw w.self-inside-is
       (let was = held_before c.args.self.now c.self.inside.by_number.entries c.args.reserved.place sub w.in-Some.groups.now w.add_reserved.new.self c.self.view_is ready.0 c.self.invariant (search rules) in
-      subst (λ (h : Held). StandsFor h.groups (before ++ more))
+      subst (λ (h : HeldGroups). SumsStand h.groups (before ++ more))
       (sym (held_after c.args.self.now c.self.inside.by_number.entries c.args.reserved.place sub w.in-Some.groups.now w.add_reserved.new.self c.self.view_is ready.0 c.self.invariant (search rules)))
-      (w.add_reserved.ensures.adds before more (subst (λ (h : Held). StandsFor h.groups before) was stands) (subst (λ (h : Held). AreReady h c.args.reserved.additions.items (map count_of more)) was ready.1)))
+      (w.add_reserved.ensures.adds before more (subst (λ (h : HeldGroups). SumsStand h.groups before) was stands) (subst (λ (h : HeldGroups). AreReadyToAdd h c.args.reserved.additions.items (map count_of more)) was ready.1)))
   | in_default w ↦ absurd (nowhere c.self.inside.by_number.entries c.args.reserved.place sub (search rules) (at_table c.args.self.now c.self.inside.by_number.entries c.args.reserved.place sub c.self.view_is ready.0))
 ]
 
 pub returns-clause-ready : goal.returns-clause-ready
 returns-clause-ready c sub at = elim c.match-get_index_mut.branch [
   | in-Some w ↦ rw w.self-inside-is
-      (ap (λ (h : Held). h.ready) (held_after c.args.self.now c.self.inside.by_number.entries c.args.reserved.place sub w.in-Some.groups.now w.add_reserved.new.self c.self.view_is at c.self.invariant (search rules))
+      (ap (λ (h : HeldGroups). h.ready) (held_after c.args.self.now c.self.inside.by_number.entries c.args.reserved.place sub w.in-Some.groups.now w.add_reserved.new.self c.self.view_is at c.self.invariant (search rules))
       ∙ w.add_reserved.ensures.ready)
   | in_default w ↦ absurd (nowhere c.self.inside.by_number.entries c.args.reserved.place sub (search rules) (at_table c.args.self.now c.self.inside.by_number.entries c.args.reserved.place sub c.self.view_is at))
 ]

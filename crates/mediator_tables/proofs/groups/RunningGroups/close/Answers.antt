@@ -1,6 +1,6 @@
 use Rattle.std.proofs.Common.{rules, ◌≡◌, List, [], ℕ, refl, sym, subst}
-use Rattle.flow_aggregate.specs.Groups.{Counted}
-use Rattle.flow_aggregate.specs.Running.{Held, StandsFor, staying}
+use Rattle.flow_aggregate.specs.Groups.{Sample}
+use Rattle.flow_aggregate.specs.Running.{HeldGroups, SumsStand, staying}
 use Rattle.flow_aggregate.proofs.RunningLaws.{stays}
 use Rattle.mediator_tables.specs.GroupTable.{groups_at}
 use Rattle.mediator_tables.proofs.GroupTableLaws.{all_written}
@@ -8,10 +8,10 @@ use Rattle.mediator_tables.proofs.groups.RunningGroups.close.Goals as goal
 
 pub returns-clause-stays : goal.returns-clause-stays
 returns-clause-stays c q counted stands =
-    all_written _ (λ (v w : Held). (cs : List Counted) → StandsFor v.groups cs → StandsFor w.groups (staying c.args.t cs)) (λ cs stood. stays c.args.t [] cs stood) _
+    all_written _ (λ (v w : HeldGroups). (cs : List Sample) → SumsStand v.groups cs → SumsStand w.groups (staying c.args.t cs)) (λ cs stood. stays c.args.t [] cs stood) _
     (λ k v b w g call. (search rules, λ cs before. search rules, search rules)) _ _ c.self.invariant c.retain.ensures.filtered q counted
-    (subst (λ (es : List (ℕ × Held)). StandsFor (groups_at es q) counted) (sym c.self.view_is) stands)
+    (subst (λ (es : List (ℕ × HeldGroups)). SumsStand (groups_at es q) counted) (sym c.self.view_is) stands)
 
 pub returns-clause-ready : goal.returns-clause-ready
 returns-clause-ready c q =
-    all_written _ (λ (v w : Held). w.ready ≡ []) refl _ (λ k v b w g call. (search rules, search rules, search rules)) _ _ c.self.invariant c.retain.ensures.filtered q
+    all_written _ (λ (v w : HeldGroups). w.ready ≡ []) refl _ (λ k v b w g call. (search rules, search rules, search rules)) _ _ c.self.invariant c.retain.ensures.filtered q

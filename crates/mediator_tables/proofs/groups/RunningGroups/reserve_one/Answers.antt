@@ -1,7 +1,7 @@
 use Rattle.std.proofs.Common.{rules, ap, sym, subst, ◌∙◌, ◌≤◌, length, List}
-use Rattle.flow_aggregate.specs.Running.{Held}
+use Rattle.flow_aggregate.specs.Running.{HeldGroups}
 use Rattle.flow_aggregate.specs.Counts.{Count}
-use Rattle.flow_aggregate.specs.Additions.{AreReady}
+use Rattle.flow_aggregate.specs.Additions.{AreReadyToAdd}
 use Rattle.mediator_tables.proofs.GroupTableLaws.{at_table, held_after, others_held, places_held, groups_held, once_written, nowhere}
 use Rattle.mediator_tables.proofs.groups.RunningGroups.reserve_one.Goals as goal
 
@@ -14,11 +14,11 @@ invariant_of-self-2 c = once_written c.self.inside.by_number.entries c.in_ok-pla
 pub returns-in_err-additions-in-Some-clause-unchanged : goal.returns-in_err-additions-in-Some-clause-unchanged
 returns-in_err-additions-in-Some-clause-unchanged c q =
     groups_held c.place_of.new.self c.self.inside.by_number.entries c.in_ok-place.place c.args.tally.now.sub c.in-Some.groups.now c.reserve.new.self c.self.view_is c.in_ok-place.ensures.ok c.self.invariant (search rules) c.reserve.ensures.unchanged q
-    ∙ ap (λ (h : Held). h.groups) (c.in_ok-place.ensures.unchanged q)
+    ∙ ap (λ (h : HeldGroups). h.groups) (c.in_ok-place.ensures.unchanged q)
 
 pub returns-in_err-additions-in-Some-clause-few : goal.returns-in_err-additions-in-Some-clause-few
 returns-in_err-additions-in-Some-clause-few c =
-    subst (λ (h : Held). length h.ready ≤ length c.args.tally.now.counts.items) (sym (held_after c.place_of.new.self c.self.inside.by_number.entries c.in_ok-place.place c.args.tally.now.sub c.in-Some.groups.now c.reserve.new.self c.self.view_is c.in_ok-place.ensures.ok c.self.invariant (search rules)))
+    subst (λ (h : HeldGroups). length h.ready ≤ length c.args.tally.now.counts.items) (sym (held_after c.place_of.new.self c.self.inside.by_number.entries c.in_ok-place.place c.args.tally.now.sub c.in-Some.groups.now c.reserve.new.self c.self.view_is c.in_ok-place.ensures.ok c.self.invariant (search rules)))
     (subst (λ (counts : List Count). length c.reserve.new.self.ready ≤ length counts) c.deref.ensures.value c.reserve.ensures.few)
 
 pub returns-in_err-additions-in-Some-clause-others : goal.returns-in_err-additions-in-Some-clause-others
@@ -39,11 +39,11 @@ unreachable-requires c =
 pub returns-clause-unchanged : goal.returns-clause-unchanged
 returns-clause-unchanged c q =
     groups_held c.place_of.new.self c.self.inside.by_number.entries c.in_ok-place.place c.args.tally.now.sub c.in-Some.groups.now c.reserve.new.self c.self.view_is c.in_ok-place.ensures.ok c.self.invariant (search rules) c.reserve.ensures.unchanged q
-    ∙ ap (λ (h : Held). h.groups) (c.in_ok-place.ensures.unchanged q)
+    ∙ ap (λ (h : HeldGroups). h.groups) (c.in_ok-place.ensures.unchanged q)
 
 pub returns-clause-few : goal.returns-clause-few
 returns-clause-few c =
-    subst (λ (h : Held). length h.ready ≤ length c.args.tally.now.counts.items) (sym (held_after c.place_of.new.self c.self.inside.by_number.entries c.in_ok-place.place c.args.tally.now.sub c.in-Some.groups.now c.reserve.new.self c.self.view_is c.in_ok-place.ensures.ok c.self.invariant (search rules)))
+    subst (λ (h : HeldGroups). length h.ready ≤ length c.args.tally.now.counts.items) (sym (held_after c.place_of.new.self c.self.inside.by_number.entries c.in_ok-place.place c.args.tally.now.sub c.in-Some.groups.now c.reserve.new.self c.self.view_is c.in_ok-place.ensures.ok c.self.invariant (search rules)))
     (subst (λ (counts : List Count). length c.reserve.new.self.ready ≤ length counts) c.deref.ensures.value c.reserve.ensures.few)
 
 pub returns-clause-others : goal.returns-clause-others
@@ -59,6 +59,6 @@ returns-clause-places c place q at =
 pub returns-clause-ok : goal.returns-clause-ok
 returns-clause-ok c = (
   places_held c.place_of.new.self c.self.inside.by_number.entries c.in_ok-place.place c.args.tally.now.sub c.in-Some.groups.now c.reserve.new.self c.self.view_is c.in_ok-place.ensures.ok c.self.invariant (search rules) c.in_ok-place.place c.args.tally.now.sub c.in_ok-place.ensures.ok,
-  subst (λ (h : Held). AreReady h c.in_ok-additions-in-Some.additions.items c.args.tally.now.counts.items) (sym (held_after c.place_of.new.self c.self.inside.by_number.entries c.in_ok-place.place c.args.tally.now.sub c.in-Some.groups.now c.reserve.new.self c.self.view_is c.in_ok-place.ensures.ok c.self.invariant (search rules)))
-      (subst (AreReady c.reserve.new.self c.in_ok-additions-in-Some.additions.items) c.deref.ensures.value c.in_ok-additions-in-Some.ensures.ok),
+  subst (λ (h : HeldGroups). AreReadyToAdd h c.in_ok-additions-in-Some.additions.items c.args.tally.now.counts.items) (sym (held_after c.place_of.new.self c.self.inside.by_number.entries c.in_ok-place.place c.args.tally.now.sub c.in-Some.groups.now c.reserve.new.self c.self.view_is c.in_ok-place.ensures.ok c.self.invariant (search rules)))
+      (subst (AreReadyToAdd c.reserve.new.self c.in_ok-additions-in-Some.additions.items) c.deref.ensures.value c.in_ok-additions-in-Some.ensures.ok),
 )

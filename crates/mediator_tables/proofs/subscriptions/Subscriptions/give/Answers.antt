@@ -2,7 +2,7 @@ use Rattle.std.proofs.Common.{map, refl, sym, ap, arith, [], ◌∷◌}
 use Rattle.std.proofs.lemmas.List.{nil_from_length}
 use Rattle.std.specs.Vec.Iter.{into_iter_items}
 use Rattle.ipfix_session.specs.Keeping.{at_key}
-use Rattle.mediator_tables.specs.SubscriptionTable.{Table, shown, given_to}
+use Rattle.mediator_tables.specs.SubscriptionTable.{SubscriptionRows, shown, given_to}
 use Rattle.mediator_tables.specs.Naming.{number_of, name_at}
 use Rattle.mediator_tables.proofs.NameLaws.{named_same, name_given}
 use Rattle.mediator_tables.proofs.ShareLaws.{giving_start, giving_ready, giving_next, giving_end}
@@ -12,8 +12,8 @@ pub shares-init : goal.shares-init
 shares-init c = record {
   named = c.self.invariant;
   giving = giving_start c.args.self.now.live c.self.inside.by_number.entries (map shown c.args.shares.items) (map shown (into_iter_items c.into_iter-share-iterator.result))
-      (ap (λ (t : Table). t.live) c.self.view_is) (ap (map shown) (sym c.into_iter-share-iterator.ensures.into_iter_gives.0)) c.requires.ready;
-  served = ap (λ (t : Table). t.served) c.self.view_is;
+      (ap (λ (t : SubscriptionRows). t.live) c.self.view_is) (ap (map shown) (sym c.into_iter-share-iterator.ensures.into_iter_gives.0)) c.requires.ready;
+  served = ap (λ (t : SubscriptionRows). t.served) c.self.view_is;
 }
 
 pub give_one-requires : goal.give_one-requires

@@ -1,6 +1,6 @@
 use Rattle.std.proofs.Common.{◌∙◌, refl, ap, arith}
 use Rattle.std.specs.Option.{option_map}
-use Rattle.mediator_tables.specs.SubscriptionTable.{Table, at, shown, seen}
+use Rattle.mediator_tables.specs.SubscriptionTable.{SubscriptionRows, at, shown, seen_subscription}
 use Rattle.mediator_tables.specs.Naming.{number_of, name_at}
 use Rattle.mediator_tables.proofs.NameLaws.{named_same, names_seen}
 use Rattle.mediator_tables.proofs.ShareLaws.{spare_more}
@@ -9,8 +9,8 @@ use Rattle.mediator_tables.proofs.subscriptions.Subscriptions.reserve.Goals as g
 pub shares-init : goal.shares-init
 shares-init c = record {
   named = c.self.invariant;
-  same = λ q. ap (λ (t : Table). option_map seen (at t q)) c.self.view_is;
-  served = ap (λ (t : Table). t.served) c.self.view_is;
+  same = λ q. ap (λ (t : SubscriptionRows). option_map seen_subscription (at t q)) c.self.view_is;
+  served = ap (λ (t : SubscriptionRows). t.served) c.self.view_is;
   spare = tt;
 }
 

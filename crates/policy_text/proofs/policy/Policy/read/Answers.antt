@@ -1,6 +1,6 @@
 use Rattle.std.proofs.Common.{◌+◌, Option, Some, None, Ok, sym, ap, ◌∙◌, subst, arith, length}
-use Rattle.policy_text.specs.Policies.{Meaning}
-use Rattle.policy_text.specs.declared.fault.PolicyFault.{PolicyFault}
+use Rattle.policy_text.specs.Policies.{PolicyMeaning}
+use Rattle.policy_text.specs.declared.fault.Fault.{Fault}
 use Rattle.flow_prefix.proofs.PartsLaws.{cut_at-shorter}
 use Rattle.policy_text.specs.Results.{fault_at}
 use Rattle.policy_text.specs.Parsing.{line_step, policy_of}
@@ -19,7 +19,7 @@ lines-init c =
 pub returns-in-Err : goal.returns-in-Err
 returns-in-Err c =
     let whole = read_lines-cut c.lines.policy c.lines.number c.lines.rest.now c.in-Some.line.now c.in-Some.after.now (sym c.in-Some.ensures) in
-    let P : PolicyFault → Type 0 = λ fault. Reports fault (policy_of c.args.text.now) in
+    let P : Fault → Type 0 = λ fault. Reports fault (policy_of c.args.text.now) in
     record {
       exact = subst P (sym c.fault_at.ensures)
           (Reports-same (fault_at c.lines.number c.in-Err.kind) (policy_of c.args.text.now) _ (sym c.lines.invariant.reading ∙ whole)
@@ -44,19 +44,19 @@ lines-preserved c =
 
 pub returns-in-Ok-Some-clause-exact : goal.returns-in-Ok-Some-clause-exact
 returns-in-Ok-Some-clause-exact c =
-    let last = read_lines-last c.lines.policy (Some c.in-Ok-Some.policy) c.lines.number c.lines.rest.now (sym c.in_default.ensures) (c.in-Ok-Some.ensures.value ∙ ap (λ (x : Option Meaning). Ok x) c.in-Ok-Some.field-0-is) in
+    let last = read_lines-last c.lines.policy (Some c.in-Ok-Some.policy) c.lines.number c.lines.rest.now (sym c.in_default.ensures) (c.in-Ok-Some.ensures.value ∙ ap (λ (x : Option PolicyMeaning). Ok x) c.in-Ok-Some.field-0-is) in
     sym c.lines.invariant.reading ∙ last ∙ read_lines-done c.in-Ok-Some.policy (c.lines.number + 1)
 
 pub returns-in-Ok-None-clause-exact : goal.returns-in-Ok-None-clause-exact
 returns-in-Ok-None-clause-exact c =
-    let last = read_lines-last c.lines.policy None c.lines.number c.lines.rest.now (sym c.in_default.ensures) (c.in-Ok-None.ensures.value ∙ ap (λ (x : Option Meaning). Ok x) c.in-Ok-None.field-0-is) in
-    let P : PolicyFault → Type 0 = λ fault. Reports fault (policy_of c.args.text.now) in
+    let last = read_lines-last c.lines.policy None c.lines.number c.lines.rest.now (sym c.in_default.ensures) (c.in-Ok-None.ensures.value ∙ ap (λ (x : Option PolicyMeaning). Ok x) c.in-Ok-None.field-0-is) in
+    let P : Fault → Type 0 = λ fault. Reports fault (policy_of c.args.text.now) in
     subst P (sym c.fault_at-in-Ok-None.ensures) (sym c.lines.invariant.reading ∙ last ∙ read_lines-empty (c.lines.number + 1))
 
 pub returns-in-Err-read_line-clause-exact : goal.returns-in-Err-read_line-clause-exact
 returns-in-Err-read_line-clause-exact c =
     let whole = read_lines-whole c.lines.policy c.lines.number c.lines.rest.now (sym c.in_default.ensures) in
-    let P : PolicyFault → Type 0 = λ fault. Reports fault (policy_of c.args.text.now) in
+    let P : Fault → Type 0 = λ fault. Reports fault (policy_of c.args.text.now) in
     subst P (sym c.fault_at-in-Err-read_line.ensures)
     (Reports-same (fault_at c.lines.number c.in-Err-read_line.kind) (policy_of c.args.text.now) _ (sym c.lines.invariant.reading ∙ whole)
     (reports-line c.in-Err-read_line.kind c.lines.number (line_step c.lines.policy c.lines.rest.now) _ c.in-Err-read_line.ensures.value))

@@ -1,6 +1,6 @@
 use Rattle.std.proofs.Common.{◌≡◌, [], length, refl, sym, ap, ◌∙◌, arith}
 use Rattle.subscriber_stream.specs.Waiting.{items_in}
-use Rattle.subscriber_stream.specs.Standing.{Kept}
+use Rattle.subscriber_stream.specs.Standing.{KeptStream}
 use Rattle.subscriber_stream.proofs.Standings.{next_is_built, next_none, stands_after_message, stands_at_end, kept_after, queued_entries}
 use Rattle.std.proofs.lemmas.Bool.{eqb-true, eqb-false}
 use Rattle.subscriber_stream.proofs.Pulling.{nothing_waits, nothing_in, something_in, few_wait, first_small, none_followed, queued_none, Pulls, run_is, within_is, message_is_next}
@@ -27,8 +27,8 @@ returns-in_err-message-clause-no_memory c =
 
 pulls : (c : goal.After-hand_out) → Pulls c.args.self.now c.self.inside.shapes.shapes (items_in c.self.inside.queue.items) c.self.inside.handed c.args.target c.fitting-run.result.parts
 pulls c = record {
-  waiting = ap (λ (k : Kept). k.standing.waiting) (sym c.self.view_is);
-  handed_is = ap (λ (k : Kept). k.standing.handed) (sym c.self.view_is);
+  waiting = ap (λ (k : KeptStream). k.standing.waiting) (sym c.self.view_is);
+  handed_is = ap (λ (k : KeptStream). k.standing.handed) (sym c.self.view_is);
   kept = c.self.invariant.kept;
   some = something_in _ c.self.invariant.filled (λ e. eqb-false _ 0 (sym c.is_empty.ensures ∙ c.if-is_empty.false) (c.self.inside.queue.ok.0 ∙ e));
   parts = c.fitting-run.ensures.parts;

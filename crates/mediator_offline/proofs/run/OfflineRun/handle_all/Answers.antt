@@ -1,0 +1,35 @@
+use Rattle.std.proofs.Common.{false, refl, sym, ◌∙◌, subst}
+use Rattle.std.specs.Vec.Iter.{into_iter_items}
+use Rattle.mediator_offline.specs.Ports.{holding}
+use Rattle.mediator_offline.specs.Running.{StopsOn}
+use Rattle.mediator_offline.proofs.Blaming.{only_then}
+use Rattle.mediator_offline.proofs.Receiving.{err_gives}
+use Rattle.mediator_offline.proofs.Streams.{runs_on, none_handled, one_handled, one_stops}
+use Rattle.mediator_offline.proofs.run.OfflineRun.handle_all.Goals as goal
+
+pub handle-requires : goal.handle-requires
+handle-requires g c = record { running = runs_on c.args.self.now c.messages.self c.messages.invariant.0.done _ _ c.requires.running c.messages.invariant.0.handled }
+
+pub returns-in_err-handle-clause-err : goal.returns-in_err-handle-clause-err
+returns-in_err-handle-clause-err g c =
+    err_gives c.from_residual.result c.from_residual.ensures
+    (λ e is. one_stops e c.args.self.now c.messages.self c.args.messages.items (into_iter_items c.messages.message-iterator) (into_iter_items c.next.new.self) c.in-Some.message _ _ _ c.in-Some.ensures.steps.0 c.messages.invariant.0
+    (subst (λ x. StopsOn x c.messages.self c.in-Some.message
+    (holding (g.W.Sink.contents c.messages.writer) (g.A.Sink.contents c.messages.audit_writer) (g.W.Sink.has_failed c.messages.writer) (g.A.Sink.has_failed c.messages.audit_writer))
+    (holding (g.W.Sink.contents c.handle.new.writer) (g.A.Sink.contents c.handle.new.audit_writer) (g.W.Sink.has_failed c.handle.new.writer) (g.A.Sink.has_failed c.handle.new.audit_writer)))
+    (sym is) c.in_err-handle.ensures.err))
+
+pub messages-preserved : goal.messages-preserved
+messages-preserved g c = (
+  one_handled c.args.self.now c.messages.self c.handle.new.self c.args.messages.items (into_iter_items c.messages.message-iterator) (into_iter_items c.next.new.self) c.in-Some.message _ _ _ c.in-Some.ensures.steps.0 c.messages.invariant.0 c.in_ok-handle.ensures.ok,
+  c.in_ok-handle.ensures.stays ∙ c.messages.invariant.1,
+  c.in_ok-handle.ensures.audit_stays ∙ c.messages.invariant.2,
+)
+
+pub returns-in_err-handle-clause-fails : goal.returns-in_err-handle-clause-fails
+returns-in_err-handle-clause-fails g c =
+    err_gives c.from_residual.result c.from_residual.ensures
+    (λ e is. only_then e c.in_err-handle.field-0.0 (g.W.Sink.has_failed c.args.writer.now) (g.W.Sink.has_failed c.messages.writer) (g.A.Sink.has_failed c.args.audit_writer.now) (g.A.Sink.has_failed c.messages.audit_writer) false (g.W.Sink.has_failed c.handle.new.writer) (g.A.Sink.has_failed c.handle.new.audit_writer) is c.messages.invariant.1 c.messages.invariant.2 c.in_err-handle.ensures.fails)
+
+pub messages-init : goal.messages-init
+messages-init g c = (none_handled c.args.self.now c.args.messages.items (into_iter_items c.into_iter-message-iterator.result) _ c.into_iter-message-iterator.ensures.into_iter_gives.0, refl, refl)
