@@ -3,11 +3,11 @@ use Rattle.std.proofs.Common.{◌≡◌, ℕ, ◌+◌, ◌≤◌, List, [], ◌�
 use Rattle.std.specs.Prelude.{min}
 use Rattle.std.proofs.Math.Seq.{take-add, take-append_seam, take-append-add, drop-append_seam, drop-append-add}
 use Rattle.std.proofs.lemmas.Grind.{flat_map-append}
-use Rattle.std.proofs.lemmas.List.{drop-drop, map-append, take-map, drop-map, take_min, drop_min, take-append-drop, length-take}
+use Rattle.std.proofs.lemmas.List.{drop-drop, drop_all, map-append, take-map, drop-map, take_min, drop_min, take-append-drop, length-take, length-drop}
 use Rattle.disclosure_audit.specs.declared.entry.AuditEntry.{AuditEntry}
 use Rattle.disclosure_audit.specs.declared.entry.Note.{Note}
 use Rattle.disclosure_audit.specs.declared.chunk.Chunk.{Chunk}
-use Rattle.disclosure_audit.specs.Queue.{stamp}
+use Rattle.disclosure_audit.specs.Queue.{stamp, AuditStanding, StandsIn, emptied}
 use Rattle.disclosure_audit.specs.Chunks.{entries_in, entries_of}
 
 -- ---- the notes of a message
@@ -79,4 +79,14 @@ has_moved full count before all out queue was up_to enough =
     record {
       moved = sym (take-append_seam out (entries_of queue)) ∙ ap (λ n. take n (out ++ entries_of queue)) long ∙ ap (λ t. take (length before + count) t) was.whole ∙ take-append-add before (entries_of all) count;
       left = sym (drop-append_seam out (entries_of queue)) ∙ ap (λ n. drop n (out ++ entries_of queue)) long ∙ ap (λ t. drop (length before + count) t) was.whole ∙ drop-append-add before (entries_of all) count;
+    }
+
+-- ---- all entries are dropped
+
+pub all_discarded : (s : AuditStanding) (all : List AuditEntry) → StandsIn s all → StandsIn (emptied s) all
+all_discarded s all so =
+    let end : s.drained + length s.entries ≡ length all = omega (arith, so.within, ap (λ (t : List AuditEntry). length t) so.waiting, length-drop s.drained all) in
+    record {
+      within = omega (arith, end);
+      waiting = sym (drop_all (s.drained + length s.entries) all (omega (arith, end)));
     }

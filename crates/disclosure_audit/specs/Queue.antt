@@ -38,6 +38,10 @@ oldest most s = take most s.entries
 abbrev pub without_oldest : ℕ → AuditStanding → AuditStanding
 without_oldest most s = record { drained = s.drained + length (oldest most s); entries = drop most s.entries }
 
+-- what is left where all entries were drained
+abbrev pub emptied : AuditStanding → AuditStanding
+emptied s = record { drained = s.drained + length s.entries; entries = [] }
+
 -- all entries that it was ever given are this list: a front of it was drained, and the rest waits
 pub record StandsIn (s : AuditStanding) (all : List AuditEntry) : Type 0 where
   pub within : s.drained ≤ length all
@@ -50,3 +54,7 @@ TakesEntries old more new = (all : List AuditEntry) → StandsIn old all → Sta
 -- what drain says: the entries are the next ones of the list, and then it stands behind them
 abbrev pub DrainsOldest : AuditStanding → ℕ → List AuditEntry → AuditStanding → Type 0
 DrainsOldest old most out new = (all : List AuditEntry) → StandsIn old all → (out ≡ take most (drop old.drained all)) × StandsIn new all
+
+-- what discard says: it stands for the same list of all entries
+abbrev pub KeepsEntries : AuditStanding → AuditStanding → Type 0
+KeepsEntries old new = (all : List AuditEntry) → StandsIn old all → StandsIn new all

@@ -56,7 +56,7 @@ impl Model for Audit {
 }
 
 impl Audit {
-    ghost use Rattle.disclosure_audit.specs.Queue.{stamp, at_start, with_entry, with_entries, oldest, without_oldest, StandsIn, TakesEntries, DrainsOldest};
+    ghost use Rattle.disclosure_audit.specs.Queue.{stamp, at_start, with_entry, with_entries, oldest, without_oldest, emptied, StandsIn, TakesEntries, DrainsOldest, KeepsEntries};
 
     /// An audit that was given no entry and may hold `limit` of them, 1 to [`MOST_ENTRIES`]. What it comes
     /// to keep is taken from `alloc`.
@@ -187,6 +187,22 @@ impl Audit {
         self.waiting -= count;
         self.drained += u64::from(count);
         Ok(out)
+    }
+
+    /// Drops all entries that wait: they are drained, and handed to nobody. It takes no memory.
+    #[tactic(auto, using(crate::proofs::QueueLaws::all_discarded))]
+    pub fn discard(&mut self)
+        ensures left { self.new ≡ record {
+          standing = emptied self.old.standing;
+          limit = self.old.limit;
+          spare = self.old.spare;
+        } }
+        // The list of all entries stays, and none of them waits.
+        ensures stands { KeepsEntries self.old.standing self.new.standing }
+    {
+        self.drained += u64::from(self.waiting);
+        self.waiting = 0;
+        self.queue.clear();
     }
 }
 

@@ -12,7 +12,7 @@
 //! (`no_memory`). `push_reserved` puts an entry behind those that wait, and `push_notes` all that a message keeps back, in
 //! one step; they take no memory and cannot fail. `drain` hands out the oldest entries, or all (`oldest`), and leaves
 //! the others (`left`), so that what was handed out and what waits are all that was given (`stands`); where it is
-//! refused nothing changes (`err`). `line` is the exact text of an entry, and `put_line` adds just that. Law:
+//! refused nothing changes (`err`). `discard` drains all and hands out nothing. `line` is the exact text of an entry, and `put_line` adds just that. Law:
 //! `one_entry` (no line is that of two entries).
 #![tactic(auto)]
 
