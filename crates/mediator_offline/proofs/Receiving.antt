@@ -1,7 +1,7 @@
 -- A message that a run accepts, or refuses.
 use Rattle.std.proofs.Common.{◌≡◌, ℕ, ◌+◌, ◌≤◌, ◌<◌, ◌^◌, ◌⊎◌, inl, inr, Bool, true, false, List, [], ◌∷◌, ◌++◌, length, drop, map, Option, Some, None, Result, Ok, Err, refl, sym, ap, ◌∙◌, subst, arith, append_assoc, append-nil, length-append}
 use Rattle.std.specs.Result.{IsErr, IsErrAnd, IfErr}
-use Rattle.std.specs.Prelude.{filter, nat_lt, take, OnOk}
+use Rattle.std.specs.Prelude.{filter, nat_lt, take, OnOk, OnErr}
 use Rattle.std.specs.List.{flat_map, enumerate_from}
 use Rattle.std.proofs.lemmas.Bool.{ltb-true, ltb-false}
 use Rattle.std.proofs.lemmas.List.{drop_all, take_all, length_push, length-map, length-drop}
@@ -58,6 +58,19 @@ use Rattle.event_journal.specs.declared.limits.TheConstants.{MOST_ENTRIES, MOST_
 pub err_gives : {X E : Type 0} {P Q : E → Type 0} (r : Result X E) → IsErr r × IsErrAnd r P → ((e : E) → P e → Q e) → IfErr r Q
 err_gives (Ok x) known f = tt
 err_gives (Err e) known f = f e known.1
+
+pub on_err : {X E : Type 0} {P : Type 0} (r : Result X E) → P → OnErr r P
+on_err (Ok x) p = tt
+on_err (Err e) p = p
+
+-- what follows of an answer
+pub ok_leads : {X E : Type 0} {P Q : Type 0} (r : Result X E) → OnOk r P → (P → Q) → OnOk r Q
+ok_leads (Ok x) known f = f known
+ok_leads (Err e) known f = tt
+
+pub err_leads : {X E : Type 0} {P Q : E → Type 0} (r : Result X E) → IfErr r P → ((e : E) → P e → Q e) → IfErr r Q
+err_leads (Ok x) known f = tt
+err_leads (Err e) known f = f e known
 
 -- ---- where the subscription stands
 
