@@ -23,7 +23,7 @@ pub(crate) fn wait_for_room<E: EntryLedger, H: RecordLedger, P: Patience>(
             return turn;
         }
         if turn == 0 {
-            shared.wake();
+            shared.wake(rt);
         }
         if !patience.wait(turn) {
             return turn;
@@ -49,7 +49,7 @@ pub(crate) fn wait_for_advance<E: EntryLedger, H: RecordLedger, P: Patience>(
             return;
         }
         if turn == 0 {
-            shared.wake();
+            shared.wake(rt);
         }
         if !patience.wait(turn) {
             return;
