@@ -31,17 +31,17 @@ use Rattle.mediator_history.specs.Auditing.{audit_list}
 use Rattle.mediator_history.specs.Disclosed.{disclosed}
 use Rattle.subscriber_stream.proofs.CallLaws.{run_some}
 use Rattle.std.proofs.lemmas.Option.{same_Some}
-use Rattle.sequences.proofs.ListLaws.{take-add-append, concat_push}
+use Rattle.sequences.proofs.ListLaws.{concat_push}
 use Rattle.mediator_offline.specs.declared.run.OfflineRun.{OfflineRun}
 use Rattle.mediator_offline.specs.Runs.{tells, audit_drained, RunStands, Small, IsServing, SameButState, KeepsAudit}
 use Rattle.mediator_offline.specs.HandsOut.{HandsOutAll}
 use Rattle.mediator_offline.proofs.Receiving.{within_end}
 use Rattle.mediator_offline.specs.Offline.{end_of}
 use Rattle.mediator_offline.specs.declared.job.Fault.{Fault}
-use Rattle.mediator_offline.specs.declared.job.Fault.TheVariants.{Write, Mediator}
+use Rattle.mediator_offline.specs.declared.job.Fault.TheVariants.{Mediator}
 use Rattle.mediator_state.specs.declared.fault.Fault.TheVariants as fault
 use Rattle.mediator_offline.specs.Gathering.{and_gathered, IsGathered, StopsGathered}
-use Rattle.mediator_offline.specs.Pulling.{IsDeliveringRun, PullsMessage, Delivers, StopsDelivery, FailsDelivery}
+use Rattle.mediator_offline.specs.Pulling.{IsDeliveringRun, PullsMessage, Delivers, FailsDelivery}
 use Rattle.mediator_offline.proofs.GatheringLaws.{none_gathered, gathered_more, more_written}
 
 -- ---- a message is pulled

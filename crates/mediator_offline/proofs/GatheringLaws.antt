@@ -1,12 +1,12 @@
 -- What is gathered to be written in one piece.
-use Rattle.std.proofs.Common.{◌≡◌, ℕ, ◌+◌, ◌-◌, ◌≤◌, ◌<◌, Bool, true, false, List, [], ◌++◌, length, take, Option, Some, None, refl, sym, ap, ◌∙◌, subst, arith, append-nil, append_assoc, length-append}
+use Rattle.std.proofs.Common.{◌≡◌, ℕ, ◌+◌, ◌-◌, ◌<◌, Bool, true, false, List, [], ◌++◌, length, take, Option, Some, None, refl, sym, ap, ◌∙◌, subst, arith, append-nil, append_assoc, length-append}
 use Rattle.std.specs.Io.KnownBytes.{Appends, Keeps}
 use Rattle.std.proofs.KnownBytes.{Appends-kept}
-use Rattle.std.proofs.Math.Seq.{take-append_seam, take-append-add}
+use Rattle.std.proofs.Math.Seq.{take-append-add}
 use Rattle.std.proofs.lemmas.List.{take-append-le}
 use Rattle.octet_io.specs.Written.{WritesFront}
 use Rattle.mediator_offline.specs.declared.run.OfflineRun.{OfflineRun}
-use Rattle.mediator_offline.specs.Ports.{Outputs, holding}
+use Rattle.mediator_offline.specs.Ports.{holding}
 use Rattle.mediator_offline.specs.Gathering.{and_gathered, IsGathered}
 
 -- ---- what a writer holds with it

@@ -21,7 +21,7 @@ use Rattle.mediator_history.specs.Auditing.{audit_list}
 use Rattle.mediator_offline.specs.declared.job.Fault.TheVariants.{Write, Mediator, Cut, AuditWrite}
 use Rattle.mediator_offline.specs.Ports.{Outputs, holding}
 use Rattle.mediator_offline.specs.Lines.{lines_for}
-use Rattle.mediator_offline.specs.Offline.{history_of, disclosed_by, due, audit_due, end_of}
+use Rattle.mediator_offline.specs.Offline.{history_of, disclosed_by, due, end_of}
 use Rattle.mediator_offline.specs.Accepting.{AcceptsMessage, AreAccepted}
 use Rattle.mediator_offline.specs.Gathering.{and_gathered, IsGathered, StopsGathered}
 use Rattle.mediator_offline.specs.Filtering.{Filters, IsFiltered, StopsAtMessage}

@@ -4,7 +4,7 @@ use Rattle.shared_mediator.specs.Handles.{KeepsQueued, PullsQueued}
 use Rattle.octet_io.specs.Moments.{writer_of}
 use Rattle.mediator_connections.specs.Delivering.{DeliversSome, StopsSending, octets_of}
 use Rattle.mediator_connections.proofs.Offering.{err_gives}
-use Rattle.mediator_connections.proofs.Sending.{Pulled, pulled_queued, sends_on, sends_inside}
+use Rattle.mediator_connections.proofs.Sending.{pulled_queued, sends_on, sends_inside}
 use Rattle.mediator_connections.proofs.delivery.send_messages.Goals as goal
 
 pub send_all-requires : goal.send_all-requires

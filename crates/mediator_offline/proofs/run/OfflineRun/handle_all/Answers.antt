@@ -1,7 +1,6 @@
-use Rattle.std.proofs.Common.{sym, ap, ◌∙◌, subst}
+use Rattle.std.proofs.Common.{sym, ◌∙◌, subst}
 use Rattle.mediator_offline.specs.Ports.{holding}
 use Rattle.mediator_offline.specs.Gathering.{and_gathered}
-use Rattle.mediator_offline.specs.Failing.{FailsOnly}
 use Rattle.mediator_offline.specs.Running.{RunsSomewhere}
 use Rattle.mediator_offline.specs.Reaching.{HandlesAll, HandlesLast, StopsAmong}
 use Rattle.mediator_offline.proofs.Blaming.{gathered_only, writer_since}

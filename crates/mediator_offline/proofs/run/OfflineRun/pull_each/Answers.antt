@@ -1,5 +1,5 @@
 use Rattle.std.proofs.Common.{◌∙◌, ap, length, take, Some}
-use Rattle.mediator_offline.proofs.Delivering.{pulling_starts, turn, turn_ends, turn_fits, turn_smaller, turn_serves, pulled_some, pulled_none, front_stays}
+use Rattle.mediator_offline.proofs.Delivering.{turn, turn_ends, turn_fits, turn_smaller, turn_serves, pulled_some, pulled_none, front_stays}
 use Rattle.mediator_offline.proofs.run.OfflineRun.pull_each.Goals as goal
 
 pub returns-then-not-is_there-clause-ok : goal.returns-then-not-is_there-clause-ok
