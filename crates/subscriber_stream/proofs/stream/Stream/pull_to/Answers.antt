@@ -1,6 +1,7 @@
-use Rattle.std.proofs.Common.{◌≡◌, ℕ, List, [], ◌++◌, length, refl, sym, ap, ◌∙◌, arith}
+use Rattle.std.proofs.Common.{◌≡◌, ℕ, [], length, refl, sym, ap, ◌∙◌, arith}
 use Rattle.subscriber_stream.specs.Waiting.{items_in}
 use Rattle.subscriber_stream.specs.Standing.{KeptStream}
+use Rattle.subscriber_stream.proofs.Messages.{behind_none}
 use Rattle.subscriber_stream.proofs.Standings.{next_is_built, next_none, stands_after_message, stands_at_end, kept_after, queued_entries}
 use Rattle.std.proofs.lemmas.Bool.{eqb-true, eqb-false}
 use Rattle.subscriber_stream.proofs.Pulling.{nothing_waits, nothing_in, something_in, few_wait, first_small, none_followed, queued_none, Pulls, run_is, within_is, message_is_next}
@@ -37,7 +38,7 @@ pulls c = record {
 
 pub returns-clause-ok : goal.returns-clause-ok
 returns-clause-ok c = record {
-  answers = λ records p at. message_is_next _ _ _ _ c.args.now _ _ _ (pulls c) (c.in_ok-put_message.ensures ∙ ap (λ (t : List ℕ). t ++ _) c.clear.ensures.items) ∙ next_is_built c.args.self.now.standing records p c.args.now c.args.target at;
+  answers = λ records p at. message_is_next _ _ _ _ c.args.now _ _ _ (pulls c) (behind_none _ _ _ c.clear.ensures.items c.in_ok-put_message.ensures) ∙ next_is_built c.args.self.now.standing records p c.args.now c.args.target at;
   stands = λ records p at. rw c.hand_out.ensures (stands_after_message c.args.self.now records p c.args.target c.fitting-run.result.parts (run_is _ _ _ _ _ _ (pulls c)) (within_is _ _ _ _ _ _ (pulls c)) at);
 }
 
