@@ -223,7 +223,7 @@ asked_read (to_advance t) line fits is =
 asked_read (to_tell_status sub) line fits is =
     named_read (codes "status") (decimal sub) line (to_tell_status sub) (refl, (refl, (refl, (refl, (refl, (refl, tt)))))) is.text fits (status_read sub is.bound)
 asked_read (to_drain_audit most) line fits is =
-    named_read (codes "audit") (decimal most) line (to_drain_audit most) (refl, (refl, (refl, (refl, (refl, tt))))) is.number.text fits (audit_read max is.begun is.number.bound)
+    named_read (codes "audit") (decimal most) line (to_drain_audit most) (refl, (refl, (refl, (refl, (refl, tt))))) is.number.text fits (audit_read most is.begun is.number.bound)
 asked_read (to_tell about) line fits is = topic_read about line is
 asked_read to_stop line fits is = stop_read line is
 

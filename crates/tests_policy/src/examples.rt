@@ -8,7 +8,7 @@ use std::test::Fail;
 fn policy_of_a_text(rt: HostRuntime) -> Result<(), Fail> {
     let alloc = rt.alloc();
     // Example of policy_text::Policy::parse.
-    use policy_text::{FaultKind, Policy, Fault as PolicyFault};
+    use policy_text::{FaultKind, Policy, Fault};
 
     let text = "policy 1\n\
         rule for acme in * from 192.0.2.0/24 to * pass\n\
@@ -19,7 +19,7 @@ fn policy_of_a_text(rt: HostRuntime) -> Result<(), Fail> {
     // 192.0.2.1 has a bit past the first 24.
     let wrong = "policy 1\nrule for acme in * from 192.0.2.1/24 to * pass\n";
     let found = Policy::parse(alloc, wrong).err();
-    let fault = PolicyFault {
+    let fault = Fault {
         line: 2,
         kind: FaultKind::BadPrefix,
     };

@@ -39,7 +39,7 @@ fn stream_for_one_subscriber(rt: HostRuntime) -> Result<(), Fail> {
 fn history_of_a_file(rt: HostRuntime) -> Result<(), Fail> {
     let alloc = rt.alloc();
     // Example of history_verify::verify.
-    use history_verify::{Fault as VerifyFault, verify};
+    use history_verify::{Fault, verify};
     use journal_files::decode;
 
     let file: &[u8] =
@@ -58,7 +58,7 @@ fn history_of_a_file(rt: HostRuntime) -> Result<(), Fail> {
         b"IPMJ\x00\x01\x00\x00\x00\x00\x00\x00\x00\x01\x02\x00\x00\x00\x00\x00\x00\x00\x01";
     let journal = decode(alloc, file)?;
     let fault = verify(alloc, &journal).err();
-    assert!(rt; fault == Some(VerifyFault::BadHistory { position: 0 }));
+    assert!(rt; fault == Some(Fault::BadHistory { position: 0 }));
     // End of the example.
     Ok(())
 }

@@ -7,4 +7,4 @@ pub for_passing-requires : goal.for_passing-requires
 for_passing-requires c =
     let fields = ap (λ (t : Template). length t.fields) c.template.ensures.value in
     let few : length c.args.flow_record.now.template.fields ≤ 65535 = omega (arith, fields, c.len-fields.ensures.few, c.len-fields.ensures.value) in
-    verdicts_are_judged c.args.name.now c.args.domain c.args.flow_record.now c.rules-rules.ensures.sound.version c.rules-rules.ensures.sound.aggregates c.args.table.now c.in_ok-verdicts.verdicts.items c.template.ensures.sound c.rules-rules.ensures.sound.spelled few (search rules)
+    verdicts_are_judged c.args.name.now c.args.domain c.args.flow_record.now c.rules-for_proof.ensures.sound.version c.rules-for_proof.ensures.sound.aggregates c.args.table.now c.in_ok-verdicts.verdicts.items c.template.ensures.sound c.rules-for_proof.ensures.sound.spelled few (search rules)

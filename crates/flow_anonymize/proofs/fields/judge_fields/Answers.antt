@@ -17,4 +17,4 @@ returns-clause-judged c =
     let end : c.loop-field.field ≡ length c.args.flow_record.now.template.fields = omega (arith, count, fields, c.loop-field-test.false, c.loop-field.auto.field-end) in
     let whole : c.loop-field.verdicts.items ≡ verdicts_of c.args.name.now c.args.domain c.args.flow_record.now c.args.policy.now.rules =
     c.loop-field.invariant ∙ ap (λ n. map (λ place. element_verdict_of c.args.name.now c.args.domain c.args.flow_record.now place c.args.policy.now.rules) (range_with_len 0 n)) end in
-    verdicts_are_judged c.args.name.now c.args.domain c.args.flow_record.now c.args.policy.now.version c.args.policy.now.aggregates c.args.policy.now.rules c.loop-field.verdicts.items c.template.ensures.sound c.rules-rules.ensures.sound.rules (omega (arith, count, few, fields)) whole
+    verdicts_are_judged c.args.name.now c.args.domain c.args.flow_record.now c.args.policy.now.version c.args.policy.now.aggregates c.args.policy.now.rules c.loop-field.verdicts.items c.template.ensures.sound c.rules-for_proof.ensures.sound.rules (omega (arith, count, few, fields)) whole

@@ -12,10 +12,10 @@ pub returns-clause-history : goal.returns-clause-history
 returns-clause-history c = history_is_the_calls c.args.limits c.args.calls.items c.calls.replies.items c.calls.mediator (run_ends (started c.args.limits) c.calls.mediator c.args.calls.items c.calls.replies.items (into_iter_items c.calls.call-iterator) (nil_from_length (into_iter_items c.calls.call-iterator) (omega (arith, c.in-None.ensures.steps.0))) c.calls.invariant.run)
 
 pub returns-clause-disclosed : goal.returns-clause-disclosed
-returns-clause-disclosed c = handed_is_disclosed c.args.limits c.args.calls.items c.calls.replies.items c.calls.mediator (run_ends (started c.args.limits) c.calls.mediator c.args.calls.items c.calls.replies.items (into_iter_items c.calls.call-iterator) (nil_from_length (into_iter_items c.calls.call-iterator) (omega (arith, c.in-None.ensures.steps.0))) c.calls.invariant.run) c.journal-journal.ensures.sound
+returns-clause-disclosed c = handed_is_disclosed c.args.limits c.args.calls.items c.calls.replies.items c.calls.mediator (run_ends (started c.args.limits) c.calls.mediator c.args.calls.items c.calls.replies.items (into_iter_items c.calls.call-iterator) (nil_from_length (into_iter_items c.calls.call-iterator) (omega (arith, c.in-None.ensures.steps.0))) c.calls.invariant.run) c.journal-for_proof.ensures.sound
 
 pub returns-clause-front : goal.returns-clause-front
-returns-clause-front c = handed_is_front c.args.limits c.args.calls.items c.calls.replies.items c.calls.mediator (run_ends (started c.args.limits) c.calls.mediator c.args.calls.items c.calls.replies.items (into_iter_items c.calls.call-iterator) (nil_from_length (into_iter_items c.calls.call-iterator) (omega (arith, c.in-None.ensures.steps.0))) c.calls.invariant.run) c.journal-journal.ensures.sound
+returns-clause-front c = handed_is_front c.args.limits c.args.calls.items c.calls.replies.items c.calls.mediator (run_ends (started c.args.limits) c.calls.mediator c.args.calls.items c.calls.replies.items (into_iter_items c.calls.call-iterator) (nil_from_length (into_iter_items c.calls.call-iterator) (omega (arith, c.in-None.ensures.steps.0))) c.calls.invariant.run) c.journal-for_proof.ensures.sound
 
 pub returns-clause-audited : goal.returns-clause-audited
 returns-clause-audited c = drained_is_audited c.args.limits c.args.calls.items c.calls.replies.items c.calls.mediator (run_ends (started c.args.limits) c.calls.mediator c.args.calls.items c.calls.replies.items (into_iter_items c.calls.call-iterator) (nil_from_length (into_iter_items c.calls.call-iterator) (omega (arith, c.in-None.ensures.steps.0))) c.calls.invariant.run)

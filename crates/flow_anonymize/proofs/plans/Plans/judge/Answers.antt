@@ -10,13 +10,13 @@ use Rattle.flow_anonymize.proofs.plans.Plans.judge.Goals as goal
 pub give-requires-clause-showable : goal.give-requires-clause-showable
 give-requires-clause-showable c = λ slot at.
     (found_in_cache _ c.args.self.now.for c.self.inside.cache.slots c.in-Some.classes c.args.classes c.args.flow_record.now c.in-Some-place_of.place slot c.self.invariant (ap (λ (p : PlansOf). p.for) c.self.view_is)
-    (sym c.in-Some-place_of.is ∙ c.place_of.ensures.place) at c.requires.template c.template-template.ensures.sound c.in-Some.is c.requires.classes).showable
+    (sym c.in-Some-place_of.is ∙ c.place_of.ensures.place) at c.requires.template c.template-for_proof.ensures.sound c.in-Some.is c.requires.classes).showable
 
 -- the plan at the place discloses what is due
 exact : (c : goal.After-give) (slot : Slot) → slice_get c.self.inside.cache.slots c.in-Some-place_of.place ≡ Some slot → Discloses c.args.self.now.for c.args.flow_record.now slot
 exact c slot at =
     found_in_cache _ c.args.self.now.for c.self.inside.cache.slots c.in-Some.classes c.args.classes c.args.flow_record.now c.in-Some-place_of.place slot c.self.invariant (ap (λ (p : PlansOf). p.for) c.self.view_is)
-    (sym c.in-Some-place_of.is ∙ c.place_of.ensures.place) at c.requires.template c.template-template.ensures.sound c.in-Some.is c.requires.classes
+    (sym c.in-Some-place_of.is ∙ c.place_of.ensures.place) at c.requires.template c.template-for_proof.ensures.sound c.in-Some.is c.requires.classes
 
 pub returns-in-Some-place_of-clause-given : goal.returns-in-Some-place_of-clause-given
 returns-in-Some-place_of-clause-given c =

@@ -18,7 +18,7 @@ pub returns : goal.returns
 returns c = (
   refl,
   planned_slot _ c.args.self.now.for c.self.inside.cache.slots c.args.flow_record.now (record { classes = c.args.classes; plan = c.in_ok-plan.plan })
-      (ap (λ (p : PlansOf). p.for) c.self.view_is) c.self.invariant (subst AreOfPolicy c.deref.ensures c.rules-rules.ensures.sound) c.requires.template c.requires.classes
+      (ap (λ (p : PlansOf). p.for) c.self.view_is) c.self.invariant (subst AreOfPolicy c.deref.ensures c.rules-for_proof.ensures.sound) c.requires.template c.requires.classes
       (subst (λ (r : DataRecord). IsPlanBy c.in_ok-plan.plan c.self.inside.domain (string_bytes c.self.inside.name) r (arc_value c.self.inside.table)) c.in_ok-single.ensures
       (subst (IsPlanBy c.in_ok-plan.plan c.self.inside.domain (string_bytes c.self.inside.name) c.in_ok-single.single) c.deref-2.ensures
       (subst (λ (name : List ℕ). IsPlanBy c.in_ok-plan.plan c.self.inside.domain name c.in_ok-single.single c.deref-2.result.now) c.as_str.ensures.value c.in_ok-plan.ensures.plan))),

@@ -17,7 +17,7 @@ overflow_add-self c =
 pub invariant_of-self-2 : goal.invariant_of-self-2
 invariant_of-self-2 c =
     let told : Tells c.self.inside.mediator c.args.sub.0 c.args.target c.in-Ok.before c.in-Ok-status.after = tells c.self.inside.mediator c.pull.new.self c.args.sub.0 c.args.now c.args.target c.in-Ok-pull.message c.in-Ok.before c.in-Ok-status.after c.in-Ok.ensures.ok c.in-Ok-pull.ensures.ok c.in-Ok-status.ensures.ok in
-    counted_after c.self.inside.mediator c.pull.new.self c.self.inside.from c.self.inside.gone c.self.inside.handed (c.in-Ok-status.after.handed - c.in-Ok.before.handed) c.args.sub.0 c.args.now c.args.target c.in-Ok-pull.message c.journal-journal.ensures.sound c.self.invariant c.in-Ok-pull.ensures.ok (omega (arith, told.records))
+    counted_after c.self.inside.mediator c.pull.new.self c.self.inside.from c.self.inside.gone c.self.inside.handed (c.in-Ok-status.after.handed - c.in-Ok.before.handed) c.args.sub.0 c.args.now c.args.target c.in-Ok-pull.message c.journal-for_proof.ensures.sound c.self.invariant c.in-Ok-pull.ensures.ok (omega (arith, told.records))
 
 pub returns-clause-ok : goal.returns-clause-ok
 returns-clause-ok c =
@@ -27,7 +27,7 @@ returns-clause-ok c =
     elim c.match-message-3.branch [
       | in-Some w ↦ if_ok_at _ c.match-message-3.result _ w.result-is
           (hands_some c.self.inside.mediator c.pull.new.self c.self.inside.from c.self.inside.gone c.args.sub.0 c.args.now c.args.target c.args.self.now c.in-Ok-pull.message (record { message = w.in-Some.message; records = c.in-Ok-status.after.handed - c.in-Ok.before.handed })
-          c.self.view_is c.journal-journal.ensures.sound room c.in-Ok-pull.ensures.ok w.in-Some.is (omega (arith, told.records)))
+          c.self.view_is c.journal-for_proof.ensures.sound room c.in-Ok-pull.ensures.ok w.in-Some.is (omega (arith, told.records)))
       | in-None w ↦ if_ok_at _ c.match-message-3.result _ w.result-is
-          (hands_none c.self.inside.mediator c.pull.new.self c.self.inside.from c.self.inside.gone c.args.sub.0 c.args.now c.args.target c.args.self.now c.in-Ok-pull.message c.self.view_is c.journal-journal.ensures.sound room c.in-Ok-pull.ensures.ok w.in-None.is)
+          (hands_none c.self.inside.mediator c.pull.new.self c.self.inside.from c.self.inside.gone c.args.sub.0 c.args.now c.args.target c.args.self.now c.in-Ok-pull.message c.self.view_is c.journal-for_proof.ensures.sound room c.in-Ok-pull.ensures.ok w.in-None.is)
     ]

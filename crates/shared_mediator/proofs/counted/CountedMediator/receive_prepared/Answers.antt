@@ -3,8 +3,8 @@ use Rattle.shared_mediator.proofs.counted.CountedMediator.receive_prepared.Goals
 
 pub invariant_of-self : goal.invariant_of-self
 invariant_of-self c = still c.receive_prepared.result c.self.inside.mediator c.receive_prepared.new.self c.self.inside.from c.self.inside.gone c.self.inside.handed 1 c.self.invariant c.receive_prepared.ensures.ok c.receive_prepared.ensures.unchanged
-    (λ receipt is. after_receive c.self.inside.mediator c.receive_prepared.new.self c.self.inside.from c.self.inside.gone c.self.inside.handed c.args.session.0 c.args.number c.args.prepared.message receipt c.journal-journal.ensures.sound c.self.invariant is)
+    (λ receipt is. after_receive c.self.inside.mediator c.receive_prepared.new.self c.self.inside.from c.self.inside.gone c.self.inside.handed c.args.session.0 c.args.number c.args.prepared.message receipt c.journal-for_proof.ensures.sound c.self.invariant is)
 
 pub returns-clause-counts : goal.returns-clause-counts
 returns-clause-counts c = counts c.receive_prepared.result c.self.inside.mediator c.receive_prepared.new.self c.self.inside.from c.self.inside.gone c.self.inside.handed 1 c.args.self.now c.self.view_is c.receive_prepared.ensures.ok
-    (λ receipt is. after_receive c.self.inside.mediator c.receive_prepared.new.self c.self.inside.from c.self.inside.gone c.self.inside.handed c.args.session.0 c.args.number c.args.prepared.message receipt c.journal-journal.ensures.sound c.self.invariant is)
+    (λ receipt is. after_receive c.self.inside.mediator c.receive_prepared.new.self c.self.inside.from c.self.inside.gone c.self.inside.handed c.args.session.0 c.args.number c.args.prepared.message receipt c.journal-for_proof.ensures.sound c.self.invariant is)
