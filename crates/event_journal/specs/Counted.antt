@@ -5,13 +5,13 @@ use Rattle.event_journal.specs.declared.entry.Entry.{Entry}
 use Rattle.event_journal.specs.declared.limits.TheConstants.{MOST_ENTRIES, MOST_OCTETS}
 use Rattle.event_journal.specs.Sizes.{entry_octets, history_octets}
 use Rattle.event_journal.specs.Spelled.{IsSpelled}
-use Rattle.event_journal.specs.Room.{Limits}
+use Rattle.event_journal.specs.Room.{JournalLimits}
 
 -- the number of the entries and their octets, and for how many more entries room is reserved
 pub record CountedEntries : Type 0 where
   pub count : ℕ
   pub octets : ℕ
-  pub limits : Limits
+  pub limits : JournalLimits
   pub spare : ℕ
 
 -- one entry more, in the room that was reserved
@@ -19,7 +19,7 @@ abbrev pub with_one : CountedEntries → Entry → CountedEntries
 with_one t entry = record { count = t.count + 1; octets = t.octets + entry_octets entry; limits = t.limits; spare = t.spare - 1 }
 
 -- the limits are ones that a journal may have
-pub record AreLimits (limits : Limits) : Type 0 where
+pub record AreLimits (limits : JournalLimits) : Type 0 where
   pub some_entries : 1 ≤ limits.entries
   pub most_entries : limits.entries ≤ MOST_ENTRIES
   pub some_octets : 1 ≤ limits.octets

@@ -2,7 +2,7 @@
 use Rattle.std.specs.Prelude.{◌≡◌, ◌↔◌, ℕ, ◌+◌, List, [], ◌∷◌, ◌++◌}
 use Rattle.event_journal.specs.declared.entry.Entry.{Entry}
 use Rattle.event_journal.specs.Sizes.{entry_octets, history_octets}
-use Rattle.event_journal.specs.Room.{Limits, HasRoom}
+use Rattle.event_journal.specs.Room.{JournalLimits, HasRoom}
 
 -- the octets of histories in a row add up
 abbrev pub OctetsAddUp : Type 0
@@ -10,5 +10,5 @@ OctetsAddUp = (h more : List Entry) → history_octets (h ++ more) ≡ history_o
 
 -- there is room for entries in a row exactly where there is room for the first, and behind it for the others
 abbrev pub RoomInTurn : Type 0
-RoomInTurn = (limits : Limits) (count octets : ℕ) (first : Entry) (others : List Entry)
+RoomInTurn = (limits : JournalLimits) (count octets : ℕ) (first : Entry) (others : List Entry)
     → HasRoom limits count octets (first ∷ others) ↔ (HasRoom limits count octets (first ∷ []) × HasRoom limits (count + 1) (octets + entry_octets first) others)

@@ -6,16 +6,16 @@ use Rattle.event_journal.specs.Sizes.{history_octets}
 use Rattle.event_journal.specs.Spelled.{IsSpelled}
 
 -- the most entries that it may hold, and the most octets that they may count for
-pub record Limits : Type 0 where
+pub record JournalLimits : Type 0 where
   pub entries : ℕ
   pub octets : ℕ
 
 -- behind so many entries, which count for so many octets, there is room for all of these, and a journal file can spell them
-pub record HasRoom (limits : Limits) (count octets : ℕ) (more : List Entry) : Type 0 where
+pub record HasRoom (limits : JournalLimits) (count octets : ℕ) (more : List Entry) : Type 0 where
   pub entries_fit : count + length more ≤ limits.entries
   pub octets_fit : octets + history_octets more ≤ limits.octets
   pub spelled : All IsSpelled more
 
 -- the same behind the entries of a history
-abbrev pub HasRoomAfter : Limits → List Entry → List Entry → Type 0
+abbrev pub HasRoomAfter : JournalLimits → List Entry → List Entry → Type 0
 HasRoomAfter limits h more = HasRoom limits (length h) (history_octets h) more

@@ -3,7 +3,7 @@ ghost use Rattle.std.specs.Prelude.{◌≡◌, ◌≤◌, ◌<◌, ◌+◌, ◌-
 ghost use Rattle.std.proofs.Common.{ap};
 ghost use Rattle.event_journal.specs.declared.entry.Entry.{Entry};
 ghost use Rattle.event_journal.specs.Sizes.{entry_octets, history_octets, IsCountOf};
-ghost use Rattle.event_journal.specs.Room.{Limits, HasRoom};
+ghost use Rattle.event_journal.specs.Room.{JournalLimits, HasRoom};
 ghost use Rattle.event_journal.specs.Counted.{AreLimits};
 
 use crate::entry::Entry;
@@ -23,7 +23,7 @@ pub trait Chronicle {
     ghost octets: { Self → ℕ };
 
     // How many entries and octets it may hold.
-    ghost limits: { Self → Limits };
+    ghost limits: { Self → JournalLimits };
 
     // For how many more entries room is reserved.
     ghost spare: { Self → ℕ };

@@ -10,7 +10,7 @@ use Rattle.disclosure_audit.specs.declared.entry.AuditEntry.{AuditEntry}
 use Rattle.event_journal.specs.declared.entry.Entry.{Entry}
 use Rattle.event_journal.specs.declared.entry.Entry.TheVariants.{Open, Close, Message, Edit, Subscribe, Unsubscribe, Advance}
 use Rattle.event_journal.specs.Kept.{KeptJournal}
-use Rattle.event_journal.specs.Room.{Limits as Journaled, HasRoomAfter}
+use Rattle.event_journal.specs.Room.{JournalLimits, HasRoomAfter}
 use Rattle.mediator_history.specs.Subscriptions.{begins, is_live, subscriptions_begun}
 use Rattle.mediator_history.specs.Disclosed.{disclosed}
 use Rattle.mediator_history.specs.Auditing.{audit_list}
@@ -57,7 +57,7 @@ limits_same : (s t : State KeptJournal) → t.engine.limits ≡ s.engine.limits 
 limits_same s t streams audit journal =
     let of_streams : StreamLimits → Limits = λ l. record { queue = l.queue; shapes = l.shapes; audit = t.engine.audit.limit; entries = t.chronicle.limits.entries; octets = t.chronicle.limits.octets } in
     let of_audit : ℕ → Limits = λ n. record { queue = s.engine.limits.queue; shapes = s.engine.limits.shapes; audit = n; entries = t.chronicle.limits.entries; octets = t.chronicle.limits.octets } in
-    let of_journal : Journaled → Limits = λ l. record { queue = s.engine.limits.queue; shapes = s.engine.limits.shapes; audit = s.engine.audit.limit; entries = l.entries; octets = l.octets } in
+    let of_journal : JournalLimits → Limits = λ l. record { queue = s.engine.limits.queue; shapes = s.engine.limits.shapes; audit = s.engine.audit.limit; entries = l.entries; octets = l.octets } in
     ap of_streams streams ∙ ap of_audit audit ∙ ap of_journal journal
 
 abbrev made : List Entry → List Place → ℕ → Limits → Mediation

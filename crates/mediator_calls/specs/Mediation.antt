@@ -5,7 +5,7 @@ use Rattle.subscriber_stream.specs.declared.limits.StreamLimits.{StreamLimits}
 use Rattle.subscriber_stream.specs.Parts.{parts, records_in}
 use Rattle.disclosure_audit.specs.declared.entry.AuditEntry.{AuditEntry}
 use Rattle.event_journal.specs.declared.entry.Entry.{Entry}
-use Rattle.event_journal.specs.Room.{Limits as Journaled}
+use Rattle.event_journal.specs.Room.{JournalLimits}
 use Rattle.mediator_history.specs.Subscriptions.{is_live, subscribed_in}
 use Rattle.mediator_history.specs.Disclosed.{disclosed}
 use Rattle.mediator_history.specs.Auditing.{audit_list}
@@ -52,5 +52,5 @@ abbrev pub stream_limits : Limits → StreamLimits
 stream_limits l = record { queue = l.queue; shapes = l.shapes }
 
 -- the limits of the journal
-abbrev pub journal_limits : Limits → Journaled
+abbrev pub journal_limits : Limits → JournalLimits
 journal_limits l = record { entries = l.entries; octets = l.octets }

@@ -2,7 +2,7 @@
 use Rattle.std.specs.Prelude.{◌≡◌, ℕ, List, map}
 use Rattle.event_journal.specs.declared.entry.Entry.{Entry}
 use Rattle.event_journal.specs.Kept.{KeptJournal}
-use Rattle.event_journal.specs.Room.{Limits as Journaled}
+use Rattle.event_journal.specs.Room.{JournalLimits}
 use Rattle.mediator_state.specs.declared.engine.Engine.{Engine}
 use Rattle.mediator_state.specs.declared.state.State.{State}
 use Rattle.mediator_state.specs.Seen.{place_of}
@@ -31,7 +31,7 @@ view_of s = record {
 abbrev pub tells : KeptJournal → List Entry → Type 0
 tells j h = j.entries ≡ h
 
-abbrev pub limits_of : KeptJournal → Journaled
+abbrev pub limits_of : KeptJournal → JournalLimits
 limits_of j = j.limits
 
 -- the state stands for its journal

@@ -10,9 +10,9 @@ pub trait Patience {
     /// Whether a call waits for room at all. Where it doesn't, [`wait`](Patience::wait) isn't asked.
     fn has_any(&self) -> bool;
 
-    /// Waits a moment, and answers whether to look for room once more. `turn` is how often one call has waited before: 0 for its
+    /// Waits a moment, and answers whether to look for room once more. `waits` is how often one call has waited before: 0 for its
     /// first wait.
-    fn wait(&self, turn: u64) -> bool;
+    fn wait(&self, waits: u64) -> bool;
 }
 
 /// What an administrator may ask of a server.

@@ -18,15 +18,15 @@ pub(crate) fn wait_for_room<E: EntryLedger, H: RecordLedger, P: Patience>(
     if !patience.has_any() {
         return first;
     }
-    for turn in first..u64::MAX {
+    for waits in first..u64::MAX {
         if !shared.is_held_up(rt, shares) {
-            return turn;
+            return waits;
         }
-        if turn == 0 {
+        if waits == 0 {
             shared.wake();
         }
-        if !patience.wait(turn) {
-            return turn;
+        if !patience.wait(waits) {
+            return waits;
         }
     }
     u64::MAX
@@ -44,14 +44,14 @@ pub(crate) fn wait_for_advance<E: EntryLedger, H: RecordLedger, P: Patience>(
     if !patience.has_any() {
         return;
     }
-    for turn in 0..u64::MAX {
+    for waits in 0..u64::MAX {
         if !shared.is_advance_held_up(rt, t) {
             return;
         }
-        if turn == 0 {
+        if waits == 0 {
             shared.wake();
         }
-        if !patience.wait(turn) {
+        if !patience.wait(waits) {
             return;
         }
     }

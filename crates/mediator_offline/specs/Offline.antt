@@ -11,7 +11,7 @@ use Rattle.mediator_offline.specs.declared.job.OfflineJob.{OfflineJob}
 use Rattle.event_journal.specs.declared.limits.TheConstants.{MOST_ENTRIES, MOST_OCTETS}
 use Rattle.event_journal.specs.declared.entry.Entry.{Entry}
 use Rattle.event_journal.specs.declared.entry.Entry.TheVariants.{Open, Message, Edit, Subscribe}
-use Rattle.event_journal.specs.Room.{Limits as Journaled}
+use Rattle.event_journal.specs.Room.{JournalLimits}
 use Rattle.mediator_history.specs.Sessions.{messages_of}
 use Rattle.mediator_history.specs.Disclosed.{disclosed}
 use Rattle.mediator_history.specs.Auditing.{audit_list}
@@ -27,7 +27,7 @@ abbrev pub audit_limit : ℕ
 audit_limit = DEFAULT_AUDIT
 
 -- a history may be as long as any
-abbrev pub journal_limits : Journaled
+abbrev pub journal_limits : JournalLimits
 journal_limits = record { entries = MOST_ENTRIES; octets = MOST_OCTETS }
 
 -- the policy comes first

@@ -1,6 +1,6 @@
 //! A mediator with one session and one subscription, under one policy, as `offline` uses it.
 ghost use Rattle.std.specs.Prelude.{◌≡◌, ◌≤◌, ◌<◌, ◌+◌, ◌^◌, [], length, IfOk, IfErr, OnOk};
-ghost use Rattle.event_journal.specs.Room.{Limits as Journaled};
+ghost use Rattle.event_journal.specs.Room.{JournalLimits};
 
 use crate::job::OfflineJob;
 use bytes::Bytes;

@@ -26,7 +26,7 @@ use std::net::{SocketAddr, TcpStream};
 use std::sync::Wait;
 use std::time::{Clock, Duration};
 
-/// Has an administrator wait for its turn. Where too many wait, or there is no memory, its connection is closed.
+/// Has an administrator wait until those before it have ended. Where too many wait, or there is no memory, its connection is closed.
 pub(crate) fn admit<E: EntryLedger, H: RecordLedger, R: Wait + Log>(
     rt: &R,
     service: &Service<'_, E, H>,
@@ -104,7 +104,7 @@ fn serve_connection<E: EntryLedger, H: RecordLedger, R: Wait + Clock + Log>(
     notes::admin_ends(rt, peer, answered, over.get());
 }
 
-/// What is read of an administrator: nothing more behind the last answer, or where its turn is over.
+/// What is read of an administrator: nothing more behind the last answer, or where its time is over.
 #[derive(Drop)]
 struct Commands<'r, 'v, 'c, 'l, 'o, R> {
     rt: &'r R,
@@ -118,7 +118,7 @@ struct Commands<'r, 'v, 'c, 'l, 'o, R> {
 }
 
 impl<R: Wait + Clock> Commands<'_, '_, '_, '_, '_, R> {
-    /// Waits for octets, as long as it is this administrator's turn.
+    /// Waits for octets, as long as this administrator has time.
     fn wait_for(&self, buffer: &mut [u8]) -> Result<usize, Failed>
         ensures { ReadsAtMost result buffer.new }
     {
@@ -198,8 +198,8 @@ impl<R: Wait + Clock, E: EntryLedger, H: RecordLedger> Patience
         self.service.plan.hold.is_some()
     }
 
-    fn wait(&self, turn: u64) -> bool {
-        wait_a_moment(self.rt, self.service, &self.begun, turn)
+    fn wait(&self, waits: u64) -> bool {
+        wait_a_moment(self.rt, self.service, &self.begun, waits)
     }
 }
 

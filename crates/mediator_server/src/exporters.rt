@@ -314,8 +314,8 @@ impl<R: Wait + Clock, E: EntryLedger, H: RecordLedger> Patience
         self.service.plan.hold.is_some()
     }
 
-    fn wait(&self, turn: u64) -> bool {
-        wait_a_moment(self.rt, self.service, &self.begun, turn)
+    fn wait(&self, waits: u64) -> bool {
+        wait_a_moment(self.rt, self.service, &self.begun, waits)
     }
 }
 
@@ -335,18 +335,18 @@ impl<R: Wait + Clock + Log, E: EntryLedger, H: RecordLedger> Reception
     }
 }
 
-/// Waits a moment for room in a queue, and answers whether to look for it again: not when the wait that began with turn 0 has
-/// lasted as long as the plan allows, or the run ends.
+/// Waits a moment for room in a queue, for a call that has waited `waits` times before; and answers whether to look for it again: not
+/// when the plan allows no more time since the first wait, or the run ends.
 pub(crate) fn wait_a_moment<R: Wait + Clock, E: EntryLedger, H: RecordLedger>(
     rt: &R,
     service: &Service<'_, E, H>,
     begun: &Cell<Duration>,
-    turn: u64,
+    waits: u64,
 ) -> bool {
     let Some(most) = service.plan.hold else {
         return false;
     };
-    if turn == 0 {
+    if waits == 0 {
         begun.set(now(rt));
     }
     rt.sleep(Duration::from_millis(LOOK_EACH));

@@ -8,7 +8,7 @@ use std::alloc::Global;
 use std::sync::{Condvar, CondvarTimeouts, Mutex, Wait};
 use std::time::{Clock, Duration};
 
-/// How many administrators may wait for their turn.
+/// How many administrators may wait for the one before them to end.
 const MOST_WAITING: usize = 8;
 
 /// An administrator from which nothing came for this many seconds is silent.
@@ -37,7 +37,7 @@ struct Standing {
     is_closing: bool,
     /// Since when no exporter is there, and none may come.
     exporters_gone: Option<Duration>,
-    /// The administrators that wait for their turn, in the order in which they came.
+    /// The administrators that wait to be served, in the order in which they came.
     waiting: Vec<Connection>,
     /// Whether an administrator was ever served.
     was_administered: bool,
@@ -234,7 +234,7 @@ impl RunState {
 
 /// The administrators, one after another.
 impl RunState {
-    /// Has an administrator wait for its turn; hands it back where too many wait.
+    /// Has an administrator wait to be served; hands it back where too many wait.
     pub(crate) fn admit(&self, rt: &impl Wait, connection: Connection) -> Result<(), Connection> {
         let mut standing = self.standing.lock(rt);
         if !standing.is_administered
@@ -277,7 +277,7 @@ impl RunState {
         unreachable!()
     }
 
-    /// Whether an administrator's turn is over, from which something came last at `heard`; and why.
+    /// Whether an administrator's time is over, from which something came last at `heard`; and why.
     pub(crate) fn dismissal<R: Wait + Clock>(&self, rt: &R, heard: Duration) -> Option<Dismissal> {
         let standing = self.standing.lock(rt);
         if let Some(gone) = standing.exporters_gone {

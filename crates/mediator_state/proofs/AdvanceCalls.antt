@@ -4,7 +4,7 @@ use Rattle.disclosure_audit.specs.Queue.{AuditStanding}
 use Rattle.event_journal.specs.Sizes.{IsCountOf}
 use Rattle.event_journal.specs.declared.entry.Entry.{Entry}
 use Rattle.event_journal.specs.declared.entry.Entry.TheVariants.{Advance, Cut}
-use Rattle.event_journal.specs.Room.{Limits as Journaled, HasRoom, HasRoomAfter}
+use Rattle.event_journal.specs.Room.{JournalLimits, HasRoom, HasRoomAfter}
 use Rattle.mediator_history.specs.Counting.{clock_of}
 use Rattle.mediator_history.specs.Auditing.{audit_list, cut_entries}
 use Rattle.mediator_history.specs.Cuts.{cuts_before, after_cuts}
@@ -47,14 +47,14 @@ noted_closing e h t c entries f =
     ∙ audit_same (after_cuts h c.cuts.items) (Advance t) refl
     ∙ audit-cuts h c.cuts.items
 
-pub closing_full : (limits : Journaled) (count sizes : ℕ) (e : Engine) (h : List Entry) (t : ℕ) (c : Closing) (entries : List Entry) → IsCountOf h count sizes → IsClosing e h t c entries
+pub closing_full : (limits : JournalLimits) (count sizes : ℕ) (e : Engine) (h : List Entry) (t : ℕ) (c : Closing) (entries : List Entry) → IsCountOf h count sizes → IsClosing e h t c entries
     → (HasRoom limits count sizes entries → ⊥) → RefusesAdvanceAfter fault.JournalFull limits e h t
 closing_full limits count sizes e h t c entries counts f full = (
   f.ahead,
   λ r. full (room_before limits count sizes h entries counts (subst (λ (more : List Entry). HasRoomAfter limits h more) (sym (entries_closing e h t c entries f)) r)),
 )
 
-pub closing_audit : (why : Fault) (limits : Journaled) (count sizes : ℕ) (e : Engine) (h : List Entry) (t : ℕ) (c : Closing) (entries : List Entry) → IsCountOf h count sizes → IsClosing e h t c entries
+pub closing_audit : (why : Fault) (limits : JournalLimits) (count sizes : ℕ) (e : Engine) (h : List Entry) (t : ℕ) (c : Closing) (entries : List Entry) → IsCountOf h count sizes → IsClosing e h t c entries
     → HasRoom limits count sizes entries → LacksAudit why e.audit (length c.cuts.items) → RefusesAdvanceAfter why limits e h t
 closing_audit (fault.AuditFull need room) limits count sizes e h t c entries counts f r lacks = (
   f.ahead,
@@ -79,7 +79,7 @@ closing_audit fault.BadLimits limits count sizes e h t c entries counts f r lack
 closing_audit (fault.ClockBack last) limits count sizes e h t c entries counts f r lacks = absurd lacks
 
 -- memory ran out where the clock doesn't stand later
-pub ahead_memory : (why : Fault) (limits : Journaled) (e : Engine) (h : List Entry) (t : ℕ) → why ≡ fault.OutOfMemory → clock_of h ≤ t → RefusesAdvanceAfter why limits e h t
+pub ahead_memory : (why : Fault) (limits : JournalLimits) (e : Engine) (h : List Entry) (t : ℕ) → why ≡ fault.OutOfMemory → clock_of h ≤ t → RefusesAdvanceAfter why limits e h t
 ahead_memory why limits e h t is ahead = rw is ahead
 
 -- the room that was made for an advance holds what is named of its cuts
@@ -104,7 +104,7 @@ abbrev pub AcceptsClosing : Engine → ℕ → ℕ → Closing → Engine → Ty
 AcceptsClosing e position t c new = (h : List Entry) → Stands e h → length h ≡ position → clock_of h ≤ t → IsJudged e h (Advance t) c.cuts.items (map shown c.shares.items) []
     → Stands new (after_cuts h c.cuts.items ++ Advance t ∷ [])
 
-pub advanced : {C : Type 0} (tells : C → List Entry → Type 0) (limits : C → Journaled) (old new : State C) (e : Engine) (count sizes : ℕ) (h : List Entry) (t : ℕ) (c : Closing) (entries : List Entry) (position : ℕ)
+pub advanced : {C : Type 0} (tells : C → List Entry → Type 0) (limits : C → JournalLimits) (old new : State C) (e : Engine) (count sizes : ℕ) (h : List Entry) (t : ℕ) (c : Closing) (entries : List Entry) (position : ℕ)
     → StateStandsFor tells old h → IsCountOf h count sizes → position ≡ count → IsClosing old.engine h t c entries → HasRoom (limits old.chronicle) count sizes entries → IsSameEngine old.engine e → AuditHoldsAfter old.engine h (with_cuts_after old.engine h (Advance t))
     → tells new.chronicle (h ++ entries) → AcceptsClosing e position t c new.engine → AdvancesAfter old.engine t h (Accepts tells limits old new h)
 advanced tells limits old new e count sizes h t c entries position stands counts at f room same held told accepts =

@@ -13,7 +13,7 @@ use Rattle.disclosure_audit.specs.Queue.{AuditStanding, StandsIn, stamp}
 use Rattle.event_journal.specs.Sizes.{history_octets, IsCountOf}
 use Rattle.event_journal.specs.declared.entry.Entry.{Entry}
 use Rattle.event_journal.specs.declared.entry.Entry.TheVariants.{Message, Edit, Subscribe, Cut}
-use Rattle.event_journal.specs.Room.{Limits as Journaled, HasRoom, HasRoomAfter}
+use Rattle.event_journal.specs.Room.{JournalLimits, HasRoom, HasRoomAfter}
 use Rattle.mediator_history.specs.Sessions.{is_open, messages_of}
 use Rattle.mediator_history.specs.Subscriptions.{subscriptions_begun}
 use Rattle.mediator_history.specs.Auditing.{audit_at, audit_list, cut_entries}
@@ -49,21 +49,21 @@ somewhere tells s count octets position counted is some = record {
   counted = sym (is ∙ (counted some.history some.stands.told).entries);
 }
 
-pub room_after : (limits : Journaled) (count octets : ℕ) (h more : List Entry) → IsCountOf h count octets → HasRoom limits count octets more → HasRoomAfter limits h more
+pub room_after : (limits : JournalLimits) (count octets : ℕ) (h more : List Entry) → IsCountOf h count octets → HasRoom limits count octets more → HasRoomAfter limits h more
 room_after limits count octets h more c r = record {
   entries_fit = subst (λ (n : ℕ). n + length more ≤ limits.entries) c.entries r.entries_fit;
   octets_fit = subst (λ (n : ℕ). n + history_octets more ≤ limits.octets) c.sizes r.octets_fit;
   spelled = r.spelled;
 }
 
-pub room_before : (limits : Journaled) (count octets : ℕ) (h more : List Entry) → IsCountOf h count octets → HasRoomAfter limits h more → HasRoom limits count octets more
+pub room_before : (limits : JournalLimits) (count octets : ℕ) (h more : List Entry) → IsCountOf h count octets → HasRoomAfter limits h more → HasRoom limits count octets more
 room_before limits count octets h more c r = record {
   entries_fit = subst (λ (n : ℕ). n + length more ≤ limits.entries) (sym c.entries) r.entries_fit;
   octets_fit = subst (λ (n : ℕ). n + history_octets more ≤ limits.octets) (sym c.sizes) r.octets_fit;
   spelled = r.spelled;
 }
 
-pub lacks_after : (e : Fault) (limits : Journaled) (count octets : ℕ) (h more : List Entry) → IsCountOf h count octets → LacksRoom e limits count octets more → LacksRoomAfter e limits h more
+pub lacks_after : (e : Fault) (limits : JournalLimits) (count octets : ℕ) (h more : List Entry) → IsCountOf h count octets → LacksRoom e limits count octets more → LacksRoomAfter e limits h more
 lacks_after fault.JournalFull limits count octets h more c lacks = λ r. lacks (room_before limits count octets h more c r)
 lacks_after fault.OutOfMemory limits count octets h more c lacks = room_after limits count octets h more c lacks
 lacks_after fault.UnknownSession limits count octets h more c lacks = absurd lacks
@@ -129,7 +129,7 @@ noted_of e h session number octets p is plan =
 
 -- ---- why a message is refused
 
-pub refused_message : (why : Fault) (limits : Journaled) (e : Engine) (h : List Entry) (session number : ℕ) (octets : List ℕ) → RefusesMessage why h session number octets → RefusesReceiveAfter why limits e h session number octets
+pub refused_message : (why : Fault) (limits : JournalLimits) (e : Engine) (h : List Entry) (session number : ℕ) (octets : List ℕ) → RefusesMessage why h session number octets → RefusesReceiveAfter why limits e h session number octets
 refused_message fault.JournalFull limits e h session number octets r = absurd r
 refused_message fault.OutOfMemory limits e h session number octets r = r
 refused_message fault.UnknownSession limits e h session number octets r = r
@@ -147,7 +147,7 @@ refused_message (fault.ClockBack last) limits e h session number octets r = r
 refused_message (fault.AuditFull need room) limits e h session number octets r = absurd r
 
 -- so it is where the message was prepared, which then has a meaning
-pub refused_as_prepared : (why : Fault) (limits : Journaled) (e : Engine) (h : List Entry) (session number : ℕ) (p : Preparation) (reading : Ahead) → IsNextReading h session number p.message reading → RefusesReceiveAfter why limits e h session number p.message
+pub refused_as_prepared : (why : Fault) (limits : JournalLimits) (e : Engine) (h : List Entry) (session number : ℕ) (p : Preparation) (reading : Ahead) → IsNextReading h session number p.message reading → RefusesReceiveAfter why limits e h session number p.message
     → RefusesReceivePreparedAfter why limits e h session number p
 refused_as_prepared fault.JournalFull limits e h session number p reading read r = r
 refused_as_prepared fault.OutOfMemory limits e h session number p reading read r = r
@@ -174,14 +174,14 @@ pub record IsFound (e : Engine) (h : List Entry) (session number : ℕ) (octets 
 has_meaning : (e : Engine) (h : List Entry) (session number : ℕ) (octets : List ℕ) (p : MessagePlan) → p.session.0 ≡ session → IsPlan e h number octets p → HasMeaning h session octets
 has_meaning e h session number octets p is plan = record { meaning = p.reading.meaning; means = means_of e h session number octets p is plan }
 
-pub refused_full : (limits : Journaled) (count sizes : ℕ) (e : Engine) (h : List Entry) (session number : ℕ) (octets : List ℕ) (p : MessagePlan) (entries : List Entry) → IsCountOf h count sizes → IsFound e h session number octets p entries → (HasRoom limits count sizes entries → ⊥) → RefusesReceiveAfter fault.JournalFull limits e h session number octets
+pub refused_full : (limits : JournalLimits) (count sizes : ℕ) (e : Engine) (h : List Entry) (session number : ℕ) (octets : List ℕ) (p : MessagePlan) (entries : List Entry) → IsCountOf h count sizes → IsFound e h session number octets p entries → (HasRoom limits count sizes entries → ⊥) → RefusesReceiveAfter fault.JournalFull limits e h session number octets
 refused_full limits count sizes e h session number octets p entries c f full = (
   next_of e h session number octets p f.session_is f.plan,
   has_meaning e h session number octets p f.session_is f.plan,
   λ r. full (room_before limits count sizes h entries c (subst (λ (more : List Entry). HasRoomAfter limits h more) (sym (entries_are e h session number octets p entries f.session_is f.entries_made f.plan)) r)),
 )
 
-pub refused_audit : (why : Fault) (limits : Journaled) (count sizes : ℕ) (e : Engine) (h : List Entry) (session number : ℕ) (octets : List ℕ) (p : MessagePlan) (entries : List Entry) → IsCountOf h count sizes → IsFound e h session number octets p entries → HasRoom limits count sizes entries → LacksAudit why e.audit (length p.cuts.items + p.notes.count) → RefusesReceiveAfter why limits e h session number octets
+pub refused_audit : (why : Fault) (limits : JournalLimits) (count sizes : ℕ) (e : Engine) (h : List Entry) (session number : ℕ) (octets : List ℕ) (p : MessagePlan) (entries : List Entry) → IsCountOf h count sizes → IsFound e h session number octets p entries → HasRoom limits count sizes entries → LacksAudit why e.audit (length p.cuts.items + p.notes.count) → RefusesReceiveAfter why limits e h session number octets
 refused_audit (fault.AuditFull need room) limits count sizes e h session number octets p entries c f r lacks = (
   next_of e h session number octets p f.session_is f.plan,
   has_meaning e h session number octets p f.session_is f.plan,
@@ -210,7 +210,7 @@ refused_audit fault.BadLimits limits count sizes e h session number octets p ent
 refused_audit (fault.ClockBack last) limits count sizes e h session number octets p entries c f r lacks = absurd lacks
 
 -- memory ran out behind what was found out of a message
-pub next_memory : (why : Fault) (limits : Journaled) (e : Engine) (h : List Entry) (session number : ℕ) (octets : List ℕ) → why ≡ fault.OutOfMemory → IsNext h session number → RefusesReceiveAfter why limits e h session number octets
+pub next_memory : (why : Fault) (limits : JournalLimits) (e : Engine) (h : List Entry) (session number : ℕ) (octets : List ℕ) → why ≡ fault.OutOfMemory → IsNext h session number → RefusesReceiveAfter why limits e h session number octets
 next_memory why limits e h session number octets is next = rw is next
 
 -- ---- that the audit holds what is named
@@ -254,7 +254,7 @@ planned_for d e h number octets position p same stands counted short plan = reco
 abbrev pub AcceptsPlan : Engine → ℕ → MessagePlan → Engine → Type 0
 AcceptsPlan e position p new = (h : List Entry) (number : ℕ) (octets : List ℕ) → Stands e h → length h ≡ position → IsPlan e h number octets p → Stands new (after_cuts h p.cuts.items ++ Message p.session.0 number octets ∷ [])
 
-pub received : {C : Type 0} (tells : C → List Entry → Type 0) (limits : C → Journaled) (old new : State C) (e : Engine) (count sizes : ℕ) (h : List Entry) (session number : ℕ) (octets : List ℕ) (p : MessagePlan) (entries : List Entry) (r : Receipt) (position : ℕ)
+pub received : {C : Type 0} (tells : C → List Entry → Type 0) (limits : C → JournalLimits) (old new : State C) (e : Engine) (count sizes : ℕ) (h : List Entry) (session number : ℕ) (octets : List ℕ) (p : MessagePlan) (entries : List Entry) (r : Receipt) (position : ℕ)
     → StateStandsFor tells old h → IsCountOf h count sizes → position ≡ count → IsFound old.engine h session number octets p entries → HasRoom (limits old.chronicle) count sizes entries → IsSameEngine old.engine e → AuditHoldsAfter old.engine h (with_cuts_after old.engine h (Message session number octets))
     → tells new.chronicle (h ++ entries) → AcceptsPlan e position p new.engine → r ≡ receipt_of position (length p.cuts.items) p.reading.meaning → ReceivesAfter old.engine session number octets r h (Accepts tells limits old new h)
 received tells limits old new e count sizes h session number octets p entries r position stands c at f room same held told accepts receipt =
@@ -282,7 +282,7 @@ received tells limits old new e count sizes h session number octets p entries r 
 -- ---- one entry more
 
 -- room was made for the entry, it was appended, and the engine goes on with it
-pub accepts_one : {C : Type 0} (tells : C → List Entry → Type 0) (limits : C → Journaled) (count sizes : C → ℕ) (old mid : State C) (chronicle : C) (engine : Engine) (h : List Entry) (written entry : Entry)
+pub accepts_one : {C : Type 0} (tells : C → List Entry → Type 0) (limits : C → JournalLimits) (count sizes : C → ℕ) (old mid : State C) (chronicle : C) (engine : Engine) (h : List Entry) (written entry : Entry)
     → StateStandsFor tells old h → IsCountOf h (count old.chronicle) (sizes old.chronicle)
     → limits mid.chronicle ≡ limits old.chronicle → count mid.chronicle ≡ count old.chronicle → sizes mid.chronicle ≡ sizes old.chronicle
     → HasRoom (limits mid.chronicle) (count mid.chronicle) (sizes mid.chronicle) (written ∷ []) → written ≡ entry
@@ -291,7 +291,7 @@ pub accepts_one : {C : Type 0} (tells : C → List Entry → Type 0) (limits : C
     → Accepts tells limits old (record { chronicle = chronicle; engine = engine }) h (entry ∷ [])
 accepts_one tells limits count sizes old mid chronicle engine h written entry s c same_limits same_count same_sizes room is keeps goes_on same_engine stands = record {
   room = room_after (limits old.chronicle) (count old.chronicle) (sizes old.chronicle) h (entry ∷ []) c
-      (subst (λ (l : Journaled). HasRoom l (count old.chronicle) (sizes old.chronicle) (entry ∷ [])) same_limits
+      (subst (λ (l : JournalLimits). HasRoom l (count old.chronicle) (sizes old.chronicle) (entry ∷ [])) same_limits
       (subst (λ (n : ℕ). HasRoom (limits mid.chronicle) n (sizes old.chronicle) (entry ∷ [])) same_count
       (subst (λ (n : ℕ). HasRoom (limits mid.chronicle) (count mid.chronicle) n (entry ∷ [])) same_sizes
       (subst (λ (e : Entry). HasRoom (limits mid.chronicle) (count mid.chronicle) (sizes mid.chronicle) (e ∷ [])) is room))));
@@ -303,7 +303,7 @@ accepts_one tells limits count sizes old mid chronicle engine h written entry s 
 
 -- ---- why a subscription is refused
 
-pub refused_subscribe : (e : Fault) (limits : Journaled) (count sizes : ℕ) (h : List Entry) (name : List ℕ) (n : ℕ) (written : List ℕ) → n ≡ subscriptions_begun h + 1 → written ≡ name → IsCountOf h count sizes → is_name name ≡ true → IsFree h name → LacksRoom e limits count sizes (Subscribe n written ∷ []) → RefusesSubscribe e limits h name
+pub refused_subscribe : (e : Fault) (limits : JournalLimits) (count sizes : ℕ) (h : List Entry) (name : List ℕ) (n : ℕ) (written : List ℕ) → n ≡ subscriptions_begun h + 1 → written ≡ name → IsCountOf h count sizes → is_name name ≡ true → IsFree h name → LacksRoom e limits count sizes (Subscribe n written ∷ []) → RefusesSubscribe e limits h name
 refused_subscribe fault.JournalFull limits count sizes h name n written next is c named free lacks =
     (named, free, subst (λ (w : List ℕ). LacksRoomAfter fault.JournalFull limits h (Subscribe (subscriptions_begun h + 1) w ∷ [])) is (subst (λ (k : ℕ). LacksRoomAfter fault.JournalFull limits h (Subscribe k written ∷ [])) next (lacks_after fault.JournalFull limits count sizes h (Subscribe n written ∷ []) c lacks)))
 refused_subscribe fault.OutOfMemory limits count sizes h name n written next is c named free lacks = (named, free)
@@ -323,7 +323,7 @@ refused_subscribe (fault.AuditFull need room) limits count sizes h name n writte
 
 -- ---- why an edit is refused
 
-pub refused_edit : (e : Fault) (limits : Journaled) (count sizes : ℕ) (h : List Entry) (text written : List ℕ) (policy : Policy) → written ≡ text → IsCountOf h count sizes → policy_of text ≡ Ok policy → LacksRoom e limits count sizes (Edit written ∷ []) → RefusesEdit e limits h text
+pub refused_edit : (e : Fault) (limits : JournalLimits) (count sizes : ℕ) (h : List Entry) (text written : List ℕ) (policy : Policy) → written ≡ text → IsCountOf h count sizes → policy_of text ≡ Ok policy → LacksRoom e limits count sizes (Edit written ∷ []) → RefusesEdit e limits h text
 refused_edit fault.JournalFull limits count sizes h text written policy is c spelled lacks =
     (record { policy = policy; spelled = spelled }, subst (λ (w : List ℕ). LacksRoomAfter fault.JournalFull limits h (Edit w ∷ [])) is (lacks_after fault.JournalFull limits count sizes h (Edit written ∷ []) c lacks))
 refused_edit fault.OutOfMemory limits count sizes h text written policy is c spelled lacks = tt
@@ -342,18 +342,18 @@ refused_edit (fault.ClockBack last) limits count sizes h text written policy is 
 refused_edit (fault.AuditFull need room) limits count sizes h text written policy is c spelled lacks = absurd lacks
 
 -- memory ran out where there was room in the journal
-pub room_memory : (e : Fault) (limits : Journaled) (count octets : ℕ) (more : List Entry) → e ≡ fault.OutOfMemory → HasRoom limits count octets more → LacksRoom e limits count octets more
+pub room_memory : (e : Fault) (limits : JournalLimits) (count octets : ℕ) (more : List Entry) → e ≡ fault.OutOfMemory → HasRoom limits count octets more → LacksRoom e limits count octets more
 room_memory e limits count octets more is room = rw is room
 
-pub room_memory_after : (e : Fault) (limits : Journaled) (count octets : ℕ) (h more : List Entry) → e ≡ fault.OutOfMemory → IsCountOf h count octets → HasRoom limits count octets more → LacksRoomAfter e limits h more
+pub room_memory_after : (e : Fault) (limits : JournalLimits) (count octets : ℕ) (h more : List Entry) → e ≡ fault.OutOfMemory → IsCountOf h count octets → HasRoom limits count octets more → LacksRoomAfter e limits h more
 room_memory_after e limits count octets h more is c room = lacks_after e limits count octets h more c (room_memory e limits count octets more is room)
 
-pub refused_memory : (e : Fault) (limits : Journaled) (h : List Entry) (name : List ℕ) → e ≡ fault.OutOfMemory → is_name name ≡ true → IsFree h name → RefusesSubscribe e limits h name
+pub refused_memory : (e : Fault) (limits : JournalLimits) (h : List Entry) (name : List ℕ) → e ≡ fault.OutOfMemory → is_name name ≡ true → IsFree h name → RefusesSubscribe e limits h name
 refused_memory e limits h name is named free = rw is (named, free)
 
 -- ---- a state that stays
 
-pub same_state : {C : Type 0} (tells : C → List Entry → Type 0) (limits : C → Journaled) (s : State C) → StaysSame tells limits s s
+pub same_state : {C : Type 0} (tells : C → List Entry → Type 0) (limits : C → JournalLimits) (s : State C) → StaysSame tells limits s s
 same_state tells limits s = record {
   histories = λ h so. so;
   untouched = record { places = λ n. refl; drained = refl; limits = refl; audit_limit = refl };
@@ -361,7 +361,7 @@ same_state tells limits s = record {
 }
 
 -- the engine is the same, and what keeps the history tells of no other
-pub same_kept : {C : Type 0} (tells : C → List Entry → Type 0) (limits : C → Journaled) (old : State C) (chronicle : C) (engine : Engine)
+pub same_kept : {C : Type 0} (tells : C → List Entry → Type 0) (limits : C → JournalLimits) (old : State C) (chronicle : C) (engine : Engine)
     → ((h : List Entry) → tells old.chronicle h → tells chronicle h) → engine ≡ old.engine → limits chronicle ≡ limits old.chronicle
     → StaysSame tells limits old (record { chronicle = chronicle; engine = engine })
 same_kept tells limits old chronicle engine keeps same journaled = record {
@@ -371,7 +371,7 @@ same_kept tells limits old chronicle engine keeps same journaled = record {
 }
 
 -- in the engine reserved room has changed too
-pub same_roomed : {C : Type 0} (tells : C → List Entry → Type 0) (limits : C → Journaled) (old : State C) (chronicle : C) (engine : Engine)
+pub same_roomed : {C : Type 0} (tells : C → List Entry → Type 0) (limits : C → JournalLimits) (old : State C) (chronicle : C) (engine : Engine)
     → ((h : List Entry) → tells old.chronicle h → tells chronicle h) → IsSameEngine old.engine engine → limits chronicle ≡ limits old.chronicle
     → StaysSame tells limits old (record { chronicle = chronicle; engine = engine })
 same_roomed tells limits old chronicle engine keeps same journaled = record {
@@ -398,10 +398,10 @@ pub on_err : {X E P : Type 0} (r : Result X E) → P → OnErr r P
 on_err (Ok x) p = tt
 on_err (Err e) p = p
 
-pub full_where : (b : Bool) (limits : Journaled) (count sizes : ℕ) (seen entries : List Entry) → (IsTrue b ↔ HasRoom limits count sizes seen) → seen ≡ entries → b ≡ false → HasRoom limits count sizes entries → ⊥
+pub full_where : (b : Bool) (limits : JournalLimits) (count sizes : ℕ) (seen entries : List Entry) → (IsTrue b ↔ HasRoom limits count sizes seen) → seen ≡ entries → b ≡ false → HasRoom limits count sizes entries → ⊥
 full_where b limits count sizes seen entries exact is no_room r = let has : b ≡ true = exact.1 (subst (λ (more : List Entry). HasRoom limits count sizes more) (sym is) r) in absurd cc
 
-pub room_where : (b : Bool) (limits : Journaled) (count sizes : ℕ) (seen entries : List Entry) → (IsTrue b ↔ HasRoom limits count sizes seen) → seen ≡ entries → b ≡ true → HasRoom limits count sizes entries
+pub room_where : (b : Bool) (limits : JournalLimits) (count sizes : ℕ) (seen entries : List Entry) → (IsTrue b ↔ HasRoom limits count sizes seen) → seen ≡ entries → b ≡ true → HasRoom limits count sizes entries
 room_where b limits count sizes seen entries exact is has = subst (λ (more : List Entry). HasRoom limits count sizes more) is (exact.0 has)
 
 -- what was found out, where the cuts were lent as a slice

@@ -17,7 +17,7 @@ use Rattle.disclosure_audit.specs.declared.entry.AuditEntry.{AuditEntry}
 use Rattle.event_journal.specs.Sizes.{history_octets}
 use Rattle.event_journal.specs.declared.entry.Entry.{Entry}
 use Rattle.event_journal.specs.declared.entry.Entry.TheVariants.{Open, Close, Message, Edit, Subscribe, Unsubscribe, Advance}
-use Rattle.event_journal.specs.Room.{Limits as Journaled, HasRoom, HasRoomAfter}
+use Rattle.event_journal.specs.Room.{JournalLimits, HasRoom, HasRoomAfter}
 use Rattle.mediator_history.specs.Sessions.{is_open, messages_of, sessions_opened}
 use Rattle.mediator_history.specs.Subscriptions.{edits_made, name_of, is_live, is_served, subscriptions_begun}
 use Rattle.mediator_history.specs.Counting.{clock_of}
@@ -60,22 +60,22 @@ abbrev pub KeepsHistories : {C : Type 0} → (C → List Entry → Type 0) → S
 KeepsHistories tells old new = ForEachHistory tells old (StateStandsFor tells new)
 
 -- a step: behind the history there was room for these entries, and the new state stands for it with them
-pub record Accepts {C : Type 0} (tells : C → List Entry → Type 0) (limits : C → Journaled) (old new : State C) (h more : List Entry) : Type 0 where
+pub record Accepts {C : Type 0} (tells : C → List Entry → Type 0) (limits : C → JournalLimits) (old new : State C) (h more : List Entry) : Type 0 where
   pub room : HasRoomAfter (limits old.chronicle) h more
   pub stands : StateStandsFor tells new (h ++ more)
 
 -- whichever history the state stood for, this holds of it, and of the entries that were accepted behind it
-abbrev pub GoesOnBy : {C : Type 0} → (C → List Entry → Type 0) → (C → Journaled) → State C → State C → (List Entry → (List Entry → Type 0) → Type 0) → Type 0
+abbrev pub GoesOnBy : {C : Type 0} → (C → List Entry → Type 0) → (C → JournalLimits) → State C → State C → (List Entry → (List Entry → Type 0) → Type 0) → Type 0
 GoesOnBy tells limits old new P = ForEachHistory tells old (λ h. P h (Accepts tells limits old new h))
 
 -- a call that is accepted goes on so, hands out and drains nothing, and leaves the limits
-pub record Proceeds {C : Type 0} (tells : C → List Entry → Type 0) (limits : C → Journaled) (old new : State C) (P : List Entry → (List Entry → Type 0) → Type 0) : Type 0 where
+pub record Proceeds {C : Type 0} (tells : C → List Entry → Type 0) (limits : C → JournalLimits) (old new : State C) (P : List Entry → (List Entry → Type 0) → Type 0) : Type 0 where
   pub goes_on : GoesOnBy tells limits old new P
   pub untouched : IsUntouched old.engine new.engine
   pub journaled : limits new.chronicle ≡ limits old.chronicle
 
 -- one that is refused changes nothing that contracts see
-pub record StaysSame {C : Type 0} (tells : C → List Entry → Type 0) (limits : C → Journaled) (old new : State C) : Type 0 where
+pub record StaysSame {C : Type 0} (tells : C → List Entry → Type 0) (limits : C → JournalLimits) (old new : State C) : Type 0 where
   pub histories : KeepsHistories tells old new
   pub untouched : IsUntouched old.engine new.engine
   pub journaled : limits new.chronicle ≡ limits old.chronicle
@@ -86,13 +86,13 @@ pub record AuditHoldsAfter (e : Engine) (h more : List Entry) : Type 0 where
   pub after : length (drop e.audit.standing.drained (audit_list (h ++ more))) ≤ e.audit.limit
 
 -- behind so many entries of so many octets there is no room for these; or there is, and memory ran out
-abbrev pub LacksRoom : Fault → Journaled → ℕ → ℕ → List Entry → Type 0
+abbrev pub LacksRoom : Fault → JournalLimits → ℕ → ℕ → List Entry → Type 0
 LacksRoom fault.JournalFull limits count octets more = HasRoom limits count octets more → ⊥
 LacksRoom fault.OutOfMemory limits count octets more = HasRoom limits count octets more
 LacksRoom _ limits count octets more = ⊥
 
 -- the same behind a history
-abbrev pub LacksRoomAfter : Fault → Journaled → List Entry → List Entry → Type 0
+abbrev pub LacksRoomAfter : Fault → JournalLimits → List Entry → List Entry → Type 0
 LacksRoomAfter e limits h more = LacksRoom e limits (length h) (history_octets h) more
 
 -- Below, a record of each call says what it answers behind the history h, and that its entries were accepted there. Beside it
@@ -105,14 +105,14 @@ pub record OpensAfter (n : ℕ) (h : List Entry) (accepted : List Entry → Type
   pub number : n ≡ sessions_opened h + 1
   pub accepts : accepted (Open n ∷ [])
 
-abbrev pub RefusesOpenAfter : Fault → Journaled → List Entry → Type 0
+abbrev pub RefusesOpenAfter : Fault → JournalLimits → List Entry → Type 0
 RefusesOpenAfter e limits h = LacksRoomAfter e limits h (Open (sessions_opened h + 1) ∷ [])
 
 pub record ClosesAfter (session : ℕ) (h : List Entry) (accepted : List Entry → Type 0) : Type 0 where
   pub opened : is_open session h ≡ true
   pub accepts : accepted (Close session ∷ [])
 
-abbrev pub RefusesClose : Fault → Journaled → List Entry → ℕ → Type 0
+abbrev pub RefusesClose : Fault → JournalLimits → List Entry → ℕ → Type 0
 RefusesClose fault.UnknownSession limits h session = is_open session h ≡ false
 RefusesClose e limits h session = (is_open session h ≡ true) × LacksRoomAfter e limits h (Close session ∷ [])
 
@@ -137,7 +137,7 @@ pub record HasMeaning (h : List Entry) (session : ℕ) (octets : List ℕ) : Typ
   pub means : meaning_of (messages_of session h) octets ≡ Ok meaning
 
 -- first its own refusals, then the journal is judged, and then the audit, whose need and room are told
-abbrev pub RefusesReceiveAfter : Fault → Journaled → Engine → List Entry → ℕ → ℕ → List ℕ → Type 0
+abbrev pub RefusesReceiveAfter : Fault → JournalLimits → Engine → List Entry → ℕ → ℕ → List ℕ → Type 0
 RefusesReceiveAfter fault.JournalFull limits e h session number octets =
     IsNext h session number × HasMeaning h session octets × (HasRoomAfter limits h (with_cuts_after e h (Message session number octets)) → ⊥)
 RefusesReceiveAfter (fault.AuditFull need room) limits e h session number octets =
@@ -148,7 +148,7 @@ RefusesReceiveAfter why limits e h session number octets = RefusesMessage why h 
 
 -- what is received of a message that was prepared elsewhere: refused as the message itself is, but never for its octets, and
 -- where the session has other templates than those by which it was prepared
-abbrev pub RefusesReceivePreparedAfter : Fault → Journaled → Engine → List Entry → ℕ → ℕ → Preparation → Type 0
+abbrev pub RefusesReceivePreparedAfter : Fault → JournalLimits → Engine → List Entry → ℕ → ℕ → Preparation → Type 0
 RefusesReceivePreparedAfter fault.Stale limits e h session number p = IsNext h session number × (AgreesWith (messages_of session h) p → ⊥)
 RefusesReceivePreparedAfter (fault.Malformed why) limits e h session number p = ⊥
 RefusesReceivePreparedAfter why limits e h session number p = RefusesReceiveAfter why limits e h session number p.message
@@ -173,7 +173,7 @@ pub record AdvancesAfter (e : Engine) (t : ℕ) (h : List Entry) (accepted : Lis
 
 -- the clock stands later; else the journal is judged, and then the audit, whose need and room are told; memory runs out only where
 -- the clock doesn't stand later
-abbrev pub RefusesAdvanceAfter : Fault → Journaled → Engine → List Entry → ℕ → Type 0
+abbrev pub RefusesAdvanceAfter : Fault → JournalLimits → Engine → List Entry → ℕ → Type 0
 RefusesAdvanceAfter (fault.ClockBack last) limits e h t = (last ≡ clock_of h) × (t < last)
 RefusesAdvanceAfter fault.JournalFull limits e h t = (clock_of h ≤ t) × (HasRoomAfter limits h (with_cuts_after e h (Advance t)) → ⊥)
 RefusesAdvanceAfter (fault.AuditFull need room) limits e h t =
@@ -202,7 +202,7 @@ RefusesPolicy (fault.Policy why) text = policy_of text ≡ Err why
 RefusesPolicy fault.OutOfMemory text = Unit {0}
 RefusesPolicy _ text = ⊥
 
-abbrev pub RefusesEdit : Fault → Journaled → List Entry → List ℕ → Type 0
+abbrev pub RefusesEdit : Fault → JournalLimits → List Entry → List ℕ → Type 0
 RefusesEdit fault.JournalFull limits h text = HasPolicy text × LacksRoomAfter fault.JournalFull limits h (Edit text ∷ [])
 RefusesEdit e limits h text = RefusesPolicy e text
 
@@ -219,7 +219,7 @@ pub record SubscribesAfter (name : List ℕ) (n : ℕ) (h : List Entry) (accepte
   pub number : n ≡ subscriptions_begun h + 1
   pub accepts : accepted (Subscribe n name ∷ [])
 
-abbrev pub RefusesSubscribe : Fault → Journaled → List Entry → List ℕ → Type 0
+abbrev pub RefusesSubscribe : Fault → JournalLimits → List Entry → List ℕ → Type 0
 RefusesSubscribe fault.BadName limits h name = is_name name ≡ false
 RefusesSubscribe (fault.AlreadySubscribed sub) limits h name = (is_name name ≡ true) × (is_live sub h ≡ true) × (name_of sub h ≡ name)
 RefusesSubscribe fault.OutOfMemory limits h name = (is_name name ≡ true) × IsFree h name
@@ -229,7 +229,7 @@ pub record UnsubscribesAfter (sub : ℕ) (h : List Entry) (accepted : List Entry
   pub live : is_live sub h ≡ true
   pub accepts : accepted (Unsubscribe sub ∷ [])
 
-abbrev pub RefusesUnsubscribe : Fault → Journaled → List Entry → ℕ → Type 0
+abbrev pub RefusesUnsubscribe : Fault → JournalLimits → List Entry → ℕ → Type 0
 RefusesUnsubscribe fault.UnknownSub limits h sub = is_live sub h ≡ false
 RefusesUnsubscribe e limits h sub = (is_live sub h ≡ true) × LacksRoomAfter e limits h (Unsubscribe sub ∷ [])
 

@@ -29,23 +29,23 @@ pub(crate) struct Row {
     input: &'static [u8],
     /// How often it may wait. It's asked once more then, and refused.
     patience: u64,
-    /// At which turn all that waits is pulled.
+    /// Before which wait all that is queued is pulled.
     pulls_at: Option<u64>,
     /// How often it waits.
-    turns: u64,
+    waits: u64,
     /// How many records are queued and were handed out then, and whether the subscription is cut.
     left: (u32, u64, bool),
 }
 
-/// A server that has patience for some turns, at one of which it pulls what waits.
+/// A server that has patience for some waits, before one of which it pulls what is queued.
 #[derive(Drop)]
 struct Patient<'a, E: EntryLedger, H: RecordLedger, R> {
     rt: &'a R,
     shared: &'a SharedMediator<E, H>,
     delivery: RefCell<DeliveryHandle<H>>,
     row: Row,
-    turns: Cell<u64>,
-    /// Whether the turns were counted from 0.
+    waits: Cell<u64>,
+    /// Whether the waits were counted from 0.
     are_counted: Cell<bool>,
 }
 
@@ -61,15 +61,15 @@ impl<'a, E: EntryLedger, H: RecordLedger, R> Patient<'a, E, H, R> {
             shared,
             delivery: RefCell::new(delivery),
             row,
-            turns: Cell::new(0),
+            waits: Cell::new(0),
             are_counted: Cell::new(true),
         }
     }
 
     /// How often it waited, if that was counted from 0.
-    fn turns(&self) -> Option<u64> {
+    fn waits(&self) -> Option<u64> {
         if self.are_counted.get() {
-            Some(self.turns.get())
+            Some(self.waits.get())
         } else {
             None
         }
@@ -81,17 +81,17 @@ impl<E: EntryLedger, H: RecordLedger, R: Wait> Patience for Patient<'_, E, H, R>
         self.row.patience > 0
     }
 
-    fn wait(&self, turn: u64) -> bool {
-        if turn != self.turns.get() {
+    fn wait(&self, waits: u64) -> bool {
+        if waits != self.waits.get() {
             self.are_counted.set(false);
         }
-        self.turns.set(self.turns.get().saturating_add(1));
-        if self.row.pulls_at == Some(turn) {
+        self.waits.set(self.waits.get().saturating_add(1));
+        if self.row.pulls_at == Some(waits) {
             if let Ok(mut delivery) = self.delivery.try_borrow_mut() {
                 let _pulled = delivery.pull_some(self.rt, self.shared, NOW, SMALL, 32);
             }
         }
-        turn < self.row.patience
+        waits < self.row.patience
     }
 }
 
@@ -142,8 +142,8 @@ fn expect_held<E: EntryLedger, H: RecordLedger, R: Wait + Abort>(
     admin: &AdminHandle<E>,
     patient: &Patient<'_, E, H, R>,
 ) {
-    let turns = patient.turns();
-    assert!(rt; turns == Some(patient.row.turns), "{turns:?}");
+    let waits = patient.waits();
+    assert!(rt; waits == Some(patient.row.waits), "{waits:?}");
     let stands = admin.status(rt, shared, SubId(1)).expect(rt, "a status");
     let left = (stands.queued, stands.handed, stands.cut);
     assert!(rt; left == patient.row.left, "{left:?}");
@@ -169,12 +169,12 @@ const MESSAGES: &[Held] = &[
 
 #[test]
 fn held_messages(rt: HostRuntime) -> Result<(), Fail> {
-    for (input, patience, pulls_at, turns, left) in MESSAGES {
+    for (input, patience, pulls_at, waits, left) in MESSAGES {
         let row = Row {
             input: *input,
             patience: *patience,
             pulls_at: *pulls_at,
-            turns: *turns,
+            waits: *waits,
             left: *left,
         };
         let limits = limits_of((1000, 100, 2));
@@ -231,12 +231,12 @@ const ADVANCES: &[Held] = &[
 
 #[test]
 fn held_advances(rt: HostRuntime) -> Result<(), Fail> {
-    for (input, patience, pulls_at, turns, left) in ADVANCES {
+    for (input, patience, pulls_at, waits, left) in ADVANCES {
         let row = Row {
             input: *input,
             patience: *patience,
             pulls_at: *pulls_at,
-            turns: *turns,
+            waits: *waits,
             left: *left,
         };
         let limits = limits_of((1000, 100, 2));
@@ -257,9 +257,9 @@ impl Patience for Yielding {
         true
     }
 
-    fn wait(&self, turn: u64) -> bool {
+    fn wait(&self, waits: u64) -> bool {
         thread::yield_now();
-        turn < LONG
+        waits < LONG
     }
 }
 

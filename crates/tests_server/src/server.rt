@@ -67,7 +67,7 @@ impl Patience for Told<'_> {
         false
     }
 
-    fn wait(&self, _turn: u64) -> bool {
+    fn wait(&self, _waits: u64) -> bool {
         false
     }
 }
