@@ -17,7 +17,7 @@ use Rattle.flow_aggregate.specs.declared.sums.Sums.{Sums}
 use Rattle.flow_aggregate.specs.declared.closed.ClosedAggregate.{ClosedAggregate}
 use Rattle.flow_aggregate.specs.Groups.{Group, Sample}
 use Rattle.flow_aggregate.specs.GroupOrder.{same_group, group_cmp, group_total, same_group-is, same_group-whole}
-use Rattle.flow_aggregate.specs.Running.{Entries, HeldGroups, held_of, sums_at, SumsStand, is_due, pair_of, pairs_of, sums_in, AreClosed, closed_one, due_one, due_of}
+use Rattle.flow_aggregate.specs.Running.{Entries, HeldGroups, held_of, sums_at, SumsStand, is_due, pair_of, pairs_of, sums_in, AreClosed, closed_one, due_one, due_of, AreDue}
 use Rattle.flow_aggregate.proofs.EntryLaws.{same_both}
 
 pub due_more : (t : ℕ) (es : Entries) (e : Group × Sums) → due_of t (es ++ e ∷ []) ≡ due_of t es ++ due_one t e.0 e.1
@@ -76,19 +76,22 @@ due_look t (e ∷ es) g distinct = by (is_due t e.0) (same_group g e.0) refl ref
 key_test : (g : Group) → IsKeyTest same_group (same_group g)
 key_test g x y same = ap (λ h. same_group h y) (same_group-is g x same)
 
-pub are_closed : (t : ℕ) (es : Entries) (due closed : List ClosedAggregate) (cs : List Sample) → IsDistinct same_group (keys_of es) → due ≡ due_of t es
+-- what is found among all groups is due
+pub are_due : (t : ℕ) (es : Entries) (due : List ClosedAggregate) → IsDistinct same_group (keys_of es) → due ≡ due_of t es → AreDue t es due
+are_due t es due distinct is = record { once = rw is (due_once t es distinct); sums = λ g. ap (λ ds. sums_in ds g) is ∙ due_look t es g distinct }
+
+pub are_closed : (t : ℕ) (es : Entries) (due closed : List ClosedAggregate) (cs : List Sample) → AreDue t es due
     → IsPermutation due closed → IsSortedByKey (λ c. c.group) group_cmp closed → SumsStand es cs → AreClosed t cs closed
-are_closed t es due closed cs distinct is moves ascend stands =
+are_closed t es due closed cs are moves ascend stands =
     let pairs = IsPermutation-map pair_of due closed moves in
     let keys = IsPermutation-map (λ (p : Group × Sums). p.0) (pairs_of due) (pairs_of closed) pairs in
-    let before : IsDistinct same_group (keys_of (pairs_of due)) = rw is (due_once t es distinct) in
-    let once = IsDistinct-IsPermutation same_group same_group-whole.symm (keys_of (pairs_of due)) (keys_of (pairs_of closed)) keys before in
+    let once = IsDistinct-IsPermutation same_group same_group-whole.symm (keys_of (pairs_of due)) (keys_of (pairs_of closed)) keys are.once in
     record {
       ascend = ascend;
       once = once;
       sums = λ g.
           lookup_permutation same_group-whole (pairs_of due) (pairs_of closed) pairs once (same_group g) (key_test g)
-          ∙ ap (λ (ds : List ClosedAggregate). sums_in ds g) is ∙ due_look t es g distinct ∙ ap (λ (s : Option Sums). cond (is_due t g) s None) (stands g);
+          ∙ are.sums g ∙ ap (λ (s : Option Sums). cond (is_due t g) s None) (stands g);
     }
 
 -- what was sorted by a closure that compares the groups

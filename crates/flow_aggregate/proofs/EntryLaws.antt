@@ -26,7 +26,7 @@ same_both false x = refl
 one_of : (x y : Group) → Some x ≡ Some y → x ≡ y
 one_of x y is = cc
 
-all_at : (P : Group → Type 0) (gs : List Group) (i : ℕ) (g : Group) → AllByRecursion P gs → slice_get gs i ≡ Some g → P g
+pub all_at : (P : Group → Type 0) (gs : List Group) (i : ℕ) (g : Group) → AllByRecursion P gs → slice_get gs i ≡ Some g → P g
 all_at P [] i g all at = absurd cc
 all_at P (h ∷ gs) zero g all at = let one = one_of h g at in rw (← one) all.0
 all_at P (h ∷ gs) (suc i) g all at = all_at P gs i g all.1 at

@@ -1,21 +1,21 @@
 -- What stays kept where groups are made, counted or dropped.
-use Rattle.std.proofs.Common.{◌≡◌, ℕ, zero, suc, ◌+◌, ◌≤◌, length, take, drop, Bool, false, List, [], ◌∷◌, ◌++◌, map, filter, refl, sym, ap, ◌∙◌, subst, arith, length-append, min, true, cond, Some, is_some}
-use Rattle.std.specs.List.{AllByRecursion, IsDistinct}
+use Rattle.std.proofs.Common.{◌≡◌, ℕ, zero, suc, ◌+◌, ◌≤◌, length, take, drop, Bool, false, List, [], ◌∷◌, ◌++◌, map, refl, sym, ap, ◌∙◌, subst, arith, length-append, true, cond, Some, is_some}
+use Rattle.std.specs.List.{AllByRecursion, IsDistinct, list_any}
 use Rattle.std.specs.Map.{lookup, keys_of}
 use Rattle.std.proofs.lemmas.Map.Made.{is_some-lookup}
 use Rattle.std.proofs.lemmas.Map.Steps.{length-le_from_keys}
-use Rattle.std.proofs.lemmas.List.{take_all, drop_all, drop-append-le, map-append, length-take, length-map}
+use Rattle.std.proofs.lemmas.List.{take_all, drop_all, drop-append-le, length-take, length-map}
 use Rattle.flow_aggregate.specs.declared.sums.Sums.{Sums}
 use Rattle.flow_aggregate.specs.declared.addition.Addition.{Addition}
 use Rattle.flow_aggregate.specs.Sums.{no_sums}
-use Rattle.flow_aggregate.specs.Placing.{closes_at}
 use Rattle.flow_aggregate.specs.Groups.{Group, Sample, group_of}
 use Rattle.flow_aggregate.specs.GroupOrder.{same_group, same_group-whole}
-use Rattle.flow_aggregate.specs.Running.{Entries, HeldGroups, held_of, places, of_group, sums_over, SumsStand, NoneDueBefore, AreGroupsKept}
+use Rattle.flow_aggregate.specs.Running.{Entries, HeldGroups, held_of, of_group, sums_over, SumsStand, staying}
+use Rattle.flow_aggregate.specs.Agenda.{Timed, AreListed, AreGroupsKept, Closes}
 use Rattle.flow_aggregate.specs.Counts.{count_of}
 use Rattle.flow_aggregate.specs.Additions.{AreReadyToAdd, with_additions}
-use Rattle.flow_aggregate.proofs.DueLaws.{with_one, of_first, of_some}
-use Rattle.flow_aggregate.proofs.PlaceLaws.{places_kept, length_places}
+use Rattle.flow_aggregate.proofs.RunningLaws.{stays}
+use Rattle.flow_aggregate.proofs.PlaceLaws.{length_places}
 use Rattle.flow_aggregate.proofs.AdditionLaws.{keys_added, additions_stand}
 
 abbrev AreEmpty : Entries → Type 0
@@ -25,48 +25,52 @@ empty_more : (es : Entries) (g : Group) → AreEmpty es → AreEmpty (es ++ (g, 
 empty_more [] g empty = (refl, tt)
 empty_more (e ∷ es) g empty = (empty.0, empty_more es g empty.1)
 
-pub kept_more : (n time closes sooner : ℕ) (es fs : Entries) (g : Group) (s : Sums) → AreGroupsKept n time es → IsDistinct same_group (keys_of fs) → fs ≡ es ++ (g, s) ∷ []
-    → s ≡ no_sums → closes ≡ closes_at g.definition g.start → sooner ≡ min time closes → AreGroupsKept n sooner fs
-kept_more n time closes sooner es fs g s kept once grown none is least =
+pub kept_more : (n : ℕ) (es fs : Entries) (before after : Timed) (g : Group) → AreGroupsKept n es before → fs ≡ es ++ (g, no_sums) ∷ [] → AreListed fs after → AreGroupsKept n fs after
+kept_more n es fs before after g kept grown listed =
     let one : Entries = (g, no_sums) ∷ [] in
-    let all : fs ≡ es ++ one = grown ∙ ap (λ (t : Sums). es ++ (g, t) ∷ []) none in
-    let keys : keys_of (es ++ one) ≡ keys_of es ++ g ∷ [] = map-append (λ (e : Group × Sums). e.0) es one in
     let behind : drop n (es ++ one) ≡ drop n es ++ one = drop-append-le n es one kept.within in
-    subst (λ (ds : Entries). AreGroupsKept n sooner ds) (sym all) (record {
-      within = omega (arith, kept.within, length-append es one);
-      once = subst (λ (ds : Entries). IsDistinct same_group (keys_of ds)) all once;
-      empty = subst AreEmpty (sym behind) (empty_more (drop n es) g kept.empty);
-      later = subst (λ (gs : List Group). NoneDueBefore sooner gs) (sym keys) (with_one time closes sooner (keys_of es) g kept.later is least);
-    })
+    let long : length fs ≡ length es + 1 = ap length grown ∙ length-append es one in
+    record {
+      within = omega (arith, kept.within, long);
+      empty = subst AreEmpty (sym (ap (drop n) grown ∙ behind)) (empty_more (drop n es) g kept.empty);
+      listed = listed;
+    }
 
--- where all entries count
-whole : (n time : ℕ) (es : Entries) → n ≡ length es → IsDistinct same_group (keys_of es) → NoneDueBefore time (keys_of es) → AreGroupsKept n time es
-whole n time es long once later = record {
-  within = omega (arith, long);
-  once = once;
-  empty = subst AreEmpty (sym (drop_all n es (omega (arith, long)))) tt;
-  later = later;
+-- nothing has changed but what is reserved
+pub kept_same : (n : ℕ) (es fs : Entries) (before after : Timed) → AreGroupsKept n es before → fs ≡ es → AreListed fs after → AreGroupsKept n fs after
+kept_same n es fs before after kept same listed = record {
+  within = subst (λ (ds : Entries). n ≤ length ds) (sym same) kept.within;
+  empty = subst (λ (ds : Entries). AreEmpty (drop n ds)) (sym same) kept.empty;
+  listed = listed;
 }
 
-pub kept_first : (n time : ℕ) (es fs : Entries) → AreGroupsKept n time es → IsDistinct same_group (keys_of fs) → fs ≡ take n es → AreGroupsKept n time fs
-kept_first n time es fs kept once is =
-    whole n time fs (omega (arith, ap length is, length-take n es, kept.within)) once
-    (subst (λ (ds : Entries). NoneDueBefore time (keys_of ds)) (sym is) (of_first time n es kept.later))
+-- where all entries count
+pub whole : (n : ℕ) (es : Entries) (agenda : Timed) → n ≡ length es → AreListed es agenda → AreGroupsKept n es agenda
+whole n es agenda long listed = record {
+  within = omega (arith, long);
+  empty = subst AreEmpty (sym (drop_all n es (omega (arith, long)))) tt;
+  listed = listed;
+}
 
-pub kept_some : (n m time : ℕ) (p : Group × Sums → Bool) (es fs : Entries) → AreGroupsKept n time es → IsDistinct same_group (keys_of fs) → fs ≡ filter p es → m ≡ length fs
-    → AreGroupsKept m time fs
-kept_some n m time p es fs kept once is long =
-    whole m time fs long once (subst (λ (ds : Entries). NoneDueBefore time (keys_of ds)) (sym is) (of_some time p es kept.later))
+pub kept_first : (n : ℕ) (es fs : Entries) (before after : Timed) → AreGroupsKept n es before → fs ≡ take n es → AreListed fs after → AreGroupsKept n fs after
+kept_first n es fs before after kept is listed = whole n fs after (omega (arith, ap length is, length-take n es, kept.within)) listed
 
 pub length_added : (es : Entries) (xs : List Addition) → length (with_additions es xs) ≡ length es
 length_added es xs =
     sym (length-map (with_additions es xs) (λ (e : Group × Sums). e.0)) ∙ ap length (keys_added xs es) ∙ length-map es (λ (e : Group × Sums). e.0)
 
-pub kept_added : (n m time : ℕ) (es fs : Entries) (xs : List Addition) → AreGroupsKept n time es → fs ≡ with_additions es xs → m ≡ length es → AreGroupsKept m time fs
-kept_added n m time es fs xs kept is long =
-    subst (λ (ds : Entries). AreGroupsKept m time ds) (sym is)
-    (whole m time (with_additions es xs) (long ∙ sym (length_added es xs))
-    (subst (λ (gs : List Group). IsDistinct same_group gs) (sym (keys_added xs es)) kept.once) (subst (λ (gs : List Group). NoneDueBefore time gs) (sym (keys_added xs es)) kept.later))
+-- sums are added, and the groups stay
+listed_added : (es fs : Entries) (agenda : Timed) → AreListed es agenda → keys_of fs ≡ keys_of es → AreListed fs agenda
+listed_added es fs agenda listed keys = record {
+  keys = subst (λ (gs : List Group). IsDistinct same_group gs) (sym keys) listed.keys;
+  times = listed.times;
+  once = listed.once;
+  those = λ g. listed.those g ∙ is_some-lookup (same_group g) es ∙ ap (λ (gs : List Group). list_any (same_group g) gs) (sym keys) ∙ sym (is_some-lookup (same_group g) fs);
+}
+
+pub kept_added : (n m : ℕ) (es fs : Entries) (agenda : Timed) (xs : List Addition) → AreGroupsKept n es agenda → fs ≡ with_additions es xs → m ≡ length es → AreGroupsKept m fs agenda
+kept_added n m es fs agenda xs kept is long =
+    whole m fs agenda (long ∙ sym (ap length is ∙ length_added es xs)) (listed_added es fs agenda kept.listed (ap (λ (ds : Entries). keys_of ds) is ∙ keys_added xs es))
 
 -- those that count are kept once
 all_front : (P : Group → Type 0) (n : ℕ) (es : Entries) → AllByRecursion P (keys_of es) → AllByRecursion P (keys_of (take n es))
@@ -83,34 +87,37 @@ front_once (suc n) (e ∷ es) once = (all_front (λ y. same_group e.0 y ≡ fals
 pub counted_once : (n : ℕ) (es : Entries) (held : HeldGroups) → held_of n es ≡ held → IsDistinct same_group (keys_of es) → IsDistinct same_group (keys_of held.groups)
 counted_once n es held same once = subst (λ (h : HeldGroups). IsDistinct same_group (keys_of h.groups)) same (front_once n es once)
 
+-- as many as count are all that count
+pub counted_whole : (n i : ℕ) (es : Entries) (held : HeldGroups) → held_of n es ≡ held → n ≤ i → take i held.groups ≡ held.groups
+counted_whole n i es held same past =
+    take_all i held.groups (omega (arith, past, length-take n es, ap (λ (h : HeldGroups). length h.groups) same))
+
 -- ---- the ends of calls
 
 added_whole : (m : ℕ) (es fs : Entries) (xs : List Addition) → fs ≡ with_additions es xs → m ≡ length es → length fs ≤ m
 added_whole m es fs xs is long = omega (arith, ap length is ∙ length_added es xs, long)
 
 -- once all was added, all groups count
-pub added_stand : (n m time : ℕ) (es fs : Entries) (held : HeldGroups) (xs : List Addition) (before more : List Sample) → AreGroupsKept n time es → held_of n es ≡ held → fs ≡ with_additions es xs
+pub added_stand : (n m : ℕ) (es fs : Entries) (agenda : Timed) (held : HeldGroups) (xs : List Addition) (before more : List Sample) → AreGroupsKept n es agenda → held_of n es ≡ held → fs ≡ with_additions es xs
     → m ≡ length es → SumsStand held.groups before → AreReadyToAdd held xs (map count_of more) → SumsStand (take m fs) (before ++ more)
-added_stand n m time es fs held xs before more kept same is long stands ready =
+added_stand n m es fs agenda held xs before more kept same is long stands ready =
     let stood : SumsStand (take n es) before = subst (λ (h : HeldGroups). SumsStand h.groups before) (sym same) stands in
     let made : AreReadyToAdd (held_of n es) xs (map count_of more) = subst (λ (h : HeldGroups). AreReadyToAdd h xs (map count_of more)) (sym same) ready in
     subst (λ (ds : Entries). SumsStand ds (before ++ more)) (sym (take_all m fs (added_whole m es fs xs is long) ∙ is))
-    (additions_stand n es xs before more kept.once kept.empty stood made)
+    (additions_stand n es xs before more kept.listed.keys kept.empty stood made)
 
 pub none_ready : (m : ℕ) (es fs : Entries) (xs : List Addition) → fs ≡ with_additions es xs → m ≡ length es → keys_of (drop m fs) ≡ []
 none_ready m es fs xs is long = ap (λ (ds : Entries). keys_of ds) (drop_all m fs (added_whole m es fs xs is long))
 
--- a later time may do
-pub kept_until : (n time later : ℕ) (es : Entries) (held : HeldGroups) → AreGroupsKept n time es → held_of n es ≡ held → NoneDueBefore later (places held) → AreGroupsKept n later es
-kept_until n time later es held kept same before = record {
-  within = kept.within;
-  once = kept.once;
-  empty = kept.empty;
-  later = subst (λ (gs : List Group). NoneDueBefore later gs) (sym (places_kept n es ∙ ap places same)) before;
-}
+-- once all that was due is gone, all groups count
+pub closed_stand : (t m : ℕ) (es fs : Entries) (agenda : Timed) (held : HeldGroups) (cs : List Sample) → es ≡ held.groups → Closes t es fs agenda → m ≡ length fs → SumsStand held.groups cs
+    → SumsStand (take m fs) (staying t cs)
+closed_stand t m es fs agenda held cs same closes long stands =
+    let stood : SumsStand es cs = subst (λ (ds : Entries). SumsStand ds cs) (sym same) stands in
+    subst (λ (ds : Entries). SumsStand ds (staying t cs)) (sym (take_all m fs (omega (arith, long)))) (stays t es fs cs closes.sums stood)
 
-pub counted_later : (n time : ℕ) (es : Entries) (held : HeldGroups) → AreGroupsKept n time es → held_of n es ≡ held → NoneDueBefore time (keys_of held.groups)
-counted_later n time es held kept same = subst (λ (h : HeldGroups). NoneDueBefore time (keys_of h.groups)) same (of_first time n es kept.later)
+pub no_more_ready : (m : ℕ) (fs : Entries) → m ≡ length fs → keys_of (drop m fs) ≡ []
+no_more_ready m fs long = ap (λ (ds : Entries). keys_of ds) (drop_all m fs (omega (arith, long)))
 
 -- ---- how many are kept
 
@@ -134,8 +141,8 @@ few_counted es cs once stands =
     (λ g there. some_there g cs (ap is_some (sym (stands g)) ∙ is_some-lookup (same_group g) es ∙ there)) in
     omega (arith, few, length-map es (λ (e : Group × Sums). e.0), length-map cs by_group)
 
-pub few_kept : (n time : ℕ) (es : Entries) (held : HeldGroups) (cs : List Sample) → AreGroupsKept n time es → held_of n es ≡ held → SumsStand held.groups cs
+pub few_kept : (n : ℕ) (es : Entries) (agenda : Timed) (held : HeldGroups) (cs : List Sample) → AreGroupsKept n es agenda → held_of n es ≡ held → SumsStand held.groups cs
     → length es ≤ length cs + length held.ready
-few_kept n time es held cs kept same stands =
-    let few = few_counted held.groups cs (counted_once n es held same kept.once) stands in
+few_kept n es agenda held cs kept same stands =
+    let few = few_counted held.groups cs (counted_once n es held same kept.listed.keys) stands in
     omega (arith, few, length_places n es held same, length-append (keys_of held.groups) held.ready, length-map held.groups (λ (e : Group × Sums). e.0))

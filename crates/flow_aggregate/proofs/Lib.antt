@@ -6,6 +6,7 @@ pub mod EntryLaws
 pub mod RunningLaws
 pub mod PlaceLaws
 pub mod AdditionLaws
+pub mod AgendaLaws
 pub mod DueLaws
 pub mod KeptLaws
 pub mod ClosingLaws

@@ -1,11 +1,10 @@
 -- The records of a group after more were counted, and what groups stand for after others were closed.
 use Rattle.std.proofs.Common.{◌≡◌, ℕ, Bool, true, false, cond, not, List, [], ◌∷◌, ◌++◌, filter, None, refl, sym, ap, ◌∙◌, append-nil}
-use Rattle.std.specs.Map.{lookup}
 use Rattle.std.proofs.lemmas.List.Elements.{filter-append}
 use Rattle.flow_aggregate.specs.Groups.{Group, Sample, group_of}
 use Rattle.flow_aggregate.specs.GroupOrder.{same_group, same_group-is}
 use Rattle.flow_aggregate.specs.Running.{Entries, of_group, sums_at, sums_over, SumsStand, is_due, staying}
-use Rattle.flow_aggregate.proofs.EntryLaws.{look_kept, same_both}
+use Rattle.flow_aggregate.proofs.EntryLaws.{same_both}
 
 -- ---- the records of a group, and one more
 
@@ -39,8 +38,9 @@ stays_of t (c ∷ cs) g = by (is_due t (group_of c)) (same_group g (group_of c))
       rw (is-same, due) (ap (λ (ds : List Sample). c ∷ ds) rest)
   by false false is-due is-same after = rw is-same after
 
-pub stays : (t : ℕ) (es : Entries) (cs : List Sample) → SumsStand es cs → SumsStand (filter (λ e. not (is_due t e.0)) es) (staying t cs)
-stays t es cs stands g = look_kept t es g ∙ by (is_due t g) (stands g) ∙ ap sums_over (sym (stays_of t cs g)) where
-  by : (due : Bool) → sums_at es g ≡ sums_over (of_group g cs) → cond due None (lookup (same_group g) es) ≡ sums_over (cond due [] (of_group g cs))
+-- groups of which those that are due are gone, and the others have the sums that they had
+pub stays : (t : ℕ) (es fs : Entries) (cs : List Sample) → ((g : Group) → sums_at fs g ≡ cond (is_due t g) None (sums_at es g)) → SumsStand es cs → SumsStand fs (staying t cs)
+stays t es fs cs sums stands g = sums g ∙ by (is_due t g) (stands g) ∙ ap sums_over (sym (stays_of t cs g)) where
+  by : (due : Bool) → sums_at es g ≡ sums_over (of_group g cs) → cond due None (sums_at es g) ≡ sums_over (cond due [] (of_group g cs))
   by true is = refl
   by false is = is

@@ -13,6 +13,7 @@ pub mod Groups
 pub mod GroupOrder
 pub mod Closed
 pub mod Running
+pub mod Agenda
 pub mod Counts
 pub mod Additions
 pub mod Closing

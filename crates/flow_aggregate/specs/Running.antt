@@ -1,7 +1,7 @@
 -- What running groups stand for, and what an advance of the clock closes. Both are said of the records that were counted, and
 -- not of the groups that are kept (RFC 7015, section 5.1; the grace and the order are this project's own).
-use Rattle.std.specs.Prelude.{◌≡◌, ◌≤◌, ℕ, Bool, List, [], ◌∷◌, ◌++◌, map, filter, not, take, drop, length, Option, Some, None, nat_le, if◌then◌else◌}
-use Rattle.std.specs.List.{IsDistinct, AllByRecursion}
+use Rattle.std.specs.Prelude.{◌≡◌, ℕ, Bool, List, [], ◌∷◌, ◌++◌, map, filter, not, take, drop, Option, Some, None, nat_le, if◌then◌else◌}
+use Rattle.std.specs.List.{IsDistinct, flat_map}
 use Rattle.std.specs.List.Sorted.{IsSortedByKey}
 use Rattle.std.specs.Map.{lookup, keys_of}
 use Rattle.ipfix_template.specs.DataRecord.{DataRecord}
@@ -88,10 +88,6 @@ pub record AreClosed (t : ℕ) (counted : List Sample) (closed : List ClosedAggr
 
 -- ---- what is closed of the entries
 
--- none of the groups is due before this time
-abbrev pub NoneDueBefore : ℕ → List Group → Type 0
-NoneDueBefore time groups = AllByRecursion (λ g. time ≤ closes_at g.definition g.start) groups
-
 abbrev pub closed_one : Group → Sums → ClosedAggregate
 closed_one g s = record { group = g; sums = s }
 
@@ -102,15 +98,25 @@ abbrev pub due_of : ℕ → Entries → List ClosedAggregate
 due_of t [] = []
 due_of t (e ∷ entries) = due_one t e.0 e.1 ++ due_of t entries
 
+-- what is closed of a group that is due
+abbrev pub closed_with : Group → Option Sums → List ClosedAggregate
+closed_with g None = []
+closed_with g (Some s) = closed_one g s ∷ []
+
+abbrev pub closed_at : Entries → Group → List ClosedAggregate
+closed_at entries g = closed_with g (sums_at entries g)
+
+-- what is closed of these groups, which are due
+abbrev pub closed_among : Entries → List Group → List ClosedAggregate
+closed_among entries groups = flat_map (closed_at entries) groups
+
+-- the groups that are due, each once, with their sums
+pub record AreDue (t : ℕ) (entries : Entries) (due : List ClosedAggregate) : Type 0 where
+  pub once : IsDistinct same_group (keys_of (pairs_of due))
+  pub sums : (g : Group) → sums_in due g ≡ (if is_due t g then sums_at entries g else None)
+
 -- ---- how they are kept
 
 -- in the first so many entries records count
 abbrev pub held_of : ℕ → Entries → HeldGroups
 held_of counted entries = record { groups = take counted entries; ready = keys_of (drop counted entries) }
-
--- each group is kept once, the others have no sums yet, and no group is due before the time that is kept
-pub record AreGroupsKept (counted earliest : ℕ) (entries : Entries) : Type 0 where
-  pub within : counted ≤ length entries
-  pub once : IsDistinct same_group (keys_of entries)
-  pub empty : AllByRecursion (λ e. e.1 ≡ no_sums) (drop counted entries)
-  pub later : NoneDueBefore earliest (keys_of entries)

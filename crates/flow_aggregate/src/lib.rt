@@ -8,6 +8,7 @@
 //!   handed on from `policy_text`.
 //! - `count`: [`Count`], what a record adds, and to which group.
 //! - `addition`: [`Addition`], what a record adds, at the place of its group, once that was made ready.
+//! - `agenda`, `listed`: by when the groups are to be closed, and what keeps that in step with the groups.
 //! - `closed`, `closed_template`: [`ClosedAggregate`], a closed group with its sums, and its record.
 //! - `group`, `group_order`: what groups are, which are one, and their order.
 //! - `sums`, `values`: the counters, and the first value of an element in a record.
@@ -22,12 +23,14 @@
 #![tactic(auto)]
 
 mod addition;
+mod agenda;
 mod closed;
 mod closed_template;
 mod count;
 mod definition;
 mod group;
 mod group_order;
+mod listed;
 mod running;
 mod sums;
 mod timing;

@@ -1,10 +1,8 @@
 //! Groups that are still open, with their sums.
-ghost use Rattle.std.specs.Prelude.{◌≡◌, ◌≤◌, ◌+◌, ◌++◌, ◌∷◌, List, [], length, map, filter, not, slice_get, true, false, Some, IfOk, OnErr, OnOk};
-ghost use Rattle.std.specs.List.{IsDistinct};
-ghost use Rattle.std.specs.Map.{keys_of};
+ghost use Rattle.std.specs.Prelude.{◌≡◌, ◌≤◌, ◌+◌, ◌++◌, ◌∷◌, List, [], length, map, slice_get, false, Some, IfOk, OnErr, OnOk};
 ghost use Rattle.flow_aggregate.specs.Groups.{Group as OneGroup, Sample};
-ghost use Rattle.flow_aggregate.specs.GroupOrder.{same_group, group_cmp};
-ghost use Rattle.flow_aggregate.specs.Running.{HeldGroups, nothing_held, places, SumsStand, is_due, staying, NoneDueBefore, due_one, due_of};
+ghost use Rattle.flow_aggregate.specs.GroupOrder.{group_cmp};
+ghost use Rattle.flow_aggregate.specs.Running.{nothing_held, places, SumsStand, staying, due_one, closed_at, closed_among, AreDue};
 ghost use Rattle.flow_aggregate.specs.Closing.{record_of, closed_by};
 ghost use Rattle.flow_aggregate.specs.Counts.{Count as OneCount, count_of};
 ghost use Rattle.flow_aggregate.specs.Additions.{AreReadyToAdd, MakesAtMost, is_among};
@@ -13,9 +11,11 @@ ghost use Rattle.flow_aggregate.specs.Additions.{AreReadyToAdd, MakesAtMost, is_
 mod tests;
 
 use crate::addition::Addition;
+use crate::agenda::Agenda;
 use crate::closed::ClosedAggregate;
 use crate::count::Count;
 use crate::group::Group;
+use crate::listed;
 use crate::sums::Sums;
 use hash_keys::HashKeys;
 use indexmap::IndexMap;
@@ -33,8 +33,8 @@ pub struct Running {
     // Those from `counted` on were made for what is yet to be added, and have no sums.
     groups: IndexMap<Group, Sums, HashKeys>,
     counted: usize,
-    // No group is due before this time, so that until then none is looked at.
-    earliest: u64,
+    // All of these by the times at which they close, so that those that are due are found without a look at the others.
+    agenda: Agenda,
 }
 
 impl Drop for Running {
@@ -44,19 +44,20 @@ impl Drop for Running {
             alloc: _,
             groups: _,
             counted: _,
-            earliest: _,
+            agenda: _,
         } = self;
     }
 }
 
 impl Model for Running {
-    ghost use Rattle.flow_aggregate.specs.Running.{HeldGroups, held_of, AreGroupsKept};
+    ghost use Rattle.flow_aggregate.specs.Running.{HeldGroups, held_of};
+    ghost use Rattle.flow_aggregate.specs.Agenda.{AreGroupsKept};
 
     ghost Value = { HeldGroups };
 
     ghost view = { λ r. held_of r.counted r.groups.entries };
 
-    ghost invariant = { λ r. AreGroupsKept r.counted r.earliest r.groups.entries };
+    ghost invariant = { λ r. AreGroupsKept r.counted r.groups.entries r.agenda.by_time.entries };
 }
 
 impl Running {
@@ -77,7 +78,7 @@ impl Running {
             alloc,
             groups: IndexMap::with_hasher(alloc, keys),
             counted: 0,
-            earliest: u64::MAX,
+            agenda: Agenda::new(alloc),
         }
     }
 
@@ -115,7 +116,7 @@ impl Running {
     pub fn release(&mut self)
         ensures { self.new ≡ record { groups = self.old.groups; ready = [] } }
     {
-        self.groups.truncate(self.counted);
+        listed::truncate(&mut self.groups, &mut self.agenda, self.counted);
     }
 
     /// Adds `additions`, which the last [`reserve`](Running::reserve) made ready. It takes no
@@ -139,10 +140,8 @@ impl Running {
         ensures ready { self.new.ready ≡ [] }
     {
         self.release();
-        if self.earliest <= t {
-            self.keep_open(t);
-            self.earliest = self.first_due();
-        }
+        listed::close(&mut self.groups, &mut self.agenda, t);
+        self.counted = self.groups.len();
     }
 
     /// The groups that an advance of the clock to `t`, in milliseconds since 1970, closes: those
@@ -167,13 +166,20 @@ impl Running {
 
     /// These groups in some order.
     fn due(&self, t: u64) -> Result<Vec<ClosedAggregate>, AllocError>
-        ensures items { IfOk result (λ due. due.items ≡ due_of t self.now.groups) }
-        ensures unique { IsDistinct same_group (keys_of self.now.groups) }
+        ensures { IfOk result (λ due. AreDue t self.now.groups due.items) }
+    {
+        if self.agenda.has_many_due(t, self.groups.len()) {
+            self.find_due(t)
+        } else {
+            self.look_up_due(t)
+        }
+    }
+
+    /// These groups, found among all.
+    fn find_due(&self, t: u64) -> Result<Vec<ClosedAggregate>, AllocError>
+        ensures { IfOk result (λ due. AreDue t self.now.groups due.items) }
     {
         let mut due = Vec::new(self.alloc);
-        if t < self.earliest {
-            return Ok(due);
-        }
         for place in 0..self.counted {
             let Some((group, sums)) = self.groups.get_index(place) else {
                 unreachable!()
@@ -183,31 +189,39 @@ impl Running {
         Ok(due)
     }
 
-    /// When the first group is due.
-    fn first_due(&self) -> u64
-        ensures { NoneDueBefore result (places self.now) }
+    /// These groups, by the times at which they close.
+    fn look_up_due(&self, t: u64) -> Result<Vec<ClosedAggregate>, AllocError>
+        ensures { IfOk result (λ due. AreDue t self.now.groups due.items) }
     {
-        let mut first = u64::MAX;
-        for place in 0..self.groups.len() {
-            let Some((group, _)) = self.groups.get_index(place) else {
-                unreachable!()
-            };
-            first = first.min(group.closes_at());
+        let mut due = Vec::new(self.alloc);
+        'times: for (_time, groups) in self.agenda.by_time.range(..=t) {
+            self.put_all(groups, &mut due)?;
         }
-        first
+        Ok(due)
     }
 
-    fn keep_open(&mut self, t: u64)
-        requires { self.old.ready ≡ [] }
-        ensures { self.new
-            ≡ record { groups = filter (λ e. not (is_due t e.0)) self.old.groups; ready = [] } }
+    /// Appends those of these groups in which records count.
+    fn put_all(&self, groups: &[Group], due: &mut Vec<ClosedAggregate>) -> Result<(), AllocError>
+        ensures { OnOk result
+            (due.new.items ≡ due.old.items ++ closed_among self.now.groups groups.now) }
     {
-        self.groups.retain(
-            |group: &Group, sums: &mut Sums| -> bool
-                ensures { (result ≡ not (is_due t group.now)) × (sums.new ≡ sums.old) }
-            { !group.is_due(t) },
-        );
-        self.counted = self.groups.len();
+        for group in groups {
+            self.put_one(group, due)?;
+        }
+        Ok(())
+    }
+
+    /// Appends the group, if records count in it.
+    fn put_one(&self, group: &Group, due: &mut Vec<ClosedAggregate>) -> Result<(), AllocError>
+        ensures { OnOk result
+            (due.new.items ≡ due.old.items ++ closed_at self.now.groups group.now) }
+    {
+        if let Some((place, _, sums)) = self.groups.get_full(group) {
+            if place < self.counted {
+                due.push(ClosedAggregate::new(group.share()?, *sums))?;
+            }
+        }
+        Ok(())
     }
 
     /// Makes ready for all of these to be added, where nothing is reserved.
@@ -248,8 +262,7 @@ impl Running {
         ensures err { OnErr result (self.new ≡ self.old) }
     {
         let place = self.groups.len();
-        self.groups.insert(group.share()?, Sums::none())?;
-        self.earliest = self.earliest.min(group.closes_at());
+        listed::insert(&mut self.groups, &mut self.agenda, group)?;
         Ok(place)
     }
 }

@@ -6,5 +6,5 @@ use Rattle.flow_aggregate.proofs.running.Running.closing.Goals as goal
 pub returns : goal.returns
 returns c counted stands =
     are_those c.args.t counted c.sort_unstable_by.new.self.items
-    (are_closed c.args.t c.args.self.now.groups c.in_ok-closed.closed.items c.sort_unstable_by.new.self.items counted c.in_ok-closed.ensures.unique c.in_ok-closed.ensures.items
+    (are_closed c.args.t c.args.self.now.groups c.in_ok-closed.closed.items c.sort_unstable_by.new.self.items counted c.in_ok-closed.ensures
     c.sort_unstable_by.ensures.permutation (ascends _ c.sort_unstable_by.ensures.sorted (λ a r q k. search rules)) stands)
