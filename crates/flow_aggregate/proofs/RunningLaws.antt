@@ -1,5 +1,5 @@
 -- The records of a group after more were counted, and what groups stand for after others were closed.
-use Rattle.std.proofs.Common.{◌≡◌, ℕ, Bool, true, false, cond, not, List, [], ◌∷◌, ◌++◌, filter, None, refl, sym, ap, ◌∙◌, append-nil}
+use Rattle.std.proofs.Common.{◌≡◌, ℕ, Bool, true, false, cond, not, List, [], ◌∷◌, ◌++◌, None, refl, sym, ap, ◌∙◌, append-nil}
 use Rattle.std.proofs.lemmas.List.Elements.{filter-append}
 use Rattle.flow_aggregate.specs.Groups.{Group, Sample, group_of}
 use Rattle.flow_aggregate.specs.GroupOrder.{same_group, same_group-is}
@@ -44,3 +44,7 @@ stays t es fs cs sums stands g = sums g ∙ by (is_due t g) (stands g) ∙ ap su
   by : (due : Bool) → sums_at es g ≡ sums_over (of_group g cs) → cond due None (sums_at es g) ≡ sums_over (cond due [] (of_group g cs))
   by true is = refl
   by false is = is
+
+-- where there are none, none stay
+pub none_stay : (t : ℕ) (cs : List Sample) → SumsStand [] cs → SumsStand [] (staying t cs)
+none_stay t cs stands = stays t [] [] cs (λ g. same_both (is_due t g) None) stands

@@ -10,7 +10,7 @@ use Rattle.flow_aggregate.specs.declared.timing.Timing.TheVariants.{Placed}
 use Rattle.flow_aggregate.specs.declared.sums.Sums.{Sums}
 use Rattle.flow_aggregate.specs.declared.closed.ClosedAggregate.{ClosedAggregate}
 use Rattle.flow_aggregate.specs.Placing.{timing_of, closes_at}
-use Rattle.flow_aggregate.specs.Sums.{no_sums, totals}
+use Rattle.flow_aggregate.specs.Sums.{totals}
 use Rattle.flow_aggregate.specs.Groups.{Group, Sample, group_of}
 use Rattle.flow_aggregate.specs.GroupOrder.{same_group, group_cmp}
 

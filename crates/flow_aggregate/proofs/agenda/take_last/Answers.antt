@@ -1,4 +1,4 @@
-use Rattle.std.proofs.Common.{List, Some, slice_get, sym, ap, ◌∙◌, false}
+use Rattle.std.proofs.Common.{List, slice_get, sym, ap, ◌∙◌}
 use Rattle.std.specs.List.{list_any}
 use Rattle.flow_aggregate.specs.Groups.{Group}
 use Rattle.flow_aggregate.specs.GroupOrder.{same_group}

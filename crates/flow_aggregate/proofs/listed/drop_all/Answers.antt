@@ -1,4 +1,4 @@
-use Rattle.std.proofs.Common.{rules, arith}
+use Rattle.std.proofs.Common.{arith}
 use Rattle.flow_aggregate.proofs.AgendaLaws.{one_dropped}
 use Rattle.flow_aggregate.proofs.listed.drop_all.Goals as goal
 

@@ -1,4 +1,4 @@
-use Rattle.std.proofs.Common.{sym, arith}
+use Rattle.std.proofs.Common.{sym}
 use Rattle.flow_aggregate.proofs.DueLaws.{put_counted, put_none, place_ready, none_at}
 use Rattle.flow_aggregate.proofs.running.Running.put_one.Goals as goal
 
