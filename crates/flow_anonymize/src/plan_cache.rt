@@ -24,7 +24,7 @@ pub(crate) struct PlanCache {
     slots: Vec<Slot>,
     output: Output,
     /// The place of the plan by which the run is written that is open, if that plan is still kept.
-    open: Option<usize>,
+    open_place: Option<usize>,
 }
 
 impl Model for PlanCache {
@@ -34,7 +34,7 @@ impl Model for PlanCache {
 
     ghost view = { λ s. record { slots = s.slots.items; given = s.output.given } };
 
-    ghost invariant = { λ s. IsOpen s.slots.items s.output.writing s.open };
+    ghost invariant = { λ s. IsOpen s.slots.items s.output.writing s.open_place };
 }
 
 impl PlanCache {
@@ -47,7 +47,7 @@ impl PlanCache {
         PlanCache {
             slots: Vec::new(alloc),
             output: Output::new(alloc),
-            open: None,
+            open_place: None,
         }
     }
 
@@ -56,7 +56,7 @@ impl PlanCache {
         ensures { self.new ≡ record { slots = []; given = self.old.given } }
     {
         self.slots.clear();
-        self.open = None;
+        self.open_place = None;
     }
 
     /// The place of the plan for records whose addresses have these classes.
@@ -82,7 +82,7 @@ impl PlanCache {
             return Ok(count);
         }
         let place = (slot.classes.sources ^ slot.classes.destinations) as usize % MOST_PLANS;
-        self.open = None;
+        self.open_place = None;
         self.slots[place] = slot;
         Ok(place)
     }
@@ -107,13 +107,13 @@ impl PlanCache {
         ensures decision { (slot : Slot) → slice_get self.old.slots place ≡ Some slot
             → IfOk result (λ d. d ≡ decision_of (planned slot.plan flow_record.now.values)) }
     {
-        let is_open = self.open == Some(place);
-        let open = self.open.take();
+        let is_open = self.open_place == Some(place);
+        let open_before = self.open_place.take();
         let plan = &self.slots[place].plan;
         pass(plan, is_open, flow_record, &mut self.output)?;
-        self.open = match plan.template() {
+        self.open_place = match plan.template() {
             Some(_) => Some(place),
-            None => open,
+            None => open_before,
         };
         plan.decision()
     }
@@ -127,7 +127,7 @@ impl PlanCache {
             (self.new ≡ record { slots = self.old.slots; given = self.old.given ++ kept ∷ [] }) }
         ensures slots { self.new.slots ≡ self.old.slots }
     {
-        self.open = None;
+        self.open_place = None;
         self.output.push(kept)
     }
 
@@ -140,7 +140,7 @@ impl PlanCache {
         ensures taken { OnOk result (self.new ≡ record { slots = self.old.slots; given = [] }) }
         ensures slots { self.new.slots ≡ self.old.slots }
     {
-        self.open = None;
+        self.open_place = None;
         self.output.take_records()
     }
 
@@ -148,7 +148,7 @@ impl PlanCache {
     pub(crate) fn drop_records(&mut self)
         ensures { self.new ≡ record { slots = self.old.slots; given = [] } }
     {
-        self.open = None;
+        self.open_place = None;
         self.output.clear();
     }
 }

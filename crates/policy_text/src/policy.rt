@@ -76,7 +76,7 @@ impl Policy {
     /// A policy is read, and printed again. A text that is no policy is refused, and the fault says why:
     ///
     /// ```rust
-    /// use policy_text::{FaultKind, Policy, Fault};
+    /// use policy_text::{Fault, FaultKind, Policy};
     ///
     /// let text = "policy 1\n\
     ///     rule for acme in * from 192.0.2.0/24 to * pass\n\

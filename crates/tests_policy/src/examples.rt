@@ -8,7 +8,7 @@ use std::test::Fail;
 fn policy_of_a_text(rt: HostRuntime) -> Result<(), Fail> {
     let alloc = rt.alloc();
     // Example of policy_text::Policy::parse.
-    use policy_text::{FaultKind, Policy, Fault};
+    use policy_text::{Fault, FaultKind, Policy};
 
     let text = "policy 1\n\
         rule for acme in * from 192.0.2.0/24 to * pass\n\

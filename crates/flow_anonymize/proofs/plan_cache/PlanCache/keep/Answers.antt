@@ -6,7 +6,7 @@ use Rattle.flow_anonymize.proofs.plan_cache.PlanCache.keep.Goals as goal
 
 pub invariant_of-self-then-count-lt-MOST_PLANS : goal.invariant_of-self-then-count-lt-MOST_PLANS
 invariant_of-self-then-count-lt-MOST_PLANS c =
-    subst (λ (slots : List Slot). IsOpen slots c.self.inside.output.writing c.self.inside.open) (sym c.in_ok-push.ensures.items) (open_push c.self.inside.slots.items c.args.slot c.self.inside.output.writing c.self.inside.open c.self.invariant)
+    subst (λ (slots : List Slot). IsOpen slots c.self.inside.output.writing c.self.inside.open_place) (sym c.in_ok-push.ensures.items) (open_push c.self.inside.slots.items c.args.slot c.self.inside.output.writing c.self.inside.open_place c.self.invariant)
 
 pub returns-then-count-lt-MOST_PLANS-clause-put : goal.returns-then-count-lt-MOST_PLANS-clause-put
 returns-then-count-lt-MOST_PLANS-clause-put c =
