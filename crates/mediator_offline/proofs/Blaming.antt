@@ -26,7 +26,7 @@ lines_only e x had w audit_had a is cause fails same = rw is (only x cause fails
     only _ c f = absurd c
 
 -- of a delivery, the writer alone
-pub delivery_only : (e x : Fault) (d : OfflineRun) (held holds : Option (List ℕ)) (had w audit_had : Bool) → e ≡ x → FailsDelivery x d held holds w → w ≡ writer_after x had → FailsOnly e had audit_had false w audit_had
+pub delivery_only : {Q : Type 0} (e x : Fault) (d : OfflineRun Q) (held holds : Option (List ℕ)) (had w audit_had : Bool) → e ≡ x → FailsDelivery x d held holds w → w ≡ writer_after x had → FailsOnly e had audit_had false w audit_had
 delivery_only e x d held holds had w audit_had is delivery fails = rw is (only x delivery.stops fails)
   where
     only : (y : Fault) → StopsDelivery y d held holds w delivery.messages → w ≡ writer_after y had → FailsOnly y had audit_had false w audit_had

@@ -21,19 +21,19 @@ use Rattle.mediator_offline.proofs.DueLaws.{due_found}
 -- ---- messages in a row
 
 -- these messages of a list were handled, and the rest is left
-pub record IsHandling (old d : OfflineRun) (all rest : List (List ℕ)) (before after : Outputs) : Type 0 where
+pub record IsHandling {Q : Type 0} (old d : OfflineRun Q) (all rest : List (List ℕ)) (before after : Outputs) : Type 0 where
   pub done : List (List ℕ)
   pub parts : all ≡ done ++ rest
   pub handled : HandlesAll old d done before after
 
-pub none_handled : (d : OfflineRun) (all rest : List (List ℕ)) (before : Outputs) → rest ≡ all → IsHandling d d all rest before before
+pub none_handled : {Q : Type 0} (d : OfflineRun Q) (all rest : List (List ℕ)) (before : Outputs) → rest ≡ all → IsHandling d d all rest before before
 none_handled d all rest before is = record {
   done = [];
   parts = sym is;
   handled = record { running = λ job messages first r. subst (λ ms. IsRunning d job ms first before) (sym (append-nil messages)) r };
 }
 
-pub one_handled : (old d e : OfflineRun) (all more rest : List (List ℕ)) (m : List ℕ) (before mid after : Outputs) → more ≡ m ∷ rest
+pub one_handled : {Q : Type 0} (old d e : OfflineRun Q) (all more rest : List (List ℕ)) (m : List ℕ) (before mid after : Outputs) → more ≡ m ∷ rest
     → IsHandling old d all more before mid → HandlesOn d e m mid after → IsHandling old e all rest before after
 one_handled old d e all more rest m before mid after is so next = record {
   done = so.done ++ m ∷ [];
@@ -45,20 +45,20 @@ one_handled old d e all more rest m before mid after is so next = record {
   };
 }
 
-pub runs_on : (old d : OfflineRun) (more : List (List ℕ)) (before after : Outputs) → RunsSomewhere old before → HandlesAll old d more before after → RunsSomewhere d after
+pub runs_on : {Q : Type 0} (old d : OfflineRun Q) (more : List (List ℕ)) (before after : Outputs) → RunsSomewhere old before → HandlesAll old d more before after → RunsSomewhere d after
 runs_on old d more before after r so = record { job = r.job; messages = r.messages ++ more; before = r.before; running = so.running r.job r.messages r.before r.running }
 
 -- what was written for a run means what its messages disclose
-means_of : (d : OfflineRun) (job : OfflineJob) (messages : List (List ℕ)) (before after : Outputs) → IsRunning d job messages before after → Means (due job messages) (disclosed_by job messages)
+means_of : {Q : Type 0} (d : OfflineRun Q) (job : OfflineJob) (messages : List (List ℕ)) (before after : Outputs) → IsRunning d job messages before after → Means (due job messages) (disclosed_by job messages)
 means_of d job messages before after r =
     subst (Means (due job messages)) (ap records_in (take_all (end_of (history_of job messages)) (parts (disclosed_by job messages)) (omega arith)) ∙ parts_bring (disclosed_by job messages))
     (handed_means (due job messages) (disclosed_by job messages) (end_of (history_of job messages)) r.handed (streamable_of (history_of job messages) r.small))
 
 -- so its messages were filtered
-filters_of : (d : OfflineRun) (job : OfflineJob) (messages : List (List ℕ)) (before after : Outputs) → IsRunning d job messages before after → Filters job messages (due job messages)
+filters_of : {Q : Type 0} (d : OfflineRun Q) (job : OfflineJob) (messages : List (List ℕ)) (before after : Outputs) → IsRunning d job messages before after → Filters job messages (due job messages)
 filters_of d job messages before after r = record { accepted = r.accepted; due = due_found job messages; means = means_of d job messages before after r }
 
-pub one_stops : (e : Fault) (old d : OfflineRun) (all more rest : List (List ℕ)) (m : List ℕ) (before mid after : Outputs) → more ≡ m ∷ rest
+pub one_stops : {Q : Type 0} (e : Fault) (old d : OfflineRun Q) (all more rest : List (List ℕ)) (m : List ℕ) (before mid after : Outputs) → more ≡ m ∷ rest
     → IsHandling old d all more before mid → StopsOn e d m mid after → StopsAmong e old all before after
 one_stops e old d all more rest m before mid after is so stop = record {
   done = so.done;
@@ -71,7 +71,7 @@ one_stops e old d all more rest m before mid after is so stop = record {
 }
 
 -- all messages of a run that goes on
-pub filtered_of : (d : OfflineRun) (job : OfflineJob) (octets : List ℕ) (messages : List (List ℕ)) (fault : Option DecodeError) (pending : List ℕ) (before after : Outputs) → IsRunning d job messages before after
+pub filtered_of : {Q : Type 0} (d : OfflineRun Q) (job : OfflineJob) (octets : List ℕ) (messages : List (List ℕ)) (fault : Option DecodeError) (pending : List ℕ) (before after : Outputs) → IsRunning d job messages before after
     → IsFramed octets messages fault pending → IsFiltered job octets messages fault pending before after
 filtered_of d job octets messages fault pending before after r framed = record {
   job_accepted = r.job_accepted;

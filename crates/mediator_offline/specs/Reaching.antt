@@ -12,12 +12,12 @@ use Rattle.mediator_offline.specs.Filtering.{AreReadBut, Filters, StopsAtMessage
 use Rattle.mediator_offline.specs.Running.{IsRunning}
 
 -- messages in a row were handled, whatever was before them
-pub record HandlesAll (old new : OfflineRun) (more : List (List ℕ)) (before after : Outputs) : Type 0 where
+pub record HandlesAll {Q : Type 0} (old new : OfflineRun Q) (more : List (List ℕ)) (before after : Outputs) : Type 0 where
   pub running : (job : OfflineJob) (messages : List (List ℕ)) (first : Outputs) → IsRunning old job messages first before
       → IsRunning new job (messages ++ more) first after
 
 -- the run stops at one of them, and filtered those before it
-pub record StopsAmong (e : Fault) (old : OfflineRun) (more : List (List ℕ)) (before after : Outputs) : Type 0 where
+pub record StopsAmong {Q : Type 0} (e : Fault) (old : OfflineRun Q) (more : List (List ℕ)) (before after : Outputs) : Type 0 where
   pub done : List (List ℕ)
   pub message : List ℕ
   pub later : List (List ℕ)
@@ -27,7 +27,7 @@ pub record StopsAmong (e : Fault) (old : OfflineRun) (more : List (List ℕ)) (b
       × StopsAtMessage e job (messages ++ done) (due job (messages ++ done)) message first after
 
 -- a run and an intake after what was read
-pub record IsAfter (d : OfflineRun) (i : IntakeState) (job : OfflineJob) (before after : Ports) : Type 0 where
+pub record IsAfter {Q : Type 0} (d : OfflineRun Q) (i : IntakeState) (job : OfflineJob) (before after : Ports) : Type 0 where
   pub octets : List ℕ
   pub messages : List (List ℕ)
   pub taken : Consumes before.left after.left octets
@@ -37,7 +37,7 @@ pub record IsAfter (d : OfflineRun) (i : IntakeState) (job : OfflineJob) (before
   pub few : length octets + 65536 * i.turns ≤ 65536 * job.turns
 
 -- all was read, and all messages were handled
-pub record ReachesEnd (d : OfflineRun) (job : OfflineJob) (before after : Ports) : Type 0 where
+pub record ReachesEnd {Q : Type 0} (d : OfflineRun Q) (job : OfflineJob) (before after : Ports) : Type 0 where
   pub octets : List ℕ
   pub messages : List (List ℕ)
   pub taken : Consumes before.left after.left octets

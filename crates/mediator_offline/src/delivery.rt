@@ -9,11 +9,12 @@ ghost use Rattle.mediator_offline.specs.Pulling.{IsDeliveringRun, PullsMessage, 
 use crate::job::Fault;
 use crate::run::{OfflineRun, SUBSCRIPTION};
 use bytes::Bytes;
+use disclosure_audit::AuditQueue;
 use mediator_state::Fault as MediatorFault;
 use octet_io::{Sink, write_all};
 use std::alloc::AllocError;
 
-impl<'a> OfflineRun<'a> {
+impl<'a, Q: AuditQueue + Drop> OfflineRun<'a, Q> {
     /// Pulls the messages of what waits for the subscriber, until nothing waits, and writes them to `writer` in one piece.
     ///
     /// # Errors

@@ -8,12 +8,13 @@ ghost use Rattle.mediator_offline.specs.Reaching.{HandlesAll, StopsAmong};
 use crate::job::{Fault, OfflineJob, OfflineReport};
 use crate::run::{OfflineRun, SUBSCRIPTION};
 use bytes::Bytes;
+use disclosure_audit::{AuditQueue, CountedQueue, KeptQueue};
 use ipfix_reader::Intake;
 use mediator_state::Fault as MediatorFault;
 use octet_io::{Sink, Source};
 use std::alloc::Global;
 
-impl<'a> OfflineRun<'a> {
+impl<'a, Q: AuditQueue + Drop> OfflineRun<'a, Q> {
     /// Handles messages, one after another, with `writer` for the subscriber's messages and `audit_writer` for the audit.
     ///
     /// # Errors
@@ -27,6 +28,7 @@ impl<'a> OfflineRun<'a> {
         requires running { RunsSomewhere self.old
             (holding (W.contents writer.old) (A.contents audit_writer.old)
             (W.has_failed writer.old) (A.has_failed audit_writer.old)) }
+        requires asked { self.old.job.audit ≡ Q.KEEPS }
         // Each message was handled.
         ensures ok { OnOk result (HandlesAll self.old self.new messages.items
             (holding (W.contents writer.old) (A.contents audit_writer.old)
@@ -59,7 +61,7 @@ ghost use Rattle.mediator_offline.specs.Running.{IsRunOpened};
 ghost use Rattle.mediator_offline.specs.Reaching.{ReachesEnd};
 ghost use Rattle.mediator_offline.specs.Filtering.{StopsSomewhere};
 
-impl<'a> OfflineRun<'a> {
+impl<'a, Q: AuditQueue + Drop> OfflineRun<'a, Q> {
     /// Reads the stream to its end by `intake`, and handles its messages.
     ///
     /// # Errors
@@ -75,6 +77,7 @@ impl<'a> OfflineRun<'a> {
         requires opened { IsRunOpened self.old self.old.job }
         requires intake { intake.old ≡ nothing_read self.old.job.turns }
         requires reader { R.has_failed reader.old ≡ false }
+        requires asked { self.old.job.audit ≡ Q.KEEPS }
         // The stream was read to its end, and each message was handled.
         ensures ok { OnOk result (ReachesEnd self.new self.old.job
             (with_left (R.remaining reader.old) (R.has_failed reader.old)
@@ -115,7 +118,7 @@ ghost use Rattle.event_journal.specs.declared.entry.Entry.{Entry};
 ghost use Rattle.mediator_history.specs.Disclosed.{disclosed};
 ghost use Rattle.mediator_offline.specs.Runs.{IsServing, RunStands};
 
-impl<'a> OfflineRun<'a> {
+impl<'a, Q: AuditQueue + Drop> OfflineRun<'a, Q> {
     /// How much was read, accepted and written.
     fn report(&self) -> OfflineReport
         requires serving { IsServing self.now }
@@ -222,7 +225,78 @@ pub fn offline<R: Source, W: Sink, A: Sink>(
     ensures fails { IfErr result (λ e. FailsOnly e false false
         (R.has_failed reader.new) (W.has_failed writer.new) (A.has_failed audit_writer.new)) }
 {
-    let mut run = OfflineRun::open(alloc, *job)?;
+    // Where nobody asks for the audit, its entries are counted, and none is made.
+    if job.audit {
+        return filter(
+            alloc,
+            job,
+            KeptQueue::new(alloc),
+            reader,
+            writer,
+            audit_writer,
+        );
+    }
+    filter(
+        alloc,
+        job,
+        CountedQueue::new(alloc),
+        reader,
+        writer,
+        audit_writer,
+    )
+}
+
+/// Filters one stream for one subscriber, as [`offline`] does. What the audit names waits in `queue`, where nothing waits
+/// yet, and which keeps entries exactly where the job asks for them.
+///
+/// # Errors
+/// Those of [`offline`].
+fn filter<Q: AuditQueue + Drop, R: Source, W: Sink, A: Sink>(
+    alloc: Global,
+    job: &OfflineJob<'_>,
+    queue: Q,
+    reader: &mut R,
+    writer: &mut W,
+    audit_writer: &mut A,
+) -> Result<OfflineReport, Fault>
+    requires none { (Q.seen queue).count ≡ 0 }
+    requires asked { job.entry.now.audit ≡ Q.KEEPS }
+    requires reader { R.has_failed reader.old ≡ false }
+    requires writer { W.has_failed writer.old ≡ false }
+    requires audit { A.has_failed audit_writer.old ≡ false }
+    // All was read and accepted, what is due was written, and it means what is disclosed.
+    ensures filters { IfOk result (λ report. FiltersAll job.entry.now report
+        (sound_ports (R.remaining reader.old) (W.contents writer.old) (A.contents audit_writer.old))
+        (record {
+          left = R.remaining reader.new;
+          reader_failed = R.has_failed reader.new;
+          outputs = record {
+            written = W.contents writer.new;
+            audited = A.contents audit_writer.new;
+            writer_failed = W.has_failed writer.new;
+            audit_failed = A.has_failed audit_writer.new;
+          };
+        })) }
+    // Where it stopped, by what cause, and what was written by then.
+    ensures stops { IfErr result (λ e. FailsToFilter e job.entry.now
+        (sound_ports (R.remaining reader.old) (W.contents writer.old) (A.contents audit_writer.old))
+        (record {
+          left = R.remaining reader.new;
+          reader_failed = R.has_failed reader.new;
+          outputs = record {
+            written = W.contents writer.new;
+            audited = A.contents audit_writer.new;
+            writer_failed = W.has_failed writer.new;
+            audit_failed = A.has_failed audit_writer.new;
+          };
+        })) }
+    // No device has failed, but the one that the fault names.
+    ensures sound { OnOk result ((R.has_failed reader.new ≡ false)
+        × (W.has_failed writer.new ≡ false) × (A.has_failed audit_writer.new ≡ false)) }
+    ensures fails { IfErr result (λ e. FailsOnly e false false
+        (R.has_failed reader.new) (W.has_failed writer.new) (A.has_failed audit_writer.new)) }
+{
+    let mut run = OfflineRun::open(alloc, *job, queue)?;
     let Ok(mut intake) = Intake::new(alloc, job.turns) else {
         return Err(Fault::Mediator(MediatorFault::OutOfMemory));
     };

@@ -7,9 +7,10 @@ ghost use Rattle.mediator_offline.specs.Running.{RunsSomewhere, HandlesOn, Stops
 use crate::job::Fault;
 use crate::run::OfflineRun;
 use bytes::Bytes;
+use disclosure_audit::AuditQueue;
 use octet_io::Sink;
 
-impl<'a> OfflineRun<'a> {
+impl<'a, Q: AuditQueue + Drop> OfflineRun<'a, Q> {
     /// Accepts `message`, writes what it gives the subscriber to `writer`, and then what the audit says of it to `audit_writer`.
     ///
     /// # Errors
@@ -23,6 +24,7 @@ impl<'a> OfflineRun<'a> {
         requires running { RunsSomewhere self.old
             (holding (W.contents writer.old) (A.contents audit_writer.old)
             (W.has_failed writer.old) (A.has_failed audit_writer.old)) }
+        requires asked { self.old.job.audit ≡ Q.KEEPS }
         // The message was accepted, and what is due for it was written.
         ensures ok { OnOk result (HandlesOn self.old self.new message
             (holding (W.contents writer.old) (A.contents audit_writer.old)

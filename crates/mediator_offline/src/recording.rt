@@ -7,7 +7,7 @@ ghost use Rattle.mediator_offline.specs.Recording.{StopsLines};
 
 use crate::job::Fault;
 use crate::run::OfflineRun;
-use disclosure_audit::{AuditEntry, put_line};
+use disclosure_audit::{AuditEntry, AuditQueue, put_line};
 use mediator_state::Fault as MediatorFault;
 use octet_io::{Sink, write_all};
 use std::alloc::{AllocError, Global};
@@ -55,20 +55,22 @@ fn lines(alloc: Global, entries: &[AuditEntry]) -> Result<String, AllocError>
     Ok(text)
 }
 
-ghost use Rattle.std.specs.Prelude.{◌<◌, ◌^◌, length};
+ghost use Rattle.std.specs.Prelude.{◌<◌, ◌^◌};
 ghost use Rattle.mediator_offline.specs.Lines.{lines_for};
-ghost use Rattle.mediator_offline.specs.Runs.{RunHasHistory, audit_waiting};
+ghost use Rattle.mediator_offline.specs.Runs.{RunHasHistory, KeepsAsked, audit_count, audit_waiting};
 ghost use Rattle.mediator_offline.specs.Recording.{Records};
 
-impl<'a> OfflineRun<'a> {
+impl<'a, Q: AuditQueue + Drop> OfflineRun<'a, Q> {
     /// Drains the audit, and writes its lines to `writer` where the job asks for them.
     ///
     /// # Errors
     /// The writer failed, or memory ran out: a front of the lines was written.
     pub(crate) fn record<A: Sink>(&mut self, writer: &mut A) -> Result<(), Fault>
         requires known { RunHasHistory self.old }
-        requires few { length (audit_waiting self.old) < 2 ^ 32 }
-        // The lines were written, where they are asked for, and the audit is empty.
+        requires few { audit_count self.old < 2 ^ 32 }
+        requires asked { self.old.job.audit ≡ Q.KEEPS }
+        // Entries are kept exactly where they are asked for. Then their lines were written, and the audit is empty.
+        ensures kept { KeepsAsked self.old }
         ensures written { OnOk result (Appends (A.contents writer.old) (A.contents writer.new)
             (lines_for self.old.job.audit (audit_waiting self.old))) }
         ensures drained { OnOk result (Records self.old self.new) }

@@ -2,5 +2,4 @@ pub mod SharingLaws
 pub mod KeyLaws
 pub mod JudgeLaws
 pub mod TermsLaws
-pub mod NotingLaws
 mod TotalLaws

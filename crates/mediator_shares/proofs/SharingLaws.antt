@@ -19,8 +19,8 @@ use Rattle.mediator_history.specs.Auditing.{kept_back}
 use Rattle.mediator_shares.specs.InForce.{InForce}
 use Rattle.mediator_tables.specs.declared.served.Served.{Served}
 use Rattle.mediator_tables.specs.declared.tally.Tally.{Tally}
-use Rattle.mediator_shares.specs.Noting.{KeptNotes, kept_of, and_more}
-use Rattle.mediator_shares.proofs.NotingLaws.{none_more, more_more, kept_more}
+use Rattle.disclosure_audit.specs.Noting.{KeptNotes, kept_of, and_more}
+use Rattle.disclosure_audit.proofs.NotingLaws.{none_more, more_more, kept_more}
 use Rattle.mediator_tables.specs.Adding.{tallied}
 use Rattle.mediator_shares.specs.Sharing.{outcome_by, given_by, added_by, kept_by, kept_back_by, counts_by, blank, share_by, shares_of, tallies_of, note_of, notes_on, noted_of_each, notes_of}
 

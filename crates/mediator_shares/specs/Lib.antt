@@ -5,11 +5,11 @@ pub use Rattle.mediator_history.specs.Auditing
 pub use Rattle.flow_aggregate.specs.Counts
 pub use Rattle.mediator_tables.specs.Adding
 pub use Rattle.mediator_history.specs.Counting
+pub use Rattle.disclosure_audit.specs.Noting
 pub use Rattle.rule_table.specs.Cuts
 pub use Rattle.flow_anonymize.specs.Plans
 pub use Rattle.flow_anonymize.specs.Classes
 pub mod InForce
-pub mod Noting
 pub mod Sharing
 pub mod Judges
 pub mod Terms

@@ -10,12 +10,11 @@ ghost use Rattle.mediator_shares.specs.Judges.{JudgeFor, JudgesAny};
 ghost use Rattle.mediator_tables.specs.SubscriptionTable.{shown};
 ghost use Rattle.mediator_tables.specs.Adding.{tallied};
 ghost use Rattle.mediator_shares.specs.Sharing.{blank, counts_by, kept_back_by, shares_of, tallies_of, notes_of, note_of, noted_of_each};
-ghost use Rattle.mediator_shares.specs.Noting.{kept_of, and_more};
+ghost use Rattle.disclosure_audit.specs.Noting.{kept_of, and_more};
 
 use crate::in_force::InForce;
 use crate::judges::Judges;
-use crate::notes::Notes;
-use disclosure_audit::{Note, Reason, RemovedFields, What};
+use disclosure_audit::{Note, Notes, Reason, RemovedFields, What};
 use flow_aggregate::{Count, Timing};
 use flow_anonymize::Disclosure;
 use ipfix_records::{Records, Run};

@@ -1,4 +1,5 @@
-use Rattle.std.proofs.Common.{refl, sym, subst}
+use Rattle.std.proofs.Common.{refl, sym, ap, ◌∙◌, subst}
+use Rattle.mediator_offline.specs.declared.job.OfflineJob.{OfflineJob}
 use Rattle.mediator_offline.specs.Ports.{holding}
 use Rattle.mediator_offline.specs.Offline.{due}
 use Rattle.mediator_offline.specs.Steps.{TakesMessage}
@@ -29,7 +30,7 @@ returns-in_err-record-clause-err g c =
       stops = λ job messages first r.
           stops_cut_recording e c.args.self.now c.receive.new.self job messages c.args.message first before (g.A.Sink.contents c.record.new.writer) (g.W.Sink.has_failed c.args.writer.now) (g.A.Sink.has_failed c.record.new.writer) r
           (was_cut_at c.args.self.now c.receive.new.self job messages c.args.message r (subst (λ b. TakesMessage c.args.self.now c.args.message b c.receive.new.self) c.if-branch.true c.in_ok-receive.ensures.ok) c.in_ok-receive.ensures.job)
-          (subst (λ x. StopsLines x (g.A.Sink.has_failed c.record.new.writer)) (sym is) c.in_err-record.ensures.cause) c.in_err-record.ensures.err;
+          (subst (λ x. StopsLines x (g.A.Sink.has_failed c.record.new.writer)) (sym is) c.in_err-record.ensures.cause) c.record.ensures.kept c.in_err-record.ensures.err;
     })
 
 pub returns-then-branch-clause-err : goal.returns-then-branch-clause-err
@@ -39,7 +40,7 @@ returns-then-branch-clause-err g c =
       stops = λ job messages first r.
           stops_cut c.args.self.now c.receive.new.self job messages c.args.message first before (g.A.Sink.contents c.record.new.writer) (g.W.Sink.has_failed c.args.writer.now) (g.A.Sink.has_failed c.record.new.writer) r
           (was_cut_at c.args.self.now c.receive.new.self job messages c.args.message r (subst (λ b. TakesMessage c.args.self.now c.args.message b c.receive.new.self) c.if-branch.true c.in_ok-receive.ensures.ok) c.in_ok-receive.ensures.job)
-          c.in_ok-record.ensures.written;
+          c.record.ensures.kept c.in_ok-record.ensures.written;
     }
 
 pub returns-in_err-deliver-clause-err : goal.returns-in_err-deliver-clause-err
@@ -65,7 +66,7 @@ returns-in_err-record-2-clause-err g c =
       stops = λ job messages first r.
           stops_recording e c.args.self.now c.deliver.new.self job messages c.args.message first before after r
           (delivered c.args.self.now c.receive.new.self c.deliver.new.self job messages c.args.message (g.W.Sink.contents c.deliver.new.writer) r (record { receives = (subst (λ b. TakesMessage c.args.self.now c.args.message b c.receive.new.self) c.if-branch.false c.in_ok-receive.ensures.ok); job = c.in_ok-receive.ensures.job; sent = c.in_ok-receive.ensures.sent; below = c.in_ok-deliver.ensures.below; now_below = c.in_ok-deliver.ensures.now_below; delivers = c.in_ok-deliver.ensures.ok }))
-          (subst (λ x. StopsLines x (g.A.Sink.has_failed c.record-2.new.writer)) (sym is) c.in_err-record-2.ensures.cause) c.in_err-record-2.ensures.err;
+          (subst (λ x. StopsLines x (g.A.Sink.has_failed c.record-2.new.writer)) (sym is) c.in_err-record-2.ensures.cause) c.record-2.ensures.kept c.in_err-record-2.ensures.err;
     })
 
 pub returns-clause-ok : goal.returns-clause-ok
@@ -73,7 +74,7 @@ returns-clause-ok g c = record {
   running = λ job messages first r.
       handled c.args.self.now c.deliver.new.self c.record-2.new.self job messages c.args.message r
       (delivered c.args.self.now c.receive.new.self c.deliver.new.self job messages c.args.message (g.W.Sink.contents c.deliver.new.writer) r (record { receives = (subst (λ b. TakesMessage c.args.self.now c.args.message b c.receive.new.self) c.if-branch.false c.in_ok-receive.ensures.ok); job = c.in_ok-receive.ensures.job; sent = c.in_ok-receive.ensures.sent; below = c.in_ok-deliver.ensures.below; now_below = c.in_ok-deliver.ensures.now_below; delivers = c.in_ok-deliver.ensures.ok }))
-      c.in_ok-record-2.ensures.drained c.in_ok-record-2.ensures.written;
+      c.in_ok-record-2.ensures.drained c.record-2.ensures.kept c.in_ok-record-2.ensures.written;
 }
 
 pub returns-in_err-receive-clause-fails : goal.returns-in_err-receive-clause-fails
@@ -100,3 +101,9 @@ returns-in_err-record-2-clause-fails g c =
 
 pub record-requires-2-clause-known : goal.record-requires-2-clause-known
 record-requires-2-clause-known g c = delivered_history c.args.self.now c.receive.new.self c.deliver.new.self c.args.message (g.W.Sink.contents c.args.writer.now) (g.W.Sink.contents c.deliver.new.writer) c.requires.running (subst (λ b. TakesMessage c.args.self.now c.args.message b c.receive.new.self) c.if-branch.false c.in_ok-receive.ensures.ok) c.in_ok-deliver.ensures.ok
+
+pub record-requires-clause-asked : goal.record-requires-clause-asked
+record-requires-clause-asked g c = ap (λ (j : OfflineJob). j.audit) c.in_ok-receive.ensures.job ∙ c.requires.asked
+
+pub record-requires-2-clause-asked : goal.record-requires-2-clause-asked
+record-requires-2-clause-asked g c = ap (λ (j : OfflineJob). j.audit) (c.in_ok-deliver.ensures.ok.job ∙ c.in_ok-receive.ensures.job) ∙ c.requires.asked

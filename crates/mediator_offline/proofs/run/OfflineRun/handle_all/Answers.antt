@@ -1,6 +1,7 @@
-use Rattle.std.proofs.Common.{false, refl, sym, ◌∙◌, subst}
+use Rattle.std.proofs.Common.{false, refl, sym, ap, ◌∙◌, subst}
 use Rattle.std.specs.Vec.Iter.{into_iter_items}
 use Rattle.mediator_offline.specs.Ports.{holding}
+use Rattle.mediator_offline.specs.declared.job.OfflineJob.{OfflineJob}
 use Rattle.mediator_offline.specs.Running.{StopsOn}
 use Rattle.mediator_offline.proofs.Blaming.{only_then}
 use Rattle.mediator_offline.proofs.Receiving.{err_gives}
@@ -8,7 +9,9 @@ use Rattle.mediator_offline.proofs.Streams.{runs_on, none_handled, one_handled, 
 use Rattle.mediator_offline.proofs.run.OfflineRun.handle_all.Goals as goal
 
 pub handle-requires : goal.handle-requires
-handle-requires g c = record { running = runs_on c.args.self.now c.messages.self c.messages.invariant.0.done _ _ c.requires.running c.messages.invariant.0.handled }
+handle-requires g c =
+    let running = runs_on c.args.self.now c.messages.self c.messages.invariant.0.done _ _ c.requires.running c.messages.invariant.0.handled in
+    record { running = running; asked = ap (λ (j : OfflineJob). j.audit) (running.running.job_is ∙ sym c.requires.running.running.job_is) ∙ c.requires.asked }
 
 pub returns-in_err-handle-clause-err : goal.returns-in_err-handle-clause-err
 returns-in_err-handle-clause-err g c =

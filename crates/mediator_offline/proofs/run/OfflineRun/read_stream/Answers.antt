@@ -1,6 +1,7 @@
 use Rattle.std.proofs.Common.{false, refl, sym, ap, ◌∙◌, subst, arith}
 use Rattle.std.specs.Prelude.{MatchOption}
 use Rattle.ipfix_reader.specs.Intake.{Ends, Yields, reader_after as intake_reader}
+use Rattle.mediator_offline.specs.declared.job.OfflineJob.{OfflineJob}
 use Rattle.mediator_offline.specs.Failing.{FailsOnly}
 use Rattle.mediator_offline.specs.Ports.{holding, with_left}
 use Rattle.mediator_offline.specs.Filtering.{StopsSomewhere}
@@ -47,7 +48,10 @@ pub returns-in_default-clause-audit_stays : goal.returns-in_default-clause-audit
 returns-in_default-clause-audit_stays g c = c.reads.invariant.3
 
 pub handle_all-requires : goal.handle_all-requires
-handle_all-requires g c = record { running = runs_after c.reads.self c.reads.intake c.args.self.now.job _ _ c.reads.invariant.0 }
+handle_all-requires g c = record {
+  running = runs_after c.reads.self c.reads.intake c.args.self.now.job _ _ c.reads.invariant.0;
+  asked = ap (λ (j : OfflineJob). j.audit) c.reads.invariant.0.running.job_is ∙ c.requires.asked;
+}
 
 pub returns-in_err-handle_all-clause-err : goal.returns-in_err-handle_all-clause-err
 returns-in_err-handle_all-clause-err g c =

@@ -2,7 +2,7 @@
 use Rattle.std.proofs.Common.{◌≡◌, ℕ, zero, suc, ◌+◌, ◌-◌, ◌<◌, ◌≤◌, List, [], ◌∷◌, ◌++◌, length, take, refl, sym, ap, ◌∙◌, arith, append_assoc, append-nil, length-append}
 use Rattle.std.proofs.lemmas.List.{take_all}
 use Rattle.disclosure_audit.specs.declared.entry.Note.{Note}
-use Rattle.mediator_shares.specs.Noting.{KeptNotes, kept_of, and_more}
+use Rattle.disclosure_audit.specs.Noting.{KeptNotes, kept_of, and_more}
 
 abbrev kept_as : ℕ → List Note → ℕ → KeptNotes
 kept_as most notes count = record { notes = notes; count = count; most = most }

@@ -1,12 +1,13 @@
-use Rattle.std.proofs.Common.{false, inl, inr, sym, ◌∙◌, subst}
+use Rattle.std.proofs.Common.{false, inl, inr, sym, ap, ◌∙◌, subst}
 use Rattle.std.proofs.KnownBytes.{Appends-nil, Consumes-nil}
+use Rattle.mediator_offline.specs.declared.job.OfflineJob.{OfflineJob}
 use Rattle.mediator_offline.specs.Ports.{Ports, holding, with_left}
 use Rattle.mediator_offline.specs.Filtering.{FiltersAll, StopsSomewhere, FailsToFilter}
 use Rattle.mediator_offline.specs.Reaching.{ReachesEnd}
 use Rattle.mediator_offline.proofs.Receiving.{err_gives}
 use Rattle.mediator_offline.proofs.Blaming.{only_then}
 use Rattle.mediator_offline.proofs.Ends.{finishes, end_serves, where_unfailed}
-use Rattle.mediator_offline.proofs.engine.offline.Goals as goal
+use Rattle.mediator_offline.proofs.engine.filter.Goals as goal
 
 pub report-requires : goal.report-requires
 report-requires g c = record { serving = end_serves c.read_stream.new.self _ _ _ c.in_ok-read_stream.ensures.ok }
@@ -59,3 +60,6 @@ pub returns-in_err-read_stream-clause-fails : goal.returns-in_err-read_stream-cl
 returns-in_err-read_stream-clause-fails g c =
     err_gives c.from_residual-in_err-read_stream.result c.from_residual-in_err-read_stream.ensures
     (λ e is. only_then e c.in_err-read_stream.field-0.0 false (g.W.Sink.has_failed c.args.writer.now) false (g.A.Sink.has_failed c.args.audit_writer.now) (g.R.Source.has_failed c.read_stream.new.reader) (g.W.Sink.has_failed c.read_stream.new.writer) (g.A.Sink.has_failed c.read_stream.new.audit_writer) is c.requires.writer c.requires.audit c.in_err-read_stream.ensures.fails)
+
+pub read_stream-requires-clause-asked : goal.read_stream-requires-clause-asked
+read_stream-requires-clause-asked g c = ap (λ (j : OfflineJob). j.audit) c.in_ok-run.ensures.ok.job_is ∙ c.requires.asked

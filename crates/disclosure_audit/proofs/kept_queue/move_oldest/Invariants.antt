@@ -1,7 +1,7 @@
 use Rattle.std.proofs.Common.{◌≡◌, ◌+◌, ◌-◌, length, vec_capacity}
 use Rattle.std.specs.VecDeque.{deque_capacity}
 use Rattle.disclosure_audit.proofs.QueueLaws.{IsMoving}
-use Rattle.disclosure_audit.proofs.audit.move_oldest.Given as goal
+use Rattle.disclosure_audit.proofs.kept_queue.move_oldest.Given as goal
 
 abbrev pub invariant-chunks : goal.invariant-chunks
 invariant-chunks l = record {

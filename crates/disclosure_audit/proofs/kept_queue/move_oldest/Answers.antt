@@ -1,6 +1,6 @@
 use Rattle.std.proofs.Common.{◌+◌, [], ◌∷◌, ◌∙◌, arith}
 use Rattle.disclosure_audit.proofs.QueueLaws.{chunk_moved, has_moved}
-use Rattle.disclosure_audit.proofs.audit.move_oldest.Goals as goal
+use Rattle.disclosure_audit.proofs.kept_queue.move_oldest.Goals as goal
 
 pub chunks-preserved-in-Some-move_oldest : goal.chunks-preserved-in-Some-move_oldest
 chunks-preserved-in-Some-move_oldest c = record {

@@ -1,16 +1,17 @@
-//! What the audit is to note of a message: as much of it as an audit may hold, and the number of all.
+//! What an audit is to note of a message: as much of it as is to be kept, and the number of all.
 ghost use Rattle.std.specs.Prelude.{◌≡◌, ◌<◌, ◌^◌, ◌∷◌, [], OnOk};
-ghost use Rattle.mediator_shares.specs.Noting.{kept_of, and_more};
+ghost use Rattle.disclosure_audit.specs.Noting.{kept_of, and_more};
 
-use disclosure_audit::Note;
+use crate::entry::Note;
 use std::alloc::{AllocError, Global};
 use std::marker::Model;
 
 /// How many notes can be counted. No memory holds as many.
 const MOST_COUNTED: u64 = 1 << 62;
 
-/// The notes of a message, in their order. At most as many are kept as an audit may hold, the first ones, and all are
-/// counted. So a message of which the audit has more to note than it has room for takes no more memory than that.
+/// The notes of a message, in their order. At most as many are kept as are wanted, the first ones, and all are counted.
+/// So a message of which the audit has more to note than it has room for takes no more memory than that, and one of
+/// which none is wanted takes none.
 #[derive(Drop)]
 pub struct Notes {
     kept: Vec<Note>,
@@ -20,7 +21,7 @@ pub struct Notes {
 
 impl Model for Notes {
     ghost use Rattle.std.specs.Prelude.{◌<◌, ◌^◌};
-    ghost use Rattle.mediator_shares.specs.Noting.{KeptNotes};
+    ghost use Rattle.disclosure_audit.specs.Noting.{KeptNotes};
 
     ghost Value = { KeptNotes };
 
@@ -31,7 +32,7 @@ impl Model for Notes {
 
 impl Notes {
     /// No note; of those to come at most `most` are kept, in memory from `alloc`.
-    pub(crate) fn new(alloc: Global, most: u64) -> Notes
+    pub fn new(alloc: Global, most: u64) -> Notes
         ensures { result ≡ kept_of most [] }
     {
         Notes {
@@ -73,7 +74,7 @@ impl Notes {
     ///
     /// # Errors
     /// Want of memory.
-    pub(crate) fn reserve(&mut self, more: usize) -> Result<(), AllocError>
+    pub fn reserve(&mut self, more: usize) -> Result<(), AllocError>
         ensures { OnOk result (self.new ≡ self.old) }
     {
         let room = self.most.saturating_sub(self.kept.len() as u64);
@@ -84,7 +85,7 @@ impl Notes {
     ///
     /// # Errors
     /// Want of memory; or there are 2^62 notes, which no memory holds.
-    pub(crate) fn push(&mut self, note: Note) -> Result<(), AllocError>
+    pub fn push(&mut self, note: Note) -> Result<(), AllocError>
         ensures { OnOk result (self.new ≡ and_more self.old (note ∷ [])) }
     {
         if self.count >= MOST_COUNTED {
