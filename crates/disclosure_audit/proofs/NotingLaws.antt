@@ -4,7 +4,7 @@ use Rattle.std.proofs.lemmas.List.{take_all}
 use Rattle.disclosure_audit.specs.declared.entry.Note.{Note}
 use Rattle.disclosure_audit.specs.Noting.{KeptNotes, kept_of, and_more}
 
-abbrev kept_as : ℕ → List Note → ℕ → KeptNotes
+abbrev pub kept_as : ℕ → List Note → ℕ → KeptNotes
 kept_as most notes count = record { notes = notes; count = count; most = most }
 
 kept_same : (most : ℕ) (a b : List Note) (n m : ℕ) → a ≡ b → n ≡ m → kept_as most a n ≡ kept_as most b m
@@ -55,3 +55,9 @@ kept_more most a b =
 -- from none on
 pub kept_from_none : (most : ℕ) (all : List Note) (k l : KeptNotes) → k ≡ kept_of most [] → l ≡ and_more k all → l ≡ kept_of most all
 kept_from_none most all k l start grown = grown ∙ ap (λ n. and_more n all) start ∙ kept_more most [] all
+
+-- where no more are kept, one more is counted
+pub counted_more : (k : KeptNotes) (note : Note) → k.most ≤ length k.notes → and_more k (note ∷ []) ≡ kept_as k.most k.notes (k.count + 1)
+counted_more k note full =
+    let none : k.most - length k.notes ≡ 0 = omega (arith, full) in
+    kept_same k.most (k.notes ++ take (k.most - length k.notes) (note ∷ [])) k.notes (k.count + 1) (k.count + 1) (ap (λ (n : ℕ). k.notes ++ take n (note ∷ [])) none ∙ append-nil k.notes) refl

@@ -5,7 +5,7 @@ use Rattle.std.proofs.lemmas.List.{length-drop, length-map, drop-drop, drop_min,
 use Rattle.disclosure_audit.specs.declared.entry.AuditEntry.{AuditEntry}
 use Rattle.disclosure_audit.specs.declared.entry.Note.{Note}
 use Rattle.disclosure_audit.specs.Noting.{KeptNotes, kept_of}
-use Rattle.disclosure_audit.specs.Queue.{stamp, and_behind, front_of, behind_front, AreThere, Waiting, IsCounted, and_one, and_notes, without_front, AuditStanding, KeptAudit, audit_of, notes_for, most_notes, with_entry, with_notes, without_oldest, StandsIn, TakesEntries, TakesNotes, DrainsOldest}
+use Rattle.disclosure_audit.specs.Queue.{stamp, and_behind, oldest_in, behind_oldest, AreThere, Waiting, KeepsOrCounts, and_one, and_notes, waiting_without, AuditStanding, KeptAudit, audit_over, notes_for, most_notes, with_entry, with_notes, without_oldest, StandsIn, TakesEntries, TakesNotes, DrainsOldest}
 
 -- ---- before anything
 
@@ -13,7 +13,7 @@ nothing : (entries : List AuditEntry) → length entries ≡ 0 → entries ≡ [
 nothing [] none = refl
 nothing (e ∷ entries) none = absurd (omega (arith, none))
 
-pub starts : (keeps : Bool) (w : Waiting) (limit : ℕ) → IsCounted keeps w → w.count ≡ 0 → StandsIn (audit_of w limit 0).standing []
+pub starts : (keeps : Bool) (w : Waiting) (limit : ℕ) → KeepsOrCounts keeps w → w.count ≡ 0 → StandsIn (audit_over w limit 0).standing []
 starts keeps w limit so none = record { within = omega arith; waiting = none; kept = by w.entries so.counted } where
   by : (entries : Option (List AuditEntry)) → IfSome entries (λ es. length es ≡ w.count) → IfSome entries (λ es. es ≡ drop 0 [])
   by None counted = tt
@@ -47,23 +47,23 @@ always None xs = tt
 always (Some es) xs = refl
 
 -- an audit that was given one more
-pub one_more : (w v : Waiting) (limit drained : ℕ) (old : KeptAudit) (entry : AuditEntry) → audit_of w limit drained ≡ old → v ≡ and_one w entry
-    → audit_of v limit drained ≡ record { standing = with_entry old.standing entry; limit = old.limit; spare = old.spare - 1 }
+pub one_more : (w v : Waiting) (limit drained : ℕ) (old : KeptAudit) (entry : AuditEntry) → audit_over w limit drained ≡ old → v ≡ and_one w entry
+    → audit_over v limit drained ≡ record { standing = with_entry old.standing entry; limit = old.limit; spare = old.spare - 1 }
 one_more w v limit drained old entry seen is =
-    subst (λ (a : KeptAudit). audit_of v limit drained ≡ record { standing = with_entry a.standing entry; limit = a.limit; spare = a.spare - 1 }) seen (ap (λ (x : Waiting). audit_of x limit drained) is)
+    subst (λ (a : KeptAudit). audit_over v limit drained ≡ record { standing = with_entry a.standing entry; limit = a.limit; spare = a.spare - 1 }) seen (ap (λ (x : Waiting). audit_over x limit drained) is)
 
-pub one_taken : (w v : Waiting) (limit drained : ℕ) (old : KeptAudit) (entry : AuditEntry) → audit_of w limit drained ≡ old → v ≡ and_one w entry → TakesEntries old.standing (entry ∷ []) (audit_of v limit drained).standing
+pub one_taken : (w v : Waiting) (limit drained : ℕ) (old : KeptAudit) (entry : AuditEntry) → audit_over w limit drained ≡ old → v ≡ and_one w entry → TakesEntries old.standing (entry ∷ []) (audit_over v limit drained).standing
 one_taken w v limit drained old entry seen is all so =
     subst (λ (a : KeptAudit). StandsIn a.standing (all ++ entry ∷ [])) (sym (one_more w v limit drained old entry seen is)) (takes_behind old.standing 1 (entry ∷ []) (entry ∷ []) refl (always old.standing.entries (entry ∷ [])) all so)
 
 -- one that was given the notes of a message
-pub notes_more : (w v : Waiting) (limit drained : ℕ) (old : KeptAudit) (position : ℕ) (n : KeptNotes) → audit_of w limit drained ≡ old → v ≡ and_notes w position n
-    → audit_of v limit drained ≡ record { standing = with_notes old.standing position n; limit = old.limit; spare = old.spare - 1 }
+pub notes_more : (w v : Waiting) (limit drained : ℕ) (old : KeptAudit) (position : ℕ) (n : KeptNotes) → audit_over w limit drained ≡ old → v ≡ and_notes w position n
+    → audit_over v limit drained ≡ record { standing = with_notes old.standing position n; limit = old.limit; spare = old.spare - 1 }
 notes_more w v limit drained old position n seen is =
-    subst (λ (a : KeptAudit). audit_of v limit drained ≡ record { standing = with_notes a.standing position n; limit = a.limit; spare = a.spare - 1 }) seen (ap (λ (x : Waiting). audit_of x limit drained) is)
+    subst (λ (a : KeptAudit). audit_over v limit drained ≡ record { standing = with_notes a.standing position n; limit = a.limit; spare = a.spare - 1 }) seen (ap (λ (x : Waiting). audit_over x limit drained) is)
 
-pub notes_taken : (w v : Waiting) (limit drained : ℕ) (old : KeptAudit) (position : ℕ) (n : KeptNotes) → audit_of w limit drained ≡ old → v ≡ and_notes w position n → old.standing.waiting + n.count ≤ old.limit
-    → TakesNotes old position n (audit_of v limit drained).standing
+pub notes_taken : (w v : Waiting) (limit drained : ℕ) (old : KeptAudit) (position : ℕ) (n : KeptNotes) → audit_over w limit drained ≡ old → v ≡ and_notes w position n → old.standing.waiting + n.count ≤ old.limit
+    → TakesNotes old position n (audit_over v limit drained).standing
 notes_taken w v limit drained old position n seen is room named are all so =
     subst (λ (a : KeptAudit). StandsIn a.standing (all ++ map (stamp position) named)) (sym (notes_more w v limit drained old position n seen is))
     (takes_behind old.standing n.count (map (stamp position) named) (map (stamp position) n.notes) (many ∙ sym (length-map named (stamp position))) (whole old.standing.entries (ap (λ (k : KeptNotes). k.notes) are)) all so)
@@ -78,7 +78,7 @@ notes_taken w v limit drained old position n seen is room named are all so =
 
 -- ---- the oldest entries
 
-drains : (s : AuditStanding) (most : ℕ) (out : List AuditEntry) → out ≡ front_of most s.entries → DrainsOldest s most out (without_oldest most s)
+drains : (s : AuditStanding) (most : ℕ) (out : List AuditEntry) → out ≡ oldest_in most s.entries → DrainsOldest s most out (without_oldest most s)
 drains s most out is all so = (handed s.entries is so.kept, record { within = within; waiting = waits; kept = left s.entries so.kept }) where
   rest : List AuditEntry
   rest = drop s.drained all
@@ -89,34 +89,34 @@ drains s most out is all so = (handed s.entries is so.kept, record { within = wi
   waits : s.waiting - most ≡ length (drop (s.drained + min most s.waiting) all)
   waits = omega (arith, so.within, so.waiting, length-drop s.drained all, length-drop (s.drained + min most s.waiting) all)
 
-  handed : (entries : Option (List AuditEntry)) → out ≡ front_of most entries → IfSome entries (λ es. es ≡ drop s.drained all) → is_some entries ≡ true → out ≡ take most (drop s.drained all)
+  handed : (entries : Option (List AuditEntry)) → out ≡ oldest_in most entries → IfSome entries (λ es. es ≡ drop s.drained all) → is_some entries ≡ true → out ≡ take most (drop s.drained all)
   handed None front was some = absurd cc
   handed (Some es) front was some = front ∙ ap (take most) was
 
-  left : (entries : Option (List AuditEntry)) → IfSome entries (λ es. es ≡ drop s.drained all) → IfSome (behind_front most entries) (λ es. es ≡ drop (s.drained + min most s.waiting) all)
+  left : (entries : Option (List AuditEntry)) → IfSome entries (λ es. es ≡ drop s.drained all) → IfSome (behind_oldest most entries) (λ es. es ≡ drop (s.drained + min most s.waiting) all)
   left None was = tt
   left (Some es) was =
       ap (drop most) was ∙ sym (drop_min most (drop s.drained all)) ∙ ap (λ n. drop (min most n) (drop s.drained all)) (sym so.waiting) ∙ drop-drop (min most s.waiting) s.drained all
 
 -- where none waits, none is kept
-pub nothing_oldest : (s : AuditStanding) (all : List AuditEntry) (most : ℕ) → StandsIn s all → take most (drop s.drained all) ≡ [] → front_of most s.entries ≡ []
+pub nothing_oldest : (s : AuditStanding) (all : List AuditEntry) (most : ℕ) → StandsIn s all → take most (drop s.drained all) ≡ [] → oldest_in most s.entries ≡ []
 nothing_oldest s all most so none = by s.entries so.kept where
-  by : (entries : Option (List AuditEntry)) → IfSome entries (λ es. es ≡ drop s.drained all) → front_of most entries ≡ []
+  by : (entries : Option (List AuditEntry)) → IfSome entries (λ es. es ≡ drop s.drained all) → oldest_in most entries ≡ []
   by None was = refl
   by (Some es) was = ap (take most) was ∙ none
 
 -- an audit from which they were taken
-pub front_left : (w v : Waiting) (limit drained taken most : ℕ) (old : KeptAudit) → audit_of w limit drained ≡ old → v ≡ without_front most w → taken ≡ min most w.count
-    → audit_of v limit (drained + taken) ≡ record { standing = without_oldest most old.standing; limit = old.limit; spare = old.spare }
+pub front_left : (w v : Waiting) (limit drained taken most : ℕ) (old : KeptAudit) → audit_over w limit drained ≡ old → v ≡ waiting_without most w → taken ≡ min most w.count
+    → audit_over v limit (drained + taken) ≡ record { standing = without_oldest most old.standing; limit = old.limit; spare = old.spare }
 front_left w v limit drained taken most old seen is counted =
-    subst (λ (a : KeptAudit). audit_of v limit (drained + taken) ≡ record { standing = without_oldest most a.standing; limit = a.limit; spare = a.spare }) seen
-    (ap (λ (x : Waiting). audit_of x limit (drained + taken)) is ∙ ap (λ (n : ℕ). audit_of (without_front most w) limit (drained + n)) counted)
+    subst (λ (a : KeptAudit). audit_over v limit (drained + taken) ≡ record { standing = without_oldest most a.standing; limit = a.limit; spare = a.spare }) seen
+    (ap (λ (x : Waiting). audit_over x limit (drained + taken)) is ∙ ap (λ (n : ℕ). audit_over (waiting_without most w) limit (drained + n)) counted)
 
-pub front_drained : (w v : Waiting) (limit drained taken most : ℕ) (old : KeptAudit) (out : List AuditEntry) → audit_of w limit drained ≡ old → v ≡ without_front most w → taken ≡ min most w.count → out ≡ front_of most w.entries
-    → DrainsOldest old.standing most out (audit_of v limit (drained + taken)).standing
+pub front_drained : (w v : Waiting) (limit drained taken most : ℕ) (old : KeptAudit) (out : List AuditEntry) → audit_over w limit drained ≡ old → v ≡ waiting_without most w → taken ≡ min most w.count → out ≡ oldest_in most w.entries
+    → DrainsOldest old.standing most out (audit_over v limit (drained + taken)).standing
 front_drained w v limit drained taken most old out seen is counted front =
     subst (λ (a : KeptAudit). DrainsOldest old.standing most out a.standing) (sym (front_left w v limit drained taken most old seen is counted))
-    (drains old.standing most out (front ∙ ap (λ (a : KeptAudit). front_of most a.standing.entries) seen))
+    (drains old.standing most out (front ∙ ap (λ (a : KeptAudit). oldest_in most a.standing.entries) seen))
 
 -- ---- notes of which some are to be kept
 

@@ -16,13 +16,13 @@ abbrev pub and_behind : Option (List AuditEntry) → List AuditEntry → Option 
 and_behind entries more = option_map (λ es. es ++ more) entries
 
 -- the oldest of those that are kept, so many or all
-abbrev pub front_of : ℕ → Option (List AuditEntry) → List AuditEntry
-front_of most None = []
-front_of most (Some entries) = take most entries
+abbrev pub oldest_in : ℕ → Option (List AuditEntry) → List AuditEntry
+oldest_in most None = []
+oldest_in most (Some entries) = take most entries
 
 -- the others
-abbrev pub behind_front : ℕ → Option (List AuditEntry) → Option (List AuditEntry)
-behind_front most entries = option_map (drop most) entries
+abbrev pub behind_oldest : ℕ → Option (List AuditEntry) → Option (List AuditEntry)
+behind_oldest most entries = option_map (drop most) entries
 
 -- all of these notes are there, where they are to be kept
 abbrev pub AreThere : Option (List AuditEntry) → KeptNotes → Type 0
@@ -37,7 +37,7 @@ pub record Waiting : Type 0 where
   pub spare : ℕ
 
 -- they are kept or not, and those that are kept are counted
-pub record IsCounted (keeps : Bool) (w : Waiting) : Type 0 where
+pub record KeepsOrCounts (keeps : Bool) (w : Waiting) : Type 0 where
   pub kept : is_some w.entries ≡ keeps
   pub counted : IfSome w.entries (λ entries. length entries ≡ w.count)
 
@@ -52,8 +52,8 @@ abbrev pub and_notes : Waiting → ℕ → KeptNotes → Waiting
 and_notes w position n = record { entries = and_behind w.entries (map (stamp position) n.notes); count = w.count + n.count; spare = w.spare - 1 }
 
 -- without the oldest
-abbrev pub without_front : ℕ → Waiting → Waiting
-without_front most w = record { entries = behind_front most w.entries; count = w.count - most; spare = w.spare }
+abbrev pub waiting_without : ℕ → Waiting → Waiting
+waiting_without most w = record { entries = behind_oldest most w.entries; count = w.count - most; spare = w.spare }
 
 -- ---- an audit
 
@@ -69,8 +69,8 @@ pub record KeptAudit : Type 0 where
   pub limit : ℕ
   pub spare : ℕ
 
-abbrev pub audit_of : Waiting → ℕ → ℕ → KeptAudit
-audit_of w limit drained = record { standing = record { drained = drained; waiting = w.count; entries = w.entries }; limit = limit; spare = w.spare }
+abbrev pub audit_over : Waiting → ℕ → ℕ → KeptAudit
+audit_over w limit drained = record { standing = record { drained = drained; waiting = w.count; entries = w.entries }; limit = limit; spare = w.spare }
 
 -- how many notes of a message are to be kept for it: as many as may wait, or none where no entry is kept
 abbrev pub notes_for : Option (List AuditEntry) → ℕ → ℕ
@@ -90,11 +90,11 @@ with_notes s position n = record { drained = s.drained; waiting = s.waiting + n.
 
 -- the oldest entries, so many or all, of those that are kept
 abbrev pub oldest : ℕ → AuditStanding → List AuditEntry
-oldest most s = front_of most s.entries
+oldest most s = oldest_in most s.entries
 
 -- what is left without them
 abbrev pub without_oldest : ℕ → AuditStanding → AuditStanding
-without_oldest most s = record { drained = s.drained + min most s.waiting; waiting = s.waiting - most; entries = behind_front most s.entries }
+without_oldest most s = record { drained = s.drained + min most s.waiting; waiting = s.waiting - most; entries = behind_oldest most s.entries }
 
 -- all entries that it was ever given are this list: a front of it was drained, and the rest waits, and is kept or counted
 pub record StandsIn (s : AuditStanding) (all : List AuditEntry) : Type 0 where

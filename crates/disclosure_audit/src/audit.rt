@@ -34,12 +34,12 @@ impl<Q: AuditQueue + Drop> Drop for Audit<Q> {
 }
 
 impl<Q: AuditQueue> Model for Audit<Q> {
-    ghost use Rattle.disclosure_audit.specs.Queue.{KeptAudit, audit_of};
+    ghost use Rattle.disclosure_audit.specs.Queue.{KeptAudit, audit_over};
     ghost use Rattle.disclosure_audit.specs.Kept.{IsConsistentAudit};
 
     ghost Value = { KeptAudit };
 
-    ghost view = { λ a. audit_of (Q.seen a.queue) a.limit a.drained };
+    ghost view = { λ a. audit_over (Q.seen a.queue) a.limit a.drained };
 
     ghost invariant = { λ a. IsConsistentAudit (Q.seen a.queue) a.limit a.drained };
 }

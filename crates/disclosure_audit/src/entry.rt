@@ -25,6 +25,8 @@ pub struct RemovedFields {
 /// How a list is kept.
 #[derive(Debug, Drop)]
 enum Listed {
+    /// No field, as many records lose none.
+    None,
     /// One field, as most records lose it that lose any, is copied.
     One([RemovedField; 1]),
     /// Other lists are shared.
@@ -49,6 +51,7 @@ impl Clone for RemovedFields {
 
     fn clone(&self) -> Result<RemovedFields, AllocError> {
         let listed = match &self.listed {
+            Listed::None => Listed::None,
             Listed::One(one) => Listed::One(*one),
             Listed::Shared(fields) => Listed::Shared(fields.clone()?),
         };
@@ -66,6 +69,7 @@ impl RemovedFields {
         ensures { IfOk result (λ removed. removed ≡ fields.items) }
     {
         let listed = match fields.as_slice() {
+            [] => Listed::None,
             [one] => Listed::One([*one]),
             _ => Listed::Shared(Arc::new(alloc, fields)?),
         };
@@ -77,6 +81,7 @@ impl RemovedFields {
         ensures { result.now ≡ self.now }
     {
         match &self.listed {
+            Listed::None => &[],
             Listed::One(one) => one.as_slice(),
             Listed::Shared(fields) => fields.as_slice(),
         }

@@ -1,5 +1,5 @@
 //! What an audit is to note of a message: as much of it as is to be kept, and the number of all.
-ghost use Rattle.std.specs.Prelude.{◌≡◌, ◌<◌, ◌^◌, ◌∷◌, [], OnOk};
+ghost use Rattle.std.specs.Prelude.{◌≡◌, ◌↔◌, ◌≤◌, ◌<◌, ◌+◌, ◌^◌, ◌∷◌, [], length, IsTrue, OnOk};
 ghost use Rattle.disclosure_audit.specs.Noting.{kept_of, and_more};
 
 use crate::entry::Note;
@@ -79,6 +79,28 @@ impl Notes {
     {
         let room = self.most.saturating_sub(self.kept.len() as u64);
         self.kept.reserve((more as u64).min(room) as usize)
+    }
+
+    /// Whether no more notes are kept, so that those to come need not be made ([`count_one`](Notes::count_one)).
+    pub fn is_full(&self) -> bool
+        ensures { IsTrue result ↔ self.now.most ≤ length self.now.notes }
+    {
+        self.kept.len() as u64 >= self.most
+    }
+
+    /// Counts one note behind the others, where no more are kept. It takes no memory.
+    ///
+    /// # Errors
+    /// There are 2^62 notes, which no memory holds.
+    pub fn count_one(&mut self) -> Result<(), AllocError>
+        requires { self.old.most ≤ length self.old.notes }
+        ensures { OnOk result (self.new ≡ record self.old { count = self.old.count + 1 }) }
+    {
+        if self.count >= MOST_COUNTED {
+            return Err(AllocError);
+        }
+        self.count += 1;
+        Ok(())
     }
 
     /// Adds `note` behind the others. It is kept where it may be, and counted in any case.

@@ -1,7 +1,7 @@
 //! What waits in an audit: the trait of [`KeptQueue`](crate::KeptQueue), which keeps the entries, and of
 //! [`CountedQueue`](crate::CountedQueue), which counts them alone.
 ghost use Rattle.std.specs.Prelude.{◌≡◌, ◌≤◌, ◌<◌, ◌+◌, Bool, [], IsOk, IfOk, OnOk, OnErr};
-ghost use Rattle.disclosure_audit.specs.Queue.{Waiting, IsCounted, AreThere, and_one, and_notes, with_spare, without_front, front_of};
+ghost use Rattle.disclosure_audit.specs.Queue.{Waiting, KeepsOrCounts, AreThere, and_one, and_notes, with_spare, waiting_without, oldest_in};
 ghost use Rattle.disclosure_audit.specs.declared.audit.TheConstants.{MOST_ENTRIES};
 
 use crate::entry::AuditEntry;
@@ -56,12 +56,12 @@ pub trait AuditQueue {
     /// # Errors
     /// Want of memory for the list, and then nothing has changed.
     fn drain(&mut self, most: u32) -> Result<Vec<AuditEntry>, AllocError>
-        ensures oldest { IfOk result (λ out. out.items ≡ front_of most (seen self.old).entries) }
-        ensures left { OnOk result (seen self.new ≡ without_front most (seen self.old)) }
+        ensures oldest { IfOk result (λ out. out.items ≡ oldest_in most (seen self.old).entries) }
+        ensures left { OnOk result (seen self.new ≡ waiting_without most (seen self.old)) }
         ensures err { OnErr result (self.new ≡ self.old) }
         // Nothing to hand out takes no memory.
-        ensures none { front_of most (seen self.old).entries ≡ [] → IsOk result };
+        ensures none { oldest_in most (seen self.old).entries ≡ [] → IsOk result };
 
     // The entries are kept or not, and those that are kept are counted.
-    ghost counted: { (q : Self) → IsCounted KEEPS (seen q) };
+    ghost counted: { (q : Self) → KeepsOrCounts KEEPS (seen q) };
 }

@@ -58,6 +58,12 @@ blank_step {S} {X} pick xs xs2 s served place other so within grow same =
     ∙ sym (map-append empty (take place served) (get_or served place other ∷ []))
     ∙ ap (map empty) (sym (take_more served place other within))
 
+-- ---- results
+
+pub on_ok_gives : {X E P Q : Type 0} (r : Result X E) → OnOk r P → (P → Q) → OnOk r Q
+on_ok_gives (Ok x) p f = f p
+on_ok_gives (Err e) p f = tt
+
 -- ---- one record for one subscription after another
 
 -- the shares of the subscriptions before a place have the record, and the others don't yet

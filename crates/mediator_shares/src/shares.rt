@@ -326,6 +326,9 @@ impl Sums {
             ≡ and_more self.old.notes (note_of index sub what ∷ [])) }
         ensures tallies { self.new.tallies ≡ self.old.tallies }
     {
+        if self.notes.is_full() {
+            return self.notes.count_one();
+        }
         self.notes.push(Note { index, sub, what })
     }
 }
