@@ -61,3 +61,7 @@ pub counted_more : (k : KeptNotes) (note : Note) → k.most ≤ length k.notes �
 counted_more k note full =
     let none : k.most - length k.notes ≡ 0 = omega (arith, full) in
     kept_same k.most (k.notes ++ take (k.most - length k.notes) (note ∷ [])) k.notes (k.count + 1) (k.count + 1) (ap (λ (n : ℕ). k.notes ++ take n (note ∷ [])) none ∙ append-nil k.notes) refl
+
+-- then it doesn't matter which
+pub counted_same : (k : KeptNotes) (a b : Note) → k.most ≤ length k.notes → and_more k (a ∷ []) ≡ and_more k (b ∷ [])
+counted_same k a b full = counted_more k a full ∙ sym (counted_more k b full)

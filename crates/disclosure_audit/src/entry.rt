@@ -1,5 +1,5 @@
 //! What was kept back from a subscription: of one record, or from one place on.
-ghost use Rattle.std.specs.Prelude.{◌≡◌, ◌==◌, length, IfOk};
+ghost use Rattle.std.specs.Prelude.{◌≡◌, ◌==◌, length, take, IfOk};
 
 use crate::reason::Reason;
 use std::alloc::{AllocError, Global};
@@ -85,6 +85,17 @@ impl RemovedFields {
             Listed::One(one) => one.as_slice(),
             Listed::Shared(fields) => fields.as_slice(),
         }
+    }
+
+    /// The first of them alone, or none where no field was removed. It takes no memory.
+    pub fn first_alone(&self) -> RemovedFields
+        ensures { result ≡ take 1 self.now }
+    {
+        let listed = match self.as_slice().first() {
+            Some(first) => Listed::One([*first]),
+            None => Listed::None,
+        };
+        RemovedFields { listed }
     }
 
     /// Whether no field was removed.

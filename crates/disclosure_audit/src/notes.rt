@@ -1,5 +1,5 @@
 //! What an audit is to note of a message: as much of it as is to be kept, and the number of all.
-ghost use Rattle.std.specs.Prelude.{◌≡◌, ◌↔◌, ◌≤◌, ◌<◌, ◌+◌, ◌^◌, ◌∷◌, [], length, IsTrue, OnOk};
+ghost use Rattle.std.specs.Prelude.{◌≡◌, ◌≤◌, ◌<◌, ◌+◌, ◌^◌, ◌∷◌, [], length, nat_lt, OnOk};
 ghost use Rattle.disclosure_audit.specs.Noting.{kept_of, and_more};
 
 use crate::entry::Note;
@@ -81,11 +81,11 @@ impl Notes {
         self.kept.reserve((more as u64).min(room) as usize)
     }
 
-    /// Whether no more notes are kept, so that those to come need not be made ([`count_one`](Notes::count_one)).
-    pub fn is_full(&self) -> bool
-        ensures { IsTrue result ↔ self.now.most ≤ length self.now.notes }
+    /// Whether the next note is kept. Where it isn't, nobody needs to make it ([`count_one`](Notes::count_one)).
+    pub fn keeps_next(&self) -> bool
+        ensures { result ≡ nat_lt (length self.now.notes) self.now.most }
     {
-        self.kept.len() as u64 >= self.most
+        (self.kept.len() as u64) < self.most
     }
 
     /// Counts one note behind the others, where no more are kept. It takes no memory.
@@ -113,7 +113,7 @@ impl Notes {
         if self.count >= MOST_COUNTED {
             return Err(AllocError);
         }
-        if (self.kept.len() as u64) < self.most {
+        if self.keeps_next() {
             self.kept.push(note)?;
         }
         self.count += 1;

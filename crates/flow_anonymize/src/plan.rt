@@ -30,7 +30,7 @@ pub(crate) struct Passing {
 
 impl Disclosure<Passing> {
     ghost use Rattle.flow_anonymize.specs.Planning.{planned, shown_template, IsShowable, ShowsNone, IsPassing};
-    ghost use Rattle.flow_anonymize.specs.Outcome.{decision_of};
+    ghost use Rattle.flow_anonymize.specs.Outcome.{decision_of, told_with};
 
     /// The plan for records that don't pass.
     pub(crate) fn for_verdict(verdict: RecordVerdict) -> Option<Plan>
@@ -165,18 +165,19 @@ impl Disclosure<Passing> {
         }
     }
 
-    /// What is said of a record by its plan.
+    /// What is said of a record by its plan. Of the fields that are removed each is told, or the first alone where
+    /// `tells_all` is false.
     ///
     /// # Errors
     /// Want of memory.
-    pub(crate) fn decision(&self) -> Result<Disclosure<()>, AllocError>
-        ensures { (values : List (List ℕ))
-            → IfOk result (λ d. d ≡ decision_of (planned self.now values)) }
+    pub(crate) fn decision(&self, tells_all: bool) -> Result<Disclosure<()>, AllocError>
+        ensures { (values : List (List ℕ)) → IfOk result
+            (λ d. d ≡ told_with tells_all (decision_of (planned self.now values))) }
     {
         Ok(match self {
             Disclosure::Passed { removed, .. } => Disclosure::Passed {
                 kept: (),
-                removed: removed.clone()?,
+                removed: told_of(removed, tells_all)?,
             },
             Disclosure::Aggregated { rule, definition } => Disclosure::Aggregated {
                 rule: *rule,
@@ -188,6 +189,22 @@ impl Disclosure<Passing> {
             },
         })
     }
+}
+
+ghost use Rattle.std.specs.Prelude.{take, if◌then◌else◌};
+
+/// What is told of the fields `removed`: all of them, or the first alone where `tells_all` is false.
+///
+/// # Errors
+/// Want of memory.
+pub(crate) fn told_of(removed: &RemovedFields, tells_all: bool) -> Result<RemovedFields, AllocError>
+    ensures { IfOk result
+        (λ told. told ≡ (if tells_all then removed.now else take 1 removed.now)) }
+{
+    if tells_all {
+        return removed.clone();
+    }
+    Ok(removed.first_alone())
 }
 
 ghost use Rattle.flow_anonymize.specs.declared.disclosure.Disclosure.TheVariants.{Passed};

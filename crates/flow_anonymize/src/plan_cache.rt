@@ -1,6 +1,6 @@
 //! Plans that are kept, and what passes by them.
 ghost use Rattle.std.specs.Prelude.{◌≡◌, ◌<◌, ◌++◌, ◌∷◌, [], Some, length, slice_get, position, IfOk, IfSome, OnOk, OnErr};
-ghost use Rattle.flow_anonymize.specs.Outcome.{passed, decision_of};
+ghost use Rattle.flow_anonymize.specs.Outcome.{passed, decision_of, told_with};
 ghost use Rattle.flow_anonymize.specs.Planning.{planned, IsShowable};
 ghost use Rattle.flow_anonymize.specs.Plans.{is_for};
 ghost use Rattle.flow_anonymize.specs.PlanCache.{IsPut};
@@ -87,7 +87,8 @@ impl PlanCache {
         Ok(place)
     }
 
-    /// Gives what passes of a record by the plan at a place, and says what became of it.
+    /// Gives what passes of a record by the plan at a place, and says what became of it. Of the fields that it loses each
+    /// is told, or the first alone where `tells_all` is false.
     ///
     /// # Errors
     /// Want of memory.
@@ -95,6 +96,7 @@ impl PlanCache {
         &mut self,
         place: usize,
         flow_record: &RecordView<'_>,
+        tells_all: bool,
     ) -> Result<Disclosure<()>, AllocError>
         requires there { place < length self.old.slots }
         requires showable { (slot : Slot) → slice_get self.old.slots place ≡ Some slot
@@ -105,7 +107,8 @@ impl PlanCache {
             → OnOk result
             (self.new.given ≡ self.old.given ++ passed (planned slot.plan flow_record.now.values)) }
         ensures decision { (slot : Slot) → slice_get self.old.slots place ≡ Some slot
-            → IfOk result (λ d. d ≡ decision_of (planned slot.plan flow_record.now.values)) }
+            → IfOk result
+            (λ d. d ≡ told_with tells_all (decision_of (planned slot.plan flow_record.now.values))) }
     {
         let is_open = self.open_place == Some(place);
         let open_before = self.open_place.take();
@@ -115,7 +118,7 @@ impl PlanCache {
             Some(_) => Some(place),
             None => open_before,
         };
-        plan.decision()
+        plan.decision(tells_all)
     }
 
     /// Gives a record that passes by no plan that is kept.

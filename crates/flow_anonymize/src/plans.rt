@@ -2,12 +2,13 @@
 ghost use Rattle.std.specs.Prelude.{◌≡◌, ◌++◌, [], Some, None, true, IfOk, OnOk, OnErr};
 ghost use Rattle.std.specs.Arc.{arc_value};
 ghost use Rattle.rule_table.specs.Cuts.{HaveCuts};
-ghost use Rattle.flow_anonymize.specs.Outcome.{passed, decision_of};
+ghost use Rattle.flow_anonymize.specs.Outcome.{passed, decision_of, told_with};
 ghost use Rattle.flow_anonymize.specs.Classes.{classes_of};
 ghost use Rattle.flow_anonymize.specs.Plans.{outcome_for, IsSlot};
 
 use crate::by_table::{disclose_by, plan_by};
 use crate::disclosure::Disclosure;
+use crate::plan::told_of;
 use crate::plan_cache::PlanCache;
 use crate::record_classes::RecordClasses;
 use crate::slot::Slot;
@@ -152,9 +153,9 @@ impl Plans {
     }
 
     /// Judges the record `flow_record`, which has the template that was begun with. It gives what
-    /// [`disclose_by`] discloses of it, and says what became of it. `classes` are the classes of
-    /// its addresses, as [`RecordClasses::at`] answers them. A plan that is made is in memory from
-    /// `alloc`.
+    /// [`disclose_by`] discloses of it, and says what became of it: of the fields that it loses each,
+    /// or the first alone where `tells_all` is false. `classes` are the classes of its addresses, as
+    /// [`RecordClasses::at`] answers them. A plan that is made is in memory from `alloc`.
     ///
     /// # Errors
     /// Want of memory. Then nothing is left of what passed before: the caller begins anew, with the
@@ -164,6 +165,7 @@ impl Plans {
         alloc: Global,
         classes: Option<RecordClasses>,
         flow_record: &RecordView<'_>,
+        tells_all: bool,
     ) -> Result<Disclosure<()>, AllocError>
         requires template { self.old.for.template ≡ Some flow_record.now.template }
         requires classes { classes ≡ classes_of self.old.for.cuts flow_record.now }
@@ -171,12 +173,13 @@ impl Plans {
         ensures given { OnOk result
             (self.new.given ≡ self.old.given ++ passed (outcome_for self.old.for flow_record.now)) }
         ensures decision { IfOk result
-            (λ d. d ≡ decision_of (outcome_for self.old.for flow_record.now)) }
+            (λ d. d ≡ told_with tells_all
+            (decision_of (outcome_for self.old.for flow_record.now))) }
         // The plans are still for that subscriber, by those rules.
         ensures same { self.new.for ≡ self.old.for }
         ensures dropped { OnErr result (self.new.given ≡ []) }
     {
-        let decision = self.judge(alloc, classes, flow_record);
+        let decision = self.judge(alloc, classes, flow_record, tells_all);
         if decision.is_err() {
             self.cache.drop_records();
         }
@@ -192,6 +195,7 @@ impl Plans {
         alloc: Global,
         classes: Option<RecordClasses>,
         flow_record: &RecordView<'_>,
+        tells_all: bool,
     ) -> Result<Disclosure<()>, AllocError>
         requires template { self.old.for.template ≡ Some flow_record.now.template }
         requires classes { classes ≡ classes_of self.old.for.cuts flow_record.now }
@@ -199,17 +203,18 @@ impl Plans {
         ensures given { OnOk result
             (self.new.given ≡ self.old.given ++ passed (outcome_for self.old.for flow_record.now)) }
         ensures decision { IfOk result
-            (λ d. d ≡ decision_of (outcome_for self.old.for flow_record.now)) }
+            (λ d. d ≡ told_with tells_all
+            (decision_of (outcome_for self.old.for flow_record.now))) }
         ensures same { self.new.for ≡ self.old.for }
     {
         let Some(classes) = classes else {
-            return self.disclose_singly(alloc, &flow_record.to_record()?);
+            return self.disclose_singly(alloc, &flow_record.to_record()?, tells_all);
         };
         // A record keeps that it is sound.
         let _for_proof = flow_record.template();
         match self.cache.place_of(classes) {
-            Some(place) => self.cache.give(place, flow_record),
-            None => self.disclose_anew(alloc, classes, flow_record),
+            Some(place) => self.cache.give(place, flow_record, tells_all),
+            None => self.disclose_anew(alloc, classes, flow_record, tells_all),
         }
     }
 
@@ -222,6 +227,7 @@ impl Plans {
         alloc: Global,
         classes: RecordClasses,
         flow_record: &RecordView<'_>,
+        tells_all: bool,
     ) -> Result<Disclosure<()>, AllocError>
         requires template { self.old.for.template ≡ Some flow_record.now.template }
         requires classes { Some classes ≡ classes_of self.old.for.cuts flow_record.now }
@@ -229,14 +235,15 @@ impl Plans {
         ensures given { OnOk result
             (self.new.given ≡ self.old.given ++ passed (outcome_for self.old.for flow_record.now)) }
         ensures decision { IfOk result
-            (λ d. d ≡ decision_of (outcome_for self.old.for flow_record.now)) }
+            (λ d. d ≡ told_with tells_all
+            (decision_of (outcome_for self.old.for flow_record.now))) }
         ensures same { self.new.for ≡ self.old.for }
     {
         // A record keeps that it is sound.
         let _for_proof = flow_record.template();
         let slot = self.planned(alloc, classes, flow_record)?;
         let place = self.cache.keep(slot)?;
-        self.cache.give(place, flow_record)
+        self.cache.give(place, flow_record, tells_all)
     }
 
     /// The plan for a record, to be kept.
@@ -268,11 +275,13 @@ impl Plans {
         &mut self,
         alloc: Global,
         flow_record: &Record,
+        tells_all: bool,
     ) -> Result<Disclosure<()>, AllocError>
         ensures given { OnOk result
             (self.new.given ≡ self.old.given ++ passed (outcome_for self.old.for flow_record.now)) }
         ensures decision { IfOk result
-            (λ d. d ≡ decision_of (outcome_for self.old.for flow_record.now)) }
+            (λ d. d ≡ told_with tells_all
+            (decision_of (outcome_for self.old.for flow_record.now))) }
         ensures same { self.new.for ≡ self.old.for }
     {
         match disclose_by(
@@ -284,6 +293,7 @@ impl Plans {
         )? {
             Disclosure::Passed { kept, removed } => {
                 self.cache.push(kept)?;
+                let removed = told_of(&removed, tells_all)?;
                 Ok(Disclosure::Passed { kept: (), removed })
             }
             Disclosure::Aggregated { rule, definition } => {

@@ -1,6 +1,6 @@
 -- Shares that grow, one subscription after another and one record after another.
-use Rattle.std.proofs.Common.{◌≡◌, ℕ, zero, suc, ◌+◌, ◌<◌, List, [], ◌∷◌, ◌++◌, length, map, take, drop, sym, ap, ◌∙◌, subst, arith, refl, length-append, append_assoc, append-nil, ◌≤◌}
-use Rattle.std.specs.Prelude.{get_or, set}
+use Rattle.std.proofs.Common.{◌≡◌, ℕ, zero, suc, ◌+◌, ◌<◌, Bool, true, false, Result, Ok, Err, List, [], ◌∷◌, ◌++◌, length, map, take, drop, sym, ap, ◌∙◌, subst, arith, refl, length-append, append_assoc, append-nil, ◌≤◌}
+use Rattle.std.specs.Prelude.{get_or, set, OnOk}
 use Rattle.std.specs.List.{flat_map, enumerate_from}
 use Rattle.std.proofs.lemmas.List.{map-set, map-append, length-map, take_more, take_all, length-take-le}
 use Rattle.std.proofs.Math.ListN.{get_or-map, drop_of_length-le}
@@ -20,7 +20,8 @@ use Rattle.mediator_shares.specs.InForce.{InForce}
 use Rattle.mediator_tables.specs.declared.served.Served.{Served}
 use Rattle.mediator_tables.specs.declared.tally.Tally.{Tally}
 use Rattle.disclosure_audit.specs.Noting.{KeptNotes, kept_of, and_more}
-use Rattle.disclosure_audit.proofs.NotingLaws.{none_more, more_more, kept_more}
+use Rattle.disclosure_audit.specs.declared.entry.What.TheVariants.{Removed}
+use Rattle.disclosure_audit.proofs.NotingLaws.{none_more, more_more, kept_more, counted_same}
 use Rattle.mediator_tables.specs.Adding.{tallied}
 use Rattle.mediator_shares.specs.Sharing.{outcome_by, given_by, added_by, kept_by, kept_back_by, counts_by, blank, share_by, shares_of, tallies_of, note_of, notes_on, noted_of_each, notes_of}
 
@@ -154,17 +155,33 @@ kept_back_same aggregates clock r (Passed kept removed) = refl
 kept_back_same aggregates clock r (Aggregated rule definition) = refl
 kept_back_same aggregates clock r (Withheld rule reason) = refl
 
+-- nothing that counts is told in the fields that are removed
+counts_told : (tells : Bool) (aggregates : List Aggregate) (clock : ℕ) (r : DataRecord) (d : Decision) → counts_by aggregates clock r (outcome.told_with tells d) ≡ counts_by aggregates clock r d
+counts_told true aggregates clock r d = refl
+counts_told false aggregates clock r (Passed kept removed) = refl
+counts_told false aggregates clock r (Aggregated rule definition) = refl
+counts_told false aggregates clock r (Withheld rule reason) = refl
+
+-- as many notes are due where the first of them is told alone, and where no more are kept nobody sees which
+noting_told : (tells : Bool) (aggregates : List Aggregate) (clock : ℕ) (r : DataRecord) (d : Decision) (index sub : ℕ) (k : KeptNotes) → (tells ≡ false → k.most ≤ length k.notes)
+    → and_more k (map (note_of index sub) (kept_back_by aggregates clock r (outcome.told_with tells d))) ≡ and_more k (map (note_of index sub) (kept_back_by aggregates clock r d))
+noting_told true aggregates clock r d index sub k full = refl
+noting_told false aggregates clock r (Passed kept []) index sub k full = refl
+noting_told false aggregates clock r (Passed kept (field ∷ fields)) index sub k full = counted_same k (note_of index sub (Removed (field ∷ []))) (note_of index sub (Removed (field ∷ fields))) (full refl)
+noting_told false aggregates clock r (Aggregated rule definition) index sub k full = refl
+noting_told false aggregates clock r (Withheld rule reason) index sub k full = refl
+
 -- one subscription more, for which this is decided of the record
-pub adding_step : (old new new2 : List (ℕ × List DataRecord)) (told tnew tnew2 : List Tally) (before notes notes2 : KeptNotes) (domain : ℕ) (f : InForce) (index : ℕ) (r : DataRecord) (served : List Served) (place : ℕ) (who other : Served) (found : Decision)
-    → IsAdding old new told tnew before notes domain f index r served place → place < length served → who ≡ get_or served place other → found ≡ outcome.decision_of (outcome_by domain f who.name.now r)
+pub adding_step : (old new new2 : List (ℕ × List DataRecord)) (told tnew tnew2 : List Tally) (before notes notes2 : KeptNotes) (domain : ℕ) (f : InForce) (index : ℕ) (r : DataRecord) (served : List Served) (place : ℕ) (who other : Served) (found : Decision) (tells : Bool)
+    → IsAdding old new told tnew before notes domain f index r served place → place < length served → who ≡ get_or served place other → found ≡ outcome.told_with tells (outcome.decision_of (outcome_by domain f who.name.now r)) → (tells ≡ false → notes.most ≤ length notes.notes)
     → GrowsAt new new2 place (outcome.passed (outcome_by domain f who.name.now r)) → GrowsAt (map tallied tnew) (map tallied tnew2) place (map count_of (counts_by f.policy.aggregates f.clock r found))
     → length new2 ≡ length new → length tnew2 ≡ length tnew → notes2 ≡ and_more notes (map (note_of index who.sub) (kept_back_by f.policy.aggregates f.clock r found))
     → IsAdding old new2 told tnew2 before notes2 domain f index r served (place + 1)
-adding_step old new new2 told tnew tnew2 before notes notes2 domain f index r served place who other found so within at is gives tallies same same_too notes_grow = record {
+adding_step old new new2 told tnew tnew2 before notes notes2 domain f index r served place who other found tells so within at is full gives tallies same same_too notes_grow = record {
   shares = sharing_step (given_by domain f) old new new2 r served place who other so.shares within at gives;
   tallies = sharing_step (added_by domain f) (map tallied told) (map tallied tnew) (map tallied tnew2) r served place who other so.tallies within at
-      (λ b a s split l. tallies b a s split l ∙ ap (λ (d : Decision). b ++ grown s (map count_of (counts_by f.policy.aggregates f.clock r d)) ∷ a) is ∙ ap (λ c. b ++ grown s (map count_of c) ∷ a) (counts_same f.policy.aggregates f.clock r o));
-  noting = notes_grow ∙ ap (λ (d : Decision). and_more notes (map (note_of index who.sub) (kept_back_by f.policy.aggregates f.clock r d))) is ∙ ap (λ k. and_more notes (map (note_of index who.sub) k)) (kept_back_same f.policy.aggregates f.clock r o)
+      (λ b a s split l. tallies b a s split l ∙ ap (λ (d : Decision). b ++ grown s (map count_of (counts_by f.policy.aggregates f.clock r d)) ∷ a) is ∙ ap (λ c. b ++ grown s (map count_of c) ∷ a) (counts_told tells f.policy.aggregates f.clock r (outcome.decision_of o) ∙ counts_same f.policy.aggregates f.clock r o));
+  noting = notes_grow ∙ ap (λ (d : Decision). and_more notes (map (note_of index who.sub) (kept_back_by f.policy.aggregates f.clock r d))) is ∙ noting_told tells f.policy.aggregates f.clock r (outcome.decision_of o) index who.sub notes full ∙ ap (λ k. and_more notes (map (note_of index who.sub) k)) (kept_back_same f.policy.aggregates f.clock r o)
       ∙ ap (λ n. and_more n (map (note_of index who.sub) (kept_by domain f who.name.now r))) so.noting
       ∙ more_more before (flat_map (notes_on domain f (index, r)) (take place served)) (notes_on domain f (index, r) who)
       ∙ ap (λ l. and_more before l) (sym (flat_map-push (notes_on domain f (index, r)) (take place served) who) ∙ ap (flat_map (notes_on domain f (index, r))) (sym (more_served served place who other within at)));

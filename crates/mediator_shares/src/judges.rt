@@ -3,7 +3,7 @@ ghost use Rattle.std.specs.Prelude.{◌≡◌, ◌<◌, ◌++◌, ◌∷◌, [],
 ghost use Rattle.std.specs.Arc.{arc_value};
 ghost use Rattle.ipfix_template.specs.DataRecord.{DataRecord};
 ghost use Rattle.rule_table.specs.Cuts.{HaveCuts};
-ghost use Rattle.flow_anonymize.specs.Outcome.{passed, decision_of};
+ghost use Rattle.flow_anonymize.specs.Outcome.{passed, decision_of, told_with};
 ghost use Rattle.flow_anonymize.specs.Classes.{classes_of};
 ghost use Rattle.flow_anonymize.specs.Plans.{PlansFor, outcome_for};
 ghost use Rattle.mediator_tables.specs.SubscriptionTable.{shown};
@@ -142,7 +142,8 @@ impl Judges {
     }
 
     /// Judges `flow_record`, of whose addresses `classes` are the classes, for the subscription at `place`, which there
-    /// is. It gives the subscription what passes, in memory from `alloc`, and answers what became of the record.
+    /// is. It gives the subscription what passes, in memory from `alloc`, and answers what became of the record: of the
+    /// fields that it loses each, or the first alone where `tells_all` is false.
     ///
     /// # Errors
     /// Want of memory.
@@ -152,6 +153,7 @@ impl Judges {
         place: usize,
         classes: Option<RecordClasses>,
         flow_record: &RecordView<'_>,
+        tells_all: bool,
     ) -> Result<Disclosure<()>, AllocError>
         requires there { place < length self.old.fors }
         requires template { (p : PlansFor) → slice_get self.old.fors place ≡ Some p
@@ -161,7 +163,8 @@ impl Judges {
         requires classes { classes ≡ classes_of self.old.cuts flow_record.now }
         // It is told what became of the record, and what passes is given to that subscription alone.
         ensures decision { (p : PlansFor) → slice_get self.old.fors place ≡ Some p
-            → IfOk result (λ d. d ≡ decision_of (outcome_for p flow_record.now)) }
+            → IfOk result
+            (λ d. d ≡ told_with tells_all (decision_of (outcome_for p flow_record.now))) }
         ensures given { (p : PlansFor) (before after : List (ℕ × List DataRecord))
             (s : ℕ × List DataRecord) → slice_get self.old.fors place ≡ Some p
             → self.old.shares ≡ before ++ s ∷ after
@@ -175,7 +178,7 @@ impl Judges {
     {
         self.judges[place]
             .plans
-            .disclose(alloc, classes, flow_record)
+            .disclose(alloc, classes, flow_record, tells_all)
     }
 
     /// For how many subscriptions they judge.

@@ -226,7 +226,9 @@ impl Sums {
     {
         let classes = judges.classes_of(flow_record);
         'served: for (place, who) in served.iter().enumerate() {
-            let found = judges.disclose(alloc, place, classes, flow_record)?;
+            // Nobody asks for the fields of a note that isn't kept.
+            let tells_all = self.notes.keeps_next();
+            let found = judges.disclose(alloc, place, classes, flow_record, tells_all)?;
             self.add(alloc, place, index, who.sub, in_force, flow_record, found)?;
         }
         Ok(())
@@ -326,7 +328,7 @@ impl Sums {
             ≡ and_more self.old.notes (note_of index sub what ∷ [])) }
         ensures tallies { self.new.tallies ≡ self.old.tallies }
     {
-        if self.notes.is_full() {
+        if !self.notes.keeps_next() {
             return self.notes.count_one();
         }
         self.notes.push(Note { index, sub, what })

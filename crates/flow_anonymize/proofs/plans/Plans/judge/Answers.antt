@@ -1,7 +1,7 @@
 use Rattle.std.proofs.Common.{◌≡◌, ◌∙◌, ◌++◌, Some, ap, sym, subst, List, IfOk, OnOk, slice_get}
 use Rattle.ipfix_template.specs.DataRecord.{DataRecord}
 use Rattle.flow_anonymize.specs.declared.slot.Slot.{Slot}
-use Rattle.flow_anonymize.specs.Outcome.{Outcome, Decision, passed, decision_of}
+use Rattle.flow_anonymize.specs.Outcome.{Outcome, Decision, passed, decision_of, told_with}
 use Rattle.flow_anonymize.specs.Planning.{planned}
 use Rattle.flow_anonymize.specs.Plans.{PlansOf, Discloses}
 use Rattle.flow_anonymize.proofs.PlanLaws.{found_in_cache, there_is}
@@ -27,4 +27,4 @@ returns-in-Some-place_of-clause-given c =
 pub returns-in-Some-place_of-clause-decision : goal.returns-in-Some-place_of-clause-decision
 returns-in-Some-place_of-clause-decision c =
     there_is c.self.inside.cache.slots c.in-Some-place_of.place c.in-Some-place_of.ensures.within (λ slot at.
-    subst (λ (o : Outcome). IfOk c.give.result (λ (d : Decision). d ≡ decision_of o)) (exact c slot at).exact (c.give.ensures.decision slot at))
+    subst (λ (o : Outcome). IfOk c.give.result (λ (d : Decision). d ≡ told_with c.args.tells_all (decision_of o))) (exact c slot at).exact (c.give.ensures.decision slot at))

@@ -2,7 +2,7 @@ use Rattle.std.proofs.Common.{◌≡◌, ◌++◌, ◌∷◌, List, ℕ, Some, I
 use Rattle.std.proofs.lemmas.Result.{IfOk-weaker}
 use Rattle.std.proofs.lemmas.List.{length-map}
 use Rattle.flow_anonymize.specs.Classes.{classes_of}
-use Rattle.flow_anonymize.specs.Outcome.{Decision, passed, decision_of}
+use Rattle.flow_anonymize.specs.Outcome.{Decision, passed, decision_of, told_with}
 use Rattle.flow_anonymize.specs.Plans.{PlansFor, outcome_for}
 use Rattle.mediator_shares.specs.Judges.{Judges, for_of, given_to}
 use Rattle.mediator_shares.proofs.JudgeLaws.{own_for, which_for, set_same}
@@ -24,7 +24,7 @@ which c p at = which_for c.self.inside.judges.items c.args.self.now.fors c.args.
 
 pub returns-clause-decision : goal.returns-clause-decision
 returns-clause-decision c = λ p at.
-    subst (λ (q : PlansFor). IfOk c.disclose.result (λ (d : Decision). d ≡ decision_of (outcome_for q c.args.flow_record.now))) (sym (which c p at)) c.disclose.ensures.decision
+    subst (λ (q : PlansFor). IfOk c.disclose.result (λ (d : Decision). d ≡ told_with c.args.tells_all (decision_of (outcome_for q c.args.flow_record.now)))) (sym (which c p at)) c.disclose.ensures.decision
 
 pub returns-clause-given : goal.returns-clause-given
 returns-clause-given c = λ p before after s at split l.

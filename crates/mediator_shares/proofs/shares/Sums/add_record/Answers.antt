@@ -1,4 +1,5 @@
-use Rattle.std.proofs.Common.{Some, refl, sym, ap, subst, ◌∙◌, arith}
+use Rattle.std.proofs.Common.{Some, length, refl, sym, ap, subst, ◌∙◌, arith}
+use Rattle.std.proofs.lemmas.Bool.{ltb-false}
 use Rattle.flow_anonymize.specs.Classes.{classes_of}
 use Rattle.mediator_shares.specs.Judges.{Judges, JudgeFor}
 use Rattle.mediator_shares.proofs.JudgeLaws.{judge_at, judge_same, template_at, cuts_at, there_for}
@@ -35,7 +36,8 @@ served-preserved c =
     let found = c.in_ok-found.ensures in
     let there = judge_at c.served.judges c.args.in_force.now c.args.domain (Some c.args.flow_record.now.template) c.args.served.now c.served.place _ _ c.served.invariant.1 (omega (arith, l)) refl in (
       adding_step c.args.judges.now.shares c.served.judges.shares c.disclose.new.self.shares c.args.self.now.tallies.items c.served.self.tallies.items c.add.new.self.tallies.items c.args.self.now.notes c.served.self.notes c.add.new.self.notes
-          c.args.domain c.args.in_force.now c.args.index c.args.flow_record.now c.args.served.now c.served.place _ _ c.in_ok-found.found c.served.invariant.0 (omega (arith, l)) refl (found.decision _ there)
+          c.args.domain c.args.in_force.now c.args.index c.args.flow_record.now c.args.served.now c.served.place _ _ c.in_ok-found.found c.keeps_next-tells_all.result c.served.invariant.0 (omega (arith, l)) refl (found.decision _ there)
+          (λ none. ltb-false (length c.served.self.notes.notes) c.served.self.notes.most (sym c.keeps_next-tells_all.ensures ∙ none))
           (λ before after s split at. found.given _ before after s there split at) c.in_ok-add.ensures.tallies found.stay c.in_ok-add.ensures.stay c.in_ok-add.ensures.notes,
       judge_same c.served.judges c.disclose.new.self c.args.in_force.now c.args.domain (Some c.args.flow_record.now.template) c.args.served.now c.served.invariant.1 found.template found.fors found.cuts,
       found.cuts ∙ c.served.invariant.2,
