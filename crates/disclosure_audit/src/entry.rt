@@ -1,5 +1,6 @@
 //! What was kept back from a subscription: of one record, or from one place on.
-ghost use Rattle.std.specs.Prelude.{◌≡◌, ◌==◌, length, take, IfOk};
+ghost use Rattle.std.specs.Prelude.{◌≡◌, ◌==◌, length, take, if◌then◌else◌, IfOk};
+ghost use Rattle.disclosure_audit.specs.Listed.{list_of};
 
 use crate::reason::Reason;
 use std::alloc::{AllocError, Global};
@@ -87,15 +88,26 @@ impl RemovedFields {
         }
     }
 
-    /// The first of them alone, or none where no field was removed. It takes no memory.
-    pub fn first_alone(&self) -> RemovedFields
-        ensures { result ≡ take 1 self.now }
+    /// What is told of these fields: all of them, or the first alone where `tells_all` is false. Then nothing is shared.
+    ///
+    /// # Errors
+    /// Want of memory.
+    pub fn told(&self, tells_all: bool) -> Result<RemovedFields, AllocError>
+        ensures { IfOk result
+            (λ told. told ≡ (if tells_all then self.now else take 1 self.now)) }
     {
-        let listed = match self.as_slice().first() {
-            Some(first) => Listed::One([*first]),
-            None => Listed::None,
+        let listed = match &self.listed {
+            Listed::None => Listed::None,
+            Listed::One(one) => Listed::One(*one),
+            Listed::Shared(fields) => {
+                if tells_all {
+                    Listed::Shared(fields.clone()?)
+                } else {
+                    first_of(fields.as_slice())
+                }
+            }
         };
-        RemovedFields { listed }
+        Ok(RemovedFields { listed })
     }
 
     /// Whether no field was removed.
@@ -103,6 +115,16 @@ impl RemovedFields {
         ensures { result ≡ (length self.now == 0) }
     {
         self.as_slice().is_empty()
+    }
+}
+
+/// The first of `fields` alone, or none.
+fn first_of(fields: &[RemovedField]) -> Listed
+    ensures { list_of result ≡ take 1 fields.now }
+{
+    match fields.first() {
+        Some(first) => Listed::One([*first]),
+        None => Listed::None,
     }
 }
 

@@ -177,7 +177,7 @@ impl Disclosure<Passing> {
         Ok(match self {
             Disclosure::Passed { removed, .. } => Disclosure::Passed {
                 kept: (),
-                removed: told_of(removed, tells_all)?,
+                removed: removed.told(tells_all)?,
             },
             Disclosure::Aggregated { rule, definition } => Disclosure::Aggregated {
                 rule: *rule,
@@ -189,22 +189,6 @@ impl Disclosure<Passing> {
             },
         })
     }
-}
-
-ghost use Rattle.std.specs.Prelude.{take, if◌then◌else◌};
-
-/// What is told of the fields `removed`: all of them, or the first alone where `tells_all` is false.
-///
-/// # Errors
-/// Want of memory.
-pub(crate) fn told_of(removed: &RemovedFields, tells_all: bool) -> Result<RemovedFields, AllocError>
-    ensures { IfOk result
-        (λ told. told ≡ (if tells_all then removed.now else take 1 removed.now)) }
-{
-    if tells_all {
-        return removed.clone();
-    }
-    Ok(removed.first_alone())
 }
 
 ghost use Rattle.flow_anonymize.specs.declared.disclosure.Disclosure.TheVariants.{Passed};

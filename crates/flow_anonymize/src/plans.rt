@@ -8,7 +8,6 @@ ghost use Rattle.flow_anonymize.specs.Plans.{outcome_for, IsSlot};
 
 use crate::by_table::{disclose_by, plan_by};
 use crate::disclosure::Disclosure;
-use crate::plan::told_of;
 use crate::plan_cache::PlanCache;
 use crate::record_classes::RecordClasses;
 use crate::slot::Slot;
@@ -293,7 +292,7 @@ impl Plans {
         )? {
             Disclosure::Passed { kept, removed } => {
                 self.cache.push(kept)?;
-                let removed = told_of(&removed, tells_all)?;
+                let removed = removed.told(tells_all)?;
                 Ok(Disclosure::Passed { kept: (), removed })
             }
             Disclosure::Aggregated { rule, definition } => {

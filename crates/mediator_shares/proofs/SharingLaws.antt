@@ -1,6 +1,6 @@
 -- Shares that grow, one subscription after another and one record after another.
 use Rattle.std.proofs.Common.{◌≡◌, ℕ, zero, suc, ◌+◌, ◌<◌, Bool, true, false, Result, Ok, Err, List, [], ◌∷◌, ◌++◌, length, map, take, drop, sym, ap, ◌∙◌, subst, arith, refl, length-append, append_assoc, append-nil, ◌≤◌}
-use Rattle.std.specs.Prelude.{get_or, set, OnOk}
+use Rattle.std.specs.Prelude.{◌==◌, get_or, set, OnOk}
 use Rattle.std.specs.List.{flat_map, enumerate_from}
 use Rattle.std.proofs.lemmas.List.{map-set, map-append, length-map, take_more, take_all, length-take-le}
 use Rattle.std.proofs.Math.ListN.{get_or-map, drop_of_length-le}
@@ -15,13 +15,14 @@ use Rattle.flow_anonymize.specs.Outcome as outcome
 use Rattle.flow_anonymize.specs.declared.disclosure.Disclosure.TheVariants.{Passed, Aggregated, Withheld}
 use Rattle.flow_anonymize.specs.Outcome.{Outcome, Decision}
 use Rattle.mediator_history.specs.Counting.{counts}
-use Rattle.mediator_history.specs.Auditing.{kept_back}
+use Rattle.mediator_history.specs.Auditing.{kept_back, removed_of}
 use Rattle.mediator_shares.specs.InForce.{InForce}
 use Rattle.mediator_tables.specs.declared.served.Served.{Served}
 use Rattle.mediator_tables.specs.declared.tally.Tally.{Tally}
 use Rattle.disclosure_audit.specs.Noting.{KeptNotes, kept_of, and_more}
+use Rattle.disclosure_audit.specs.declared.entry.RemovedField.{RemovedField}
 use Rattle.disclosure_audit.specs.declared.entry.What.TheVariants.{Removed}
-use Rattle.disclosure_audit.proofs.NotingLaws.{none_more, more_more, kept_more, counted_same}
+use Rattle.disclosure_audit.proofs.NotingLaws.{none_more, more_more, kept_more, counted_more, counted_same}
 use Rattle.mediator_tables.specs.Adding.{tallied}
 use Rattle.mediator_shares.specs.Sharing.{outcome_by, given_by, added_by, kept_by, kept_back_by, counts_by, blank, share_by, shares_of, tallies_of, note_of, notes_on, noted_of_each, notes_of}
 
@@ -154,6 +155,12 @@ kept_back_same : (aggregates : List Aggregate) (clock : ℕ) (r : DataRecord) (o
 kept_back_same aggregates clock r (Passed kept removed) = refl
 kept_back_same aggregates clock r (Aggregated rule definition) = refl
 kept_back_same aggregates clock r (Withheld rule reason) = refl
+
+-- the note of fields that are removed is counted alone, where no more are kept
+pub counted_removed : (k : KeptNotes) (index sub : ℕ) (removed : List RemovedField) → (length removed == 0) ≡ false → k.most ≤ length k.notes
+    → and_more k (map (note_of index sub) (removed_of removed)) ≡ record { notes = k.notes; count = k.count + 1; most = k.most }
+counted_removed k index sub [] some full = absurd cc
+counted_removed k index sub (field ∷ fields) some full = counted_more k (note_of index sub (Removed (field ∷ fields))) full
 
 -- nothing that counts is told in the fields that are removed
 counts_told : (tells : Bool) (aggregates : List Aggregate) (clock : ℕ) (r : DataRecord) (d : Decision) → counts_by aggregates clock r (outcome.told_with tells d) ≡ counts_by aggregates clock r d

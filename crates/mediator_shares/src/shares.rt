@@ -11,6 +11,7 @@ ghost use Rattle.mediator_tables.specs.SubscriptionTable.{shown};
 ghost use Rattle.mediator_tables.specs.Adding.{tallied};
 ghost use Rattle.mediator_shares.specs.Sharing.{blank, counts_by, kept_back_by, shares_of, tallies_of, notes_of, note_of, noted_of_each};
 ghost use Rattle.disclosure_audit.specs.Noting.{kept_of, and_more};
+ghost use Rattle.disclosure_audit.specs.declared.entry.What.TheVariants.{Withheld};
 
 use crate::in_force::InForce;
 use crate::judges::Judges;
@@ -275,9 +276,7 @@ impl Sums {
                     None => Ok(()),
                 }
             }
-            Disclosure::Withheld { rule, reason } => {
-                self.note(index, sub, What::Withheld { rule, reason })
-            }
+            Disclosure::Withheld { rule, reason } => self.note_withheld(index, sub, rule, reason),
         }
     }
 
@@ -316,7 +315,32 @@ impl Sums {
         if removed.is_empty() {
             return Ok(());
         }
+        if !self.notes.keeps_next() {
+            return self.notes.count_one();
+        }
         self.note(index, sub, What::Removed { fields: removed })
+    }
+
+    /// Notes that the record at `index` is withheld from the subscription with the number `sub`, by the rule with the
+    /// number `rule`.
+    ///
+    /// # Errors
+    /// Want of memory.
+    fn note_withheld(
+        &mut self,
+        index: u32,
+        sub: u64,
+        rule: u32,
+        reason: Reason,
+    ) -> Result<(), AllocError>
+        ensures notes { OnOk result (self.new.notes
+            ≡ and_more self.old.notes (note_of index sub (Withheld rule reason) ∷ [])) }
+        ensures tallies { self.new.tallies ≡ self.old.tallies }
+    {
+        if !self.notes.keeps_next() {
+            return self.notes.count_one();
+        }
+        self.note(index, sub, What::Withheld { rule, reason })
     }
 
     /// Notes that `what` became of the record at `index` for the subscription with the number `sub`.
@@ -328,9 +352,6 @@ impl Sums {
             ≡ and_more self.old.notes (note_of index sub what ∷ [])) }
         ensures tallies { self.new.tallies ≡ self.old.tallies }
     {
-        if !self.notes.keeps_next() {
-            return self.notes.count_one();
-        }
         self.notes.push(Note { index, sub, what })
     }
 }
