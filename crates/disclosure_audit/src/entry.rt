@@ -96,17 +96,10 @@ impl RemovedFields {
         ensures { IfOk result
             (λ told. told ≡ (if tells_all then self.now else take 1 self.now)) }
     {
-        let listed = match &self.listed {
-            Listed::None => Listed::None,
-            Listed::One(one) => Listed::One(*one),
-            Listed::Shared(fields) => {
-                if tells_all {
-                    Listed::Shared(fields.clone()?)
-                } else {
-                    first_of(fields.as_slice())
-                }
-            }
-        };
+        if tells_all {
+            return self.clone();
+        }
+        let listed = first_of(self.as_slice());
         Ok(RemovedFields { listed })
     }
 
