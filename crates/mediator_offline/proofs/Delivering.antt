@@ -3,11 +3,13 @@ use Rattle.std.proofs.Common.{◌≡◌, ℕ, ◌+◌, ◌*◌, ◌≤◌, ◌<�
 use Rattle.std.specs.List.{concat}
 use Rattle.std.specs.Io.KnownBytes.{Appends}
 use Rattle.std.proofs.KnownBytes.{Appends-trans, Appends-nil}
+use Rattle.std.proofs.Math.Seq.{take-append_seam}
 use Rattle.std.proofs.lemmas.List.{take-append-drop, length-take}
 use Rattle.ipfix_template.specs.DataRecord.{DataRecord}
 use Rattle.subscriber_stream.specs.Shapes.{shapes_of, is_among, id_of}
 use Rattle.subscriber_stream.specs.Parts.{Part, Announcement, Entry, parts, parts_at, records_in}
 use Rattle.subscriber_stream.specs.Message.{run_length, parts_taken, next_message, built, place_after}
+use Rattle.subscriber_stream.specs.Calls.{message_if}
 use Rattle.stream_meaning.specs.Served.{AreStreamable}
 use Rattle.stream_meaning.proofs.Tables.{empty, AreKnown, after_parts}
 use Rattle.stream_meaning.proofs.Sets.{known_split}
@@ -28,18 +30,19 @@ use Rattle.event_journal.specs.declared.entry.Entry.{Entry as HistoryEntry}
 use Rattle.mediator_history.specs.Auditing.{audit_list}
 use Rattle.mediator_history.specs.Disclosed.{disclosed}
 use Rattle.subscriber_stream.proofs.CallLaws.{run_some}
-use Rattle.stream_meaning.proofs.Runs.{some_message}
 use Rattle.std.proofs.lemmas.Option.{same_Some}
-use Rattle.sequences.proofs.ListLaws.{take-add-append, concat_push}
+use Rattle.sequences.proofs.ListLaws.{concat_push}
 use Rattle.mediator_offline.specs.declared.run.OfflineRun.{OfflineRun}
 use Rattle.mediator_offline.specs.Runs.{tells, audit_drained, RunStands, Small, IsServing, SameButState, KeepsAudit}
 use Rattle.mediator_offline.specs.HandsOut.{HandsOutAll}
 use Rattle.mediator_offline.proofs.Receiving.{within_end}
 use Rattle.mediator_offline.specs.Offline.{end_of}
 use Rattle.mediator_offline.specs.declared.job.Fault.{Fault}
-use Rattle.mediator_offline.specs.declared.job.Fault.TheVariants.{Write, Mediator}
+use Rattle.mediator_offline.specs.declared.job.Fault.TheVariants.{Mediator}
 use Rattle.mediator_state.specs.declared.fault.Fault.TheVariants as fault
-use Rattle.mediator_offline.specs.Pulling.{IsDeliveringRun, PullsMessage, Delivers, StopsDelivery, FailsDelivery}
+use Rattle.mediator_offline.specs.Gathering.{and_gathered, IsGathered, StopsGathered}
+use Rattle.mediator_offline.specs.Pulling.{IsDeliveringRun, PullsMessage, Delivers, FailsDelivery}
+use Rattle.mediator_offline.proofs.GatheringLaws.{none_gathered, gathered_more, more_written}
 
 -- ---- a message is pulled
 
@@ -303,38 +306,64 @@ turn_smaller old d e f held holds m start so p state =
       length-drop q (parts (disclosed 1 h)),
     )
 
--- ---- what was gathered is written
+-- ---- what is gathered, and is written
 
-pub all_delivered : {Q : Type 0} (old new : OfflineRun Q) (held holds : Option (List ℕ)) (text : List ℕ) → Delivers old new (Some []) (Some text) → Appends held holds text → Delivers old new held holds
-all_delivered old new held holds text d writing = record {
+-- what stood in front stays there
+pub front_stays : {Q : Type 0} (old d : OfflineRun Q) (before text : List ℕ) → IsPulling old d (Some before) (Some text) → take (length before) text ≡ before
+front_stays old d before text so = ap (take (length before)) so.written ∙ take-append_seam before (concat so.messages)
+
+-- all was gathered behind what waited to be written
+pub delivers_gathered : {Q : Type 0} (old new : OfflineRun Q) (written : Option (List ℕ)) (before gathered : List ℕ) → Delivers old new (Some before) (Some gathered) → Delivers old new (and_gathered written before) (and_gathered written gathered)
+delivers_gathered old new written before gathered d = record {
   job = d.job;
   audit = d.audit;
   messages = d.messages;
   handed = d.handed;
-  written = subst (Appends held holds) d.written writing;
+  written = gathered_more written before gathered (concat d.messages) d.written;
   sent = d.sent;
   few = d.few;
 }
 
-pub all_fits : {Q : Type 0} (old new : OfflineRun Q) (text : List ℕ) → IsDeliveringRun old → Delivers old new (Some []) (Some text) → old.sent + length text < 2 ^ 64
-all_fits old new text start d = omega (arith, d.sent, ap length d.written, d.few start.place start.sent start.history start.stands start.small, parts_few (disclosed 1 start.history), start.small.listed, start.small.entries)
-
--- the writer failed after n octets
-pub write_fails : {Q : Type 0} (old new : OfflineRun Q) (held holds : Option (List ℕ)) (text : List ℕ) (n : ℕ) (e : Fault) (failed : Bool) → Delivers old new (Some []) (Some text) → e ≡ Write (old.sent + n) → WritesFront held holds text n failed
-    → FailsDelivery e old held holds failed
-write_fails old new held holds text n e failed d is front = rw is (record {
+-- and written
+pub delivers_written : {Q : Type 0} (old new : OfflineRun Q) (held holds : Option (List ℕ)) (before gathered left : List ℕ) → Delivers old new (Some before) (Some gathered) → Appends held holds gathered → left ≡ [] → Delivers old new (and_gathered held before) (and_gathered holds left)
+delivers_written old new held holds before gathered left d writing none = record {
+  job = d.job;
+  audit = d.audit;
   messages = d.messages;
-  handed = λ h p so small. (end_of h, (d.handed h p so small).0);
-  stops = (n, refl, subst (λ t. WritesFront held holds t n failed) d.written front);
+  handed = d.handed;
+  written = more_written held holds before gathered left (concat d.messages) d.written writing none;
+  sent = d.sent;
+  few = d.few;
+}
+
+pub delivers_counts : {Q : Type 0} (old new : OfflineRun Q) (before gathered : List ℕ) → IsGathered old before → Delivers old new (Some before) (Some gathered) → length gathered ≤ new.sent
+delivers_counts old new before gathered so d = omega (arith, so.counted, d.sent, ap (λ (t : List ℕ). length t) d.written, length-append before (concat d.messages))
+
+-- the writer failed
+pub write_fails : {Q : Type 0} (old new : OfflineRun Q) (held holds : Option (List ℕ)) (before gathered left : List ℕ) (e : Fault) (failed : Bool) → IsGathered old before → Delivers old new (Some before) (Some gathered) → StopsGathered e new.sent gathered held holds failed → left ≡ []
+    → FailsDelivery e old before held (and_gathered holds left) failed
+write_fails old new held holds before gathered left e failed so d stops none = rw stops.is (record {
+  messages = d.messages;
+  handed = λ h p stands small. (end_of h, (d.handed h p stands small).0);
+  stops = (
+    stops.front,
+    omega (arith, delivers_counts old new before gathered so d, so.counted, d.sent, ap (λ (t : List ℕ). length t) d.written, length-append before (concat d.messages)),
+    subst (λ w. WritesFront held w (before ++ concat d.messages) stops.front failed) (sym (ap (and_gathered holds) none ∙ none_gathered holds))
+        (subst (λ t. WritesFront held holds t stops.front failed) d.written stops.inside),
+  );
 })
 
--- memory ran out, and nothing was written
-pub memory_fails : {Q : Type 0} (old : OfflineRun Q) (held : Option (List ℕ)) (e : Fault) (failed : Bool) → e ≡ Mediator fault.OutOfMemory → FailsDelivery e old held held failed
-memory_fails old held e failed is = rw is (record {
+-- memory ran out, and nothing more was gathered
+pub memory_fails : {Q : Type 0} (old : OfflineRun Q) (held : Option (List ℕ)) (before left : List ℕ) (e : Fault) (failed : Bool) → e ≡ Mediator fault.OutOfMemory → left ≡ before → FailsDelivery e old before held (and_gathered held left) failed
+memory_fails old held before left e failed is same = rw is (record {
   messages = [];
   handed = λ h p so small. (p, refl);
-  stops = Appends-nil held;
+  stops = subst (λ t. Appends (and_gathered held before) (and_gathered held t) []) (sym same) (Appends-nil (and_gathered held before));
 })
 
-pub some_same : (o : Option (List ℕ)) (a b : List ℕ) → o ≡ Some a → b ≡ a → o ≡ Some b
-some_same o a b is same = is ∙ ap some_message (sym same)
+-- whether there was a message
+pub pulled_some : {Q : Type 0} (d e : OfflineRun Q) (there : Bool) (m : List ℕ) → there ≡ true → Pulled d e (message_if there m) → Pulled d e (Some m)
+pulled_some d e there m is p = subst (λ b. Pulled d e (message_if b m)) is p
+
+pub pulled_none : {Q : Type 0} (d e : OfflineRun Q) (there : Bool) (m : List ℕ) → there ≡ false → Pulled d e (message_if there m) → Pulled d e None
+pulled_none d e there m is p = subst (λ b. Pulled d e (message_if b m)) is p

@@ -4,7 +4,6 @@ use Rattle.std.specs.Prelude.{is_some, IfSome}
 use Rattle.std.specs.List.{concat}
 use Rattle.std.specs.Io.KnownBytes.{Appends}
 use Rattle.std.proofs.KnownBytes.{Appends-trans, Appends-nil}
-use Rattle.std.proofs.lemmas.List.{take-append-le}
 use Rattle.std.proofs.lemmas.List.Folds.{concat-append}
 use Rattle.ipfix_template.specs.DataRecord.{DataRecord}
 use Rattle.subscriber_stream.specs.Parts.{parts}
@@ -37,9 +36,11 @@ use Rattle.mediator_offline.specs.Runs.{tells, listed, audit_waiting, KeepsAsked
 use Rattle.mediator_offline.specs.Steps.{TakesMessage}
 use Rattle.mediator_offline.specs.Accepting.{AcceptsMessage, RefusesOctets, AreAccepted}
 use Rattle.mediator_offline.specs.HandsOut.{HandsOutAll}
+use Rattle.mediator_offline.specs.Gathering.{and_gathered}
 use Rattle.mediator_offline.specs.Pulling.{Delivers, StopsDelivery, FailsDelivery}
 use Rattle.mediator_offline.specs.Filtering.{WritesPart, StopsAtMessage}
 use Rattle.mediator_offline.specs.Running.{IsRunning, RunsSomewhere}
+use Rattle.mediator_offline.proofs.GatheringLaws.{front_longer, stops_inside}
 use Rattle.mediator_offline.proofs.Delivering.{streamable_of, stands_on}
 use Rattle.mediator_offline.proofs.Receiving.{waits_added, within_end}
 use Rattle.mediator_offline.proofs.OneMore.{history_more, due_more, audit_more, lines_more, ended, pulled-ended, handed_front, handed_all, handed_few}
@@ -284,11 +285,11 @@ stops_recording f d1 d3 job messages octets before mid after r k cause kept some
       audit = lines;
     }
 
--- the message was accepted, and its delivery stops; the audit is as it was
-pub stops_delivering : {Q : Type 0} (f : Fault) (d1 d2 : OfflineRun Q) (job : OfflineJob) (messages : List (List ℕ)) (octets : List ℕ) (before mid : Outputs) (writes : Option (List ℕ)) (failed afailed : Bool)
-    → IsRunning d1 job messages before mid → TakesMessage d1 octets false d2 → d2.job ≡ d1.job → d2.sent ≡ d1.sent → d2.job.target < 2 ^ 16 → FailsDelivery f d2 mid.written writes failed
-    → StopsAtMessage f job messages (due job messages) octets before (holding writes mid.audited failed afailed)
-stops_delivering f d1 d2 job messages octets before mid writes failed afailed r receives same sent_same low fails = by f fails.stops
+-- the message was accepted, and its delivery stops, behind what was gathered; the audit is as it was
+pub stops_delivering : {Q : Type 0} (f : Fault) (d1 d2 : OfflineRun Q) (job : OfflineJob) (messages : List (List ℕ)) (octets gathered : List ℕ) (before : Outputs) (held audited writes : Option (List ℕ)) (had failed afailed : Bool)
+    → IsRunning d1 job messages before (holding (and_gathered held gathered) audited had afailed) → TakesMessage d1 octets false d2 → d2.job ≡ d1.job → d2.sent ≡ d1.sent → d2.job.target < 2 ^ 16 → FailsDelivery f d2 gathered held writes failed
+    → StopsAtMessage f job messages (due job messages) octets before (holding writes audited failed afailed)
+stops_delivering f d1 d2 job messages octets gathered before held audited writes had failed afailed r receives same sent_same low fails = by f fails.stops
   where
     begin : ℕ
     begin = end_of (history_of job messages)
@@ -306,23 +307,17 @@ stops_delivering f d1 d2 job messages octets before mid writes failed afailed r 
     front = handed_front (length (parts (disclosed_by job (messages ++ octets ∷ [])))) (disclosed_by job (messages ++ octets ∷ [])) job.now job.target begin del.0 fails.messages hands
         (few_in_hand d2 job messages octets del.0 fails.messages on (subst (λ j. j.target < 2 ^ 16) (same ∙ r.job_is) low) hands)
 
-    whole : concat (due job (messages ++ octets ∷ [])) ≡ concat (due job messages) ++ (concat fails.messages ++ concat front.0)
+    whole : concat (due job (messages ++ octets ∷ [])) ≡ (concat (due job messages) ++ concat fails.messages) ++ concat front.0
     whole = ap concat (due_more job messages octets ∙ ap (λ ms. due job messages ++ ms) front.1) ∙ concat-append (due job messages) (fails.messages ++ front.0) ∙ ap (λ t. concat (due job messages) ++ t) (concat-append fails.messages front.0)
+        ∙ sym (append_assoc (concat (due job messages)) (concat fails.messages) (concat front.0))
 
-    writes_front : (n : ℕ) (sent : ℕ) → sent ≡ d2.sent + n → WritesFront mid.written writes (concat fails.messages) n failed
+    writes_front : (n : ℕ) (sent : ℕ) → sent + length gathered ≡ d2.sent + n → WritesFront held writes (gathered ++ concat fails.messages) n failed
         → WritesFront before.written writes (concat (due job (messages ++ octets ∷ []))) sent failed
-    writes_front n sent is w = record {
-      short = omega (arith, is, sent_same, r.sent, w.short, ap length whole, length-append (concat (due job messages)) (concat fails.messages ++ concat front.0), length-append (concat fails.messages) (concat front.0));
-      written = subst (Appends before.written writes) (sym taken) (Appends-trans before.written mid.written writes (concat (due job messages)) (take n (concat fails.messages)) r.writes.stream w.written);
-      failed = w.failed;
-    }
-      where
-        taken : take sent (concat (due job (messages ++ octets ∷ []))) ≡ concat (due job messages) ++ take n (concat fails.messages)
-        taken = ap (λ k. take k (concat (due job (messages ++ octets ∷ [])))) (is ∙ ap (λ k. k + n) (sent_same ∙ r.sent)) ∙ ap (take (length (concat (due job messages)) + n)) whole
-            ∙ take-add-append (concat (due job messages)) (concat fails.messages ++ concat front.0) n
-            ∙ ap (λ t. concat (due job messages) ++ t) (take-append-le n (concat fails.messages) (concat front.0) (omega (arith, w.short)))
+    writes_front n sent counted w = subst (λ t. WritesFront before.written writes t sent failed) (sym whole)
+        (front_longer before.written writes (concat (due job messages) ++ concat fails.messages) (concat front.0) sent failed
+        (stops_inside before.written held writes gathered (concat fails.messages) (concat (due job messages)) n sent failed r.writes.stream (omega (arith, counted, sent_same, r.sent)) w))
 
-    memory : Appends mid.written writes (concat fails.messages) → WritesPart job messages (due job messages) octets before (holding writes mid.audited failed afailed)
+    memory : Appends (and_gathered held gathered) writes (concat fails.messages) → WritesPart job messages (due job messages) octets before (holding writes audited failed afailed)
     memory so =
         let none = nothing_in_hand d1 job messages octets r in
         record {
@@ -330,11 +325,11 @@ stops_delivering f d1 d2 job messages octets before mid writes failed afailed r 
           others = front.0;
           due = due_in_hand job messages octets fails.messages front.0 front.1;
           stream = subst (Appends before.written writes) (sym (concat-append (due job messages) fails.messages))
-              (Appends-trans before.written mid.written writes (concat (due job messages)) (concat fails.messages) r.writes.stream so);
+              (Appends-trans before.written (and_gathered held gathered) writes (concat (due job messages)) (concat fails.messages) r.writes.stream so);
           audit = none.audit;
         }
 
-    by : (g : Fault) → StopsDelivery g d2 mid.written writes failed fails.messages → StopsAtMessage g job messages (due job messages) octets before (holding writes mid.audited failed afailed)
+    by : (g : Fault) → StopsDelivery g d2 gathered held writes failed fails.messages → StopsAtMessage g job messages (due job messages) octets before (holding writes audited failed afailed)
     by (Write sent) s = (
       receives.accepts (history_of job messages) r.stands r.small,
       (due job (messages ++ octets ∷ []), due_found job (messages ++ octets ∷ []), writes_front s.0 sent s.1 s.2),

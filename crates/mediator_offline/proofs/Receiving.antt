@@ -1,7 +1,7 @@
 -- A message that a run accepts, or refuses.
 use Rattle.std.proofs.Common.{◌≡◌, ℕ, ◌+◌, ◌≤◌, ◌<◌, ◌^◌, ◌⊎◌, inl, inr, Bool, true, false, List, [], ◌∷◌, ◌++◌, length, drop, map, Option, Some, None, Result, Ok, Err, refl, sym, ap, ◌∙◌, subst, arith, append_assoc, append-nil, length-append}
 use Rattle.std.specs.Result.{IsErr, IsErrAnd, IfErr}
-use Rattle.std.specs.Prelude.{filter, nat_lt, take, OnOk}
+use Rattle.std.specs.Prelude.{filter, nat_lt, take, OnOk, OnErr}
 use Rattle.std.specs.List.{flat_map, enumerate_from}
 use Rattle.std.proofs.lemmas.Bool.{ltb-true, ltb-false}
 use Rattle.std.proofs.lemmas.List.{drop_all, take_all, length_push, length-map, length-drop}
@@ -58,6 +58,19 @@ use Rattle.event_journal.specs.declared.limits.TheConstants.{MOST_ENTRIES, MOST_
 pub err_gives : {X E : Type 0} {P Q : E → Type 0} (r : Result X E) → IsErr r × IsErrAnd r P → ((e : E) → P e → Q e) → IfErr r Q
 err_gives (Ok x) known f = tt
 err_gives (Err e) known f = f e known.1
+
+pub on_err : {X E : Type 0} {P : Type 0} (r : Result X E) → P → OnErr r P
+on_err (Ok x) p = tt
+on_err (Err e) p = p
+
+-- what follows of an answer
+pub ok_leads : {X E : Type 0} {P Q : Type 0} (r : Result X E) → OnOk r P → (P → Q) → OnOk r Q
+ok_leads (Ok x) known f = f known
+ok_leads (Err e) known f = tt
+
+pub err_leads : {X E : Type 0} {P Q : E → Type 0} (r : Result X E) → IfErr r P → ((e : E) → P e → Q e) → IfErr r Q
+err_leads (Ok x) known f = tt
+err_leads (Err e) known f = f e known
 
 -- ---- where the subscription stands
 
@@ -254,7 +267,7 @@ received old new octets r t = record {
 octets_few : (h : List Entry) (octets : List ℕ) → HasRoomAfter journal_limits h (next_message h octets ∷ []) → length octets < 2 ^ 32
 octets_few h octets room = room.spelled 0 (next_message h octets) (omega arith)
 
-pub records_fit : (old new : OfflineRun Q) (octets : List ℕ) (r : Receipt) → HasDelivered old → calls.GoesOnBy tells (λ t. t.limits) old.state new.state (calls.ReceivesAfter old.state.engine 1 old.messages octets r) → old.records + r.records < 2 ^ 64
+pub records_fit : {Q : Type 0} (old new : OfflineRun Q) (octets : List ℕ) (r : Receipt) → HasDelivered old → calls.GoesOnBy tells (λ t. t.limits) old.state new.state (calls.ReceivesAfter old.state.engine 1 old.messages octets r) → old.records + r.records < 2 ^ 64
 records_fit old new octets r had receives =
     omega (arith, had.stands.records, had.small.records, had.small.octets, ap (λ x. x.records) got.receipt, ap (λ x. length (records_meant x)) (sym got.means), few_records (messages_of 1 had.history) octets, long)
   where

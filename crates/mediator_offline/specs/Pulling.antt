@@ -1,5 +1,5 @@
 -- The messages that are pulled one after another, and what was written of them.
-use Rattle.std.specs.Prelude.{◌≡◌, ℕ, ◌+◌, ◌*◌, ◌≤◌, Bool, List, length, Option}
+use Rattle.std.specs.Prelude.{◌≡◌, ℕ, ◌+◌, ◌*◌, ◌≤◌, Bool, List, ◌++◌, length, Option}
 use Rattle.std.specs.List.{concat}
 use Rattle.std.specs.Io.KnownBytes.{Appends}
 use Rattle.ipfix_octets.specs.MessageFormat.{longest_message}
@@ -13,6 +13,7 @@ use Rattle.mediator_offline.specs.declared.job.Fault.TheVariants.{Write, Mediato
 use Rattle.mediator_offline.specs.declared.run.OfflineRun.{OfflineRun}
 use Rattle.mediator_offline.specs.Runs.{RunStands, Small, KeepsAudit}
 use Rattle.mediator_offline.specs.HandsOut.{HandsOutAll}
+use Rattle.mediator_offline.specs.Gathering.{and_gathered}
 use Rattle.mediator_offline.specs.Offline.{end_of}
 
 -- a run that stands somewhere in what it discloses, and counts what it has written
@@ -38,14 +39,15 @@ pub record Delivers {Q : Type 0} (old new : OfflineRun Q) (held holds : Option (
   pub sent : new.sent ≡ old.sent + length (concat messages)
   pub few : (p : ℕ) → old.sent ≤ longest_message * p → (h : List Entry) → RunStands old h p → Small h → new.sent ≤ longest_message * end_of h
 
--- a front of the messages that waited was written: whole ones where memory ran out, and up to an octet where the writer
--- failed
-abbrev pub StopsDelivery : {Q : Type 0} → Fault → OfflineRun Q → Option (List ℕ) → Option (List ℕ) → Bool → List (List ℕ) → Type 0
-StopsDelivery (Write sent) old held holds failed messages = (n : ℕ) × (sent ≡ old.sent + n) × WritesFront held holds (concat messages) n failed
-StopsDelivery (Mediator fault.OutOfMemory) old held holds failed messages = Appends held holds (concat messages)
-StopsDelivery _ old held holds failed messages = ⊥
+-- a front of what was gathered and of the messages that waited was written: all that was gathered, and whole messages, where
+-- memory ran out, and up to an octet where the writer failed
+abbrev pub StopsDelivery : {Q : Type 0} → Fault → OfflineRun Q → List ℕ → Option (List ℕ) → Option (List ℕ) → Bool → List (List ℕ) → Type 0
+StopsDelivery (Write sent) old gathered held holds failed messages = (n : ℕ) × (sent + length gathered ≡ old.sent + n) × WritesFront held holds (gathered ++ concat messages) n failed
+StopsDelivery (Mediator fault.OutOfMemory) old gathered held holds failed messages = Appends (and_gathered held gathered) holds (concat messages)
+StopsDelivery _ old gathered held holds failed messages = ⊥
 
-pub record FailsDelivery {Q : Type 0} (e : Fault) (old : OfflineRun Q) (held holds : Option (List ℕ)) (failed : Bool) : Type 0 where
+-- behind what was gathered for the writer
+pub record FailsDelivery {Q : Type 0} (e : Fault) (old : OfflineRun Q) (gathered : List ℕ) (held holds : Option (List ℕ)) (failed : Bool) : Type 0 where
   pub messages : List (List ℕ)
   pub handed : (h : List Entry) (p : ℕ) → RunStands old h p → Small h → (q : ℕ) × HandsOutAll (disclosed 1 h) old.job.now old.job.target p messages q
-  pub stops : StopsDelivery e old held holds failed messages
+  pub stops : StopsDelivery e old gathered held holds failed messages

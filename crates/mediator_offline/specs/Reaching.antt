@@ -1,13 +1,15 @@
 -- How far a run over a whole stream has come.
 use Rattle.std.specs.Prelude.{◌≡◌, ℕ, ◌+◌, ◌*◌, ◌≤◌, List, ◌∷◌, ◌++◌, length, None, []}
-use Rattle.std.specs.Io.KnownBytes.{Consumes, IsAtEnd}
+use Rattle.std.specs.List.{concat}
+use Rattle.std.specs.Io.KnownBytes.{Appends, Consumes, IsAtEnd}
 use Rattle.ipfix_message.specs.Framing.{IsFramed}
 use Rattle.ipfix_reader.specs.Intake.{IntakeState}
 use Rattle.mediator_offline.specs.declared.job.OfflineJob.{OfflineJob}
 use Rattle.mediator_offline.specs.declared.job.Fault.{Fault}
 use Rattle.mediator_offline.specs.declared.run.OfflineRun.{OfflineRun}
 use Rattle.mediator_offline.specs.Ports.{Outputs, Ports}
-use Rattle.mediator_offline.specs.Offline.{due}
+use Rattle.mediator_offline.specs.Offline.{history_of, due, audit_due}
+use Rattle.mediator_offline.specs.Accepting.{AcceptsMessage}
 use Rattle.mediator_offline.specs.Filtering.{AreReadBut, Filters, StopsAtMessage}
 use Rattle.mediator_offline.specs.Running.{IsRunning}
 
@@ -25,6 +27,25 @@ pub record StopsAmong {Q : Type 0} (e : Fault) (old : OfflineRun Q) (more : List
   pub stops : (job : OfflineJob) (messages : List (List ℕ)) (first : Outputs) → IsRunning old job messages first before
       → Filters job (messages ++ done) (due job (messages ++ done))
       × StopsAtMessage e job (messages ++ done) (due job (messages ++ done)) message first after
+
+-- this message was the last one that was handled, behind others; what is due for all of them ends with so many octets. The lines of
+-- the audit are due up to it, since it adds none
+pub record WritesLast (job : OfflineJob) (messages : List (List ℕ)) (octets : List ℕ) (sent : ℕ) (first after : Outputs) : Type 0 where
+  pub filters : Filters job messages (due job messages)
+  pub accepts : AcceptsMessage (history_of job messages) octets
+  pub counted : sent ≡ length (concat (due job (messages ++ octets ∷ [])))
+  pub stream : Appends first.written after.written (concat (due job (messages ++ octets ∷ [])))
+  pub audit : Appends first.audited after.audited (audit_due job messages)
+
+-- one of these messages was the last one that was handled
+pub record HandlesLast {Q : Type 0} (old : OfflineRun Q) (sent : ℕ) (all : List (List ℕ)) (before after : Outputs) : Type 0 where
+  pub done : List (List ℕ)
+  pub message : List ℕ
+  pub later : List (List ℕ)
+  pub parts : all ≡ done ++ message ∷ later
+  pub sound : after.audit_failed ≡ before.audit_failed
+  pub handled : (job : OfflineJob) (messages : List (List ℕ)) (first : Outputs) → IsRunning old job messages first before
+      → WritesLast job (messages ++ done) message sent first after
 
 -- a run and an intake after what was read
 pub record IsAfter {Q : Type 0} (d : OfflineRun Q) (i : IntakeState) (job : OfflineJob) (before after : Ports) : Type 0 where

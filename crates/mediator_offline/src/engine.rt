@@ -1,10 +1,12 @@
 //! Reads a whole stream, and handles each of its messages.
-ghost use Rattle.std.specs.Prelude.{◌≡◌, false, IfOk, IfErr, OnOk};
+ghost use Rattle.std.specs.Prelude.{◌≡◌, ◌<◌, [], false, length, IfOk, IfErr, OnOk};
 ghost use Rattle.mediator_offline.specs.Ports.{holding, with_left};
 ghost use Rattle.mediator_offline.specs.Failing.{FailsOnly};
+ghost use Rattle.mediator_offline.specs.Gathering.{and_gathered, IsGathered};
 ghost use Rattle.mediator_offline.specs.Running.{RunsSomewhere};
-ghost use Rattle.mediator_offline.specs.Reaching.{HandlesAll, StopsAmong};
+ghost use Rattle.mediator_offline.specs.Reaching.{HandlesAll, HandlesLast, StopsAmong};
 
+use crate::delivery::write_gathered;
 use crate::job::{Fault, OfflineJob, OfflineReport};
 use crate::run::{OfflineRun, SUBSCRIPTION};
 use bytes::Bytes;
@@ -15,13 +17,15 @@ use octet_io::{Sink, Source};
 use std::alloc::Global;
 
 impl<'a, Q: AuditQueue + Drop> OfflineRun<'a, Q> {
-    /// Handles messages, one after another, with `writer` for the subscriber's messages and `audit_writer` for the audit.
+    /// Handles messages, one after another, with `writer` for the subscriber's messages and `audit_writer` for the audit. What is
+    /// gathered of them in `gathered`, where there is nothing before, is written when they are handled, whatever comes.
     ///
     /// # Errors
-    /// Those of the first that is not handled.
+    /// Those of the first that is not handled; or the writer failed.
     fn handle_all<W: Sink, A: Sink>(
         &mut self,
         messages: Vec<Bytes>,
+        gathered: &mut Vec<u8>,
         writer: &mut W,
         audit_writer: &mut A,
     ) -> Result<(), Fault>
@@ -29,12 +33,14 @@ impl<'a, Q: AuditQueue + Drop> OfflineRun<'a, Q> {
             (holding (W.contents writer.old) (A.contents audit_writer.old)
             (W.has_failed writer.old) (A.has_failed audit_writer.old)) }
         requires asked { self.old.job.audit ≡ Q.KEEPS }
-        // Each message was handled.
+        requires none { gathered.old.items ≡ [] }
+        // Each message was handled, and nothing is left to be written.
         ensures ok { OnOk result (HandlesAll self.old self.new messages.items
             (holding (W.contents writer.old) (A.contents audit_writer.old)
             (W.has_failed writer.old) (A.has_failed audit_writer.old))
             (holding (W.contents writer.new) (A.contents audit_writer.new)
             (W.has_failed writer.new) (A.has_failed audit_writer.new))) }
+        ensures none { gathered.new.items ≡ [] }
         ensures stays { OnOk result (W.has_failed writer.new ≡ W.has_failed writer.old) }
         ensures audit_stays { OnOk result (A.has_failed audit_writer.new
             ≡ A.has_failed audit_writer.old) }
@@ -49,8 +55,64 @@ impl<'a, Q: AuditQueue + Drop> OfflineRun<'a, Q> {
             (holding (W.contents writer.new) (A.contents audit_writer.new)
             (W.has_failed writer.new) (A.has_failed audit_writer.new))) }
     {
+        let handled = self.handle_each(messages, gathered, writer, audit_writer);
+        write_gathered(gathered, self.sent, writer)?;
+        handled
+    }
+
+    /// Handles messages as [`handle_all`](OfflineRun::handle_all) does, but for what is still to be written in the end.
+    ///
+    /// # Errors
+    /// Those of the first that is not handled.
+    fn handle_each<W: Sink, A: Sink>(
+        &mut self,
+        messages: Vec<Bytes>,
+        gathered: &mut Vec<u8>,
+        writer: &mut W,
+        audit_writer: &mut A,
+    ) -> Result<(), Fault>
+        requires running { RunsSomewhere self.old
+            (holding (and_gathered (W.contents writer.old) gathered.old.items)
+            (A.contents audit_writer.old)
+            (W.has_failed writer.old) (A.has_failed audit_writer.old)) }
+        requires asked { self.old.job.audit ≡ Q.KEEPS }
+        requires none { gathered.old.items ≡ [] }
+        // Each message was handled.
+        ensures ok { OnOk result (HandlesAll self.old self.new messages.items
+            (holding (and_gathered (W.contents writer.old) gathered.old.items)
+            (A.contents audit_writer.old)
+            (W.has_failed writer.old) (A.has_failed audit_writer.old))
+            (holding (and_gathered (W.contents writer.new) gathered.new.items)
+            (A.contents audit_writer.new)
+            (W.has_failed writer.new) (A.has_failed audit_writer.new))) }
+        ensures gathers { IsGathered self.new gathered.new.items }
+        ensures stays { OnOk result (W.has_failed writer.new ≡ W.has_failed writer.old) }
+        ensures audit_stays { OnOk result (A.has_failed audit_writer.new
+            ≡ A.has_failed audit_writer.old) }
+        // Which device has failed; and which messages were handled before.
+        ensures fails { IfErr result (λ e.
+            FailsOnly e (W.has_failed writer.old) (A.has_failed audit_writer.old) false
+            (W.has_failed writer.new) (A.has_failed audit_writer.new)) }
+        ensures err { IfErr result (λ e.
+            StopsAmong e self.old messages.items
+            (holding (and_gathered (W.contents writer.old) gathered.old.items)
+            (A.contents audit_writer.old)
+            (W.has_failed writer.old) (A.has_failed audit_writer.old))
+            (holding (and_gathered (W.contents writer.new) gathered.new.items)
+            (A.contents audit_writer.new)
+            (W.has_failed writer.new) (A.has_failed audit_writer.new))) }
+        // Where something is still to be written, it ends with the last message that was handled.
+        ensures last { 0 < length gathered.new.items
+            → HandlesLast self.old self.new.sent messages.items
+            (holding (and_gathered (W.contents writer.old) gathered.old.items)
+            (A.contents audit_writer.old)
+            (W.has_failed writer.old) (A.has_failed audit_writer.old))
+            (holding (and_gathered (W.contents writer.new) gathered.new.items)
+            (A.contents audit_writer.new)
+            (W.has_failed writer.new) (A.has_failed audit_writer.new)) }
+    {
         'messages: for message in messages {
-            self.handle(message, writer, audit_writer)?;
+            self.handle(message, gathered, writer, audit_writer)?;
         }
         Ok(())
     }
@@ -103,11 +165,12 @@ impl<'a, Q: AuditQueue + Drop> OfflineRun<'a, Q> {
             (holding (W.contents writer.new) (A.contents audit_writer.new)
             (W.has_failed writer.new) (A.has_failed audit_writer.new)))) }
     {
+        let mut gathered = Vec::new(self.alloc);
         'reads: loop {
             let Some(messages) = intake.next(reader)? else {
                 return Ok(());
             };
-            self.handle_all(messages, writer, audit_writer)?;
+            self.handle_all(messages, &mut gathered, writer, audit_writer)?;
         }
     }
 }
@@ -143,8 +206,9 @@ ghost use Rattle.mediator_offline.specs.Ports.{sound_ports};
 ghost use Rattle.mediator_offline.specs.Filtering.{FiltersAll, FailsToFilter};
 
 /// Filters one stream for one subscriber, and answers how much was read, accepted and written. It reads the messages of an
-/// exporter from `reader`, to the end of the stream. Message by message, it writes what `job` discloses to the subscriber to
-/// `writer`, and the audit of what was kept back, where the job asks for it, to `audit_writer`. Memory is taken from `alloc`.
+/// exporter from `reader`, to the end of the stream. It writes what `job` discloses to the subscriber to `writer`, and the audit
+/// of what was kept back, where the job asks for it, to `audit_writer`: message by message then, and else what the messages of one
+/// read disclose in one piece, or in several where that is long. Memory is taken from `alloc`.
 ///
 /// What is written are the messages built for the records that each message discloses, and they mean these records and no others
 /// to whoever reads them by RFC 7011. The limits are 65,536 records of one message, 65,280 templates for the subscriber and

@@ -36,8 +36,10 @@ pub(crate) struct OfflineRun<'a, Q: AuditQueue> {
     pub(crate) messages: u64,
     /// The records that they brought.
     pub(crate) records: u64,
-    /// The octets that were written for the subscriber.
+    /// The octets that were written for the subscriber, or gathered to be.
     pub(crate) sent: u64,
+    /// The message that was pulled last: its room serves the next one.
+    pub(crate) message: Vec<u8>,
 }
 
 ghost use Rattle.mediator_offline.specs.Opening.{RefusesJob};
@@ -77,6 +79,7 @@ impl<'a, Q: AuditQueue + Drop> OfflineRun<'a, Q> {
             messages: 0,
             records: 0,
             sent: 0,
+            message: Vec::new(alloc),
         })
     }
 

@@ -508,6 +508,7 @@ impl<C: Chronicle + Drop, Q: AuditQueue + Drop> State<C, Q> {
     ghost use Rattle.mediator_state.specs.Seen.{place_of};
     ghost use Rattle.std.specs.Prelude.{min, is_some};
     ghost use Rattle.disclosure_audit.specs.Queue.{oldest};
+    ghost use Rattle.subscriber_stream.specs.Calls.{message_if};
 
     /// Builds the next message of the live subscription with the number `sub`, out of what waits for it; or answers
     /// `None` where nothing waits. `now` is its Export Time, in seconds since 1970 (RFC 7011, section 3.1), and
@@ -539,6 +540,48 @@ impl<C: Chronicle + Drop, Q: AuditQueue + Drop> State<C, Q> {
         }
         match self.engine.subscriptions.pull(sub, now, target) {
             Ok(message) => Ok(message),
+            Err(AllocError) => Err(Fault::OutOfMemory),
+        }
+    }
+
+    /// Builds the next message of the live subscription with the number `sub` as [`pull`](State::pull) does with `now`
+    /// and `target`, and puts its octets in place of those that stand in `message`: so one list serves many messages.
+    /// The answer is whether there is one; where nothing waits, `message` stays.
+    ///
+    /// # Errors
+    /// [`Fault::UnknownSub`] where the subscription isn't live; or [`Fault::OutOfMemory`], and then `message` may have
+    /// changed. Nothing of the state has.
+    pub fn pull_to(
+        &mut self,
+        sub: SubId,
+        now: u32,
+        target: u16,
+        message: &mut Vec<u8>,
+    ) -> Result<bool, Fault>
+        // The limits stay.
+        ensures limits { self.new.engine.limits ≡ self.old.engine.limits }
+        ensures audit_limit { self.new.engine.audit.limit ≡ self.old.engine.audit.limit }
+        // The message is that at the place of the subscription, which moves past it. No other place moves.
+        ensures ok { IfOk result (λ is_there. ForEachHistory C.tells self.old
+            (PullsAfter self.old.engine self.new.engine sub.0 now target
+            (message_if is_there message.new.items))) }
+        ensures others { (q : ℕ) → q ≢ sub.0
+            → place_of self.new.engine q ≡ place_of self.old.engine q }
+        ensures drained { self.new.engine.audit.standing.drained
+            ≡ self.old.engine.audit.standing.drained }
+        // The history stays in any case, and so do the limits of the journal.
+        ensures keeps { KeepsHistories C.tells self.old self.new }
+        ensures journaled { C.limits self.new.chronicle ≡ C.limits self.old.chronicle }
+        // A refused call changes nothing, and names the first cause.
+        ensures unchanged { OnErr result (StaysSame C.tells C.limits self.old self.new) }
+        ensures err { IfErr result (λ e. ForEachHistory C.tells self.old
+            (λ h. RefusesPull e h sub.0)) }
+    {
+        if !self.engine.is_live(sub) {
+            return Err(Fault::UnknownSub);
+        }
+        match self.engine.subscriptions.pull_to(sub, now, target, message) {
+            Ok(is_there) => Ok(is_there),
             Err(AllocError) => Err(Fault::OutOfMemory),
         }
     }

@@ -22,7 +22,7 @@ returns-clause-err g c = subst (λ l. OnErr c.write_lines.result (WritesBeginnin
     ∙ sym (lines_for-asked c.args.self.now.job.audit (audit_waiting c.args.self.now) c.if-not-self.false)) c.write_lines.ensures.err
 
 pub returns-clause-drained : goal.returns-clause-drained
-returns-clause-drained g c = on_ok c.write_lines.result (recorded c.args.self.now (record { alloc = c.args.self.now.alloc; job = c.args.self.now.job; state = c.drain_audit.new.self; messages = c.args.self.now.messages; records = c.args.self.now.records; sent = c.args.self.now.sent }) c.requires.few (record {
+returns-clause-drained g c = on_ok c.write_lines.result (recorded c.args.self.now (record { alloc = c.args.self.now.alloc; job = c.args.self.now.job; state = c.drain_audit.new.self; messages = c.args.self.now.messages; records = c.args.self.now.records; sent = c.args.self.now.sent; message = c.args.self.now.message }) c.requires.few (record {
   same = record { job = refl; messages = refl; records = refl; limits = c.in-Ok.ensures.limits; audit_limit = c.in-Ok.ensures.audit_limit; journal = c.in-Ok.ensures.journaled };
   sent = refl;
   places = c.in-Ok.ensures.places;
@@ -31,7 +31,7 @@ returns-clause-drained g c = on_ok c.write_lines.result (recorded c.args.self.no
 }))
 
 pub returns-then-not-self-clause-drained : goal.returns-then-not-self-clause-drained
-returns-then-not-self-clause-drained g c = recorded c.args.self.now (record { alloc = c.args.self.now.alloc; job = c.args.self.now.job; state = c.drain_audit.new.self; messages = c.args.self.now.messages; records = c.args.self.now.records; sent = c.args.self.now.sent }) c.requires.few (record {
+returns-then-not-self-clause-drained g c = recorded c.args.self.now (record { alloc = c.args.self.now.alloc; job = c.args.self.now.job; state = c.drain_audit.new.self; messages = c.args.self.now.messages; records = c.args.self.now.records; sent = c.args.self.now.sent; message = c.args.self.now.message }) c.requires.few (record {
   same = record { job = refl; messages = refl; records = refl; limits = c.in-Ok.ensures.limits; audit_limit = c.in-Ok.ensures.audit_limit; journal = c.in-Ok.ensures.journaled };
   sent = refl;
   places = c.in-Ok.ensures.places;
