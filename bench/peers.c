@@ -23,9 +23,9 @@
 // calls of the server's threads: before the first send the deliveries sleep on condition variables
 // that are near each other, and later those that find the lock taken sleep on the lock, which is
 // near them. OFFSET is how far the lock lies from the first of the condition variables, as an
-// earlier run of the same program printed it, or 0. Printed are that offset, the number of samples, and those in which the lock was taken,
-// and in which another might sleep for it; all 0 where the lock isn't found. This needs Linux on
-// x86-64 and the right to read another process's memory.
+// earlier run of the same program printed it, or 0. Printed are that offset, the number of samples,
+// and those in which the lock was taken, and in which another might sleep for it; all 0 where the
+// lock isn't found. This needs Linux on x86-64 and the right to read another process's memory.
 #define _POSIX_C_SOURCE 200809L
 #include <arpa/inet.h>
 #include <dirent.h>

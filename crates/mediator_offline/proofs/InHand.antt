@@ -92,7 +92,7 @@ handed_run so_far records now target p q (m ∷ messages) n t so hands =
 
 -- ---- the audit of a run
 
-pub recorded_on : (d e : OfflineRun Q) (h : List Entry) (p : ℕ) → RunStands d h p → Records d e → RunStands e h p
+pub recorded_on : {Q : Type 0} (d e : OfflineRun Q) (h : List Entry) (p : ℕ) → RunStands d h p → Records d e → RunStands e h p
 recorded_on d e h p so r = stands_on d e h p p so r.same (r.stands h so.state) (r.place ∙ so.place)
 
 -- ---- messages that are accepted

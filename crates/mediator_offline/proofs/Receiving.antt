@@ -1,7 +1,7 @@
 -- A message that a run accepts, or refuses.
 use Rattle.std.proofs.Common.{◌≡◌, ℕ, ◌+◌, ◌≤◌, ◌<◌, ◌^◌, ◌⊎◌, inl, inr, Bool, true, false, List, [], ◌∷◌, ◌++◌, length, drop, map, Option, Some, None, Result, Ok, Err, refl, sym, ap, ◌∙◌, subst, arith, append_assoc, append-nil, length-append}
 use Rattle.std.specs.Result.{IsErr, IsErrAnd, IfErr}
-use Rattle.std.specs.Prelude.{filter, nat_lt, take, OnOk, OnErr}
+use Rattle.std.specs.Prelude.{filter, nat_lt, take, is_some, IfSome, is_ok, IsOk, OnOk, OnErr}
 use Rattle.std.specs.List.{flat_map, enumerate_from}
 use Rattle.std.proofs.lemmas.Bool.{ltb-true, ltb-false}
 use Rattle.std.proofs.lemmas.List.{drop_all, take_all, length_push, length-map, length-drop}
@@ -17,7 +17,7 @@ use Rattle.flow_anonymize.specs.declared.disclosure.Disclosure.TheVariants.{Pass
 use Rattle.flow_anonymize.specs.Outcome.{Outcome}
 use Rattle.disclosure_audit.specs.declared.entry.AuditEntry.{AuditEntry}
 use Rattle.disclosure_audit.specs.declared.entry.What.TheVariants.{Cut as CutOff}
-use Rattle.disclosure_audit.specs.Queue.{StandsIn}
+use Rattle.disclosure_audit.specs.Queue.{StandsIn, oldest, oldest_in}
 use Rattle.event_journal.specs.declared.entry.Entry.{Entry}
 use Rattle.event_journal.specs.declared.entry.Entry.TheVariants.{Message, Cut}
 use Rattle.event_journal.specs.Room.{HasRoomAfter}
@@ -363,6 +363,15 @@ drained_are d h out so few kept asked is = by d.state.engine.audit.standing.entr
   by : (entries : Option (List AuditEntry)) → is_some entries ≡ true → IfSome entries (λ es. es ≡ drop (audit_drained d) (audit_list h)) → out ≡ listed entries
   by None some are = absurd cc
   by (Some es) some are = is (kept ∙ asked) ∙ take_all 4294967295 (drop (audit_drained d) (audit_list h)) (omega (arith, few, so.stands.audit.waiting)) ∙ sym are
+
+-- where a drain is refused, there were entries to hand out, and so they are kept
+pub refused_asked : {Q X E : Type 0} (d : OfflineRun Q) (most : ℕ) (r : Result X E) → KeepsAsked d → (oldest most d.state.engine.audit.standing ≡ [] → IsOk r) → is_ok r ≡ false → d.job.audit ≡ true
+refused_asked d most r kept none not = by d.state.engine.audit.standing.entries kept none where
+  by : (entries : Option (List AuditEntry)) → is_some entries ≡ d.job.audit → (oldest_in most entries ≡ [] → IsOk r) → d.job.audit ≡ true
+  by None is ok = absurd (no (sym not ∙ ok refl)) where
+    no : false ≡ true → ⊥
+    no e = absurd cc
+  by (Some es) is ok = sym is
 
 -- what a call of the state that drains the audit gives to a run
 pub record Drains {Q : Type 0} (d e : OfflineRun Q) : Type 0 where

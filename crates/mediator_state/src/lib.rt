@@ -15,11 +15,11 @@
 //! `close`, `edit`, `subscribe`, `unsubscribe`, `receive` or `advance` makes it stand for that history with just the call's
 //! entry behind it, and before a message or an advance just the cuts that it makes (`ok`), and there was room for them; its
 //! answer is the history's value: the next number from 1 on, the number of edits, the receipt. `pull`
-//! answers the message built at the subscription's place and moves it past that message, `drain_audit` the oldest
-//! entries, `status` what waits and what was handed out; none of them changes the history. A refused call leaves all
-//! of that (`same`), and its fault is the first cause that stands (`err`): its own, then the journal's, then the
-//! audit's, whose need and room are told; want of memory is told only where none stands that the call looks for before
-//! it asks for memory. An accepted message or advance found room in the audit (`AuditHolds`).
+//! answers the message built at the subscription's place and moves it past that message, as `pull_to` does into a list,
+//! `drain_audit` the oldest entries, `status` what waits and what was handed out; none of them changes the history. A
+//! refused call leaves all of that (`same`), and its fault is the first cause that stands (`err`): its own, then the
+//! journal's, then the audit's, whose need and room are told; want of memory is told only where none stands that the
+//! call looks for before it asks for memory. An accepted message or advance found room in the audit (`AuditHolds`).
 #![tactic(auto)]
 
 mod closing;

@@ -274,12 +274,13 @@ fn each_call_fails(rt: HostRuntime) -> Result<(), Fail> {
     Ok(())
 }
 
-/// The two messages, and behind them the begin of one of another version; or one that is refused, since its record goes past its
+/// What stands behind the two messages: the begin of one of another version; or one that is refused, since its record goes past its
 /// set.
 const FAULTY: &[u8] = b"\x00\x09\x00\x10";
 
-const REFUSED: &[u8] = b"\x00\x0a\x00\x16\x65\x53\xf1\x00\x00\x00\x00\x02\x00\x00\x00\x07\
-\x01\x00\x00\x06\xc0\x00";
+const REFUSED: &[u8] = b"\x00\x0a\x00\x22\x65\x53\xf1\x00\x00\x00\x00\x02\x00\x00\x00\x07\
+\x00\x02\x00\x0c\x01\x01\x00\x01\x00\x52\xff\xff\
+\x01\x01\x00\x06\x05\x41";
 
 /// A run without an audit that reads the two messages, and these octets behind them, at once.
 fn run_at_once(
