@@ -1,5 +1,5 @@
 -- What is disclosed of a record, and what is said of it.
-use Rattle.std.specs.Prelude.{◌≡◌, ℕ, Bool, true, false, List, [], ◌∷◌, take}
+use Rattle.std.specs.Prelude.{◌≡◌, ℕ, Bool, if◌then◌else◌, List, [], ◌∷◌, take}
 use Rattle.ipfix_template.specs.Values.{record_text}
 use Rattle.ipfix_template.specs.DataRecord.{DataRecord, IsKept, kept_record}
 use Rattle.flow_anonymize.specs.declared.disclosure.Disclosure.{Disclosure}
@@ -28,10 +28,9 @@ decision_of (Withheld rule reason) = Withheld rule reason
 
 -- of the fields that a record loses each is told, or the first alone
 abbrev pub told_with : Bool → Decision → Decision
-told_with true decision = decision
-told_with false (Passed kept removed) = Passed kept (take 1 removed)
-told_with false (Aggregated rule definition) = Aggregated rule definition
-told_with false (Withheld rule reason) = Withheld rule reason
+told_with all (Passed kept removed) = Passed kept (if all then removed else take 1 removed)
+told_with all (Aggregated rule definition) = Aggregated rule definition
+told_with all (Withheld rule reason) = Withheld rule reason
 
 -- its values, each in its shortest text, one after another (RFC 7011, sections 3.4.3 and 7); no octets where none passes
 abbrev pub passed_text : Outcome → List ℕ

@@ -12,13 +12,13 @@ use Rattle.mediator_calls.specs.Mediation.{Place, Mediation, live}
 use Rattle.mediator_calls.specs.Held.{IsHeld}
 
 -- the state of a mediator, which keeps its history and the entries of its audit
-abbrev pub StateOf : Type 0
-StateOf = State KeptJournal KeptEntries
+abbrev pub KeptState : Type 0
+KeptState = State KeptJournal KeptEntries
 
 abbrev pub engine_place : {Q : Type 0} → Engine Q → ℕ → Place
 engine_place e sub = record { sub = sub; reached = place_of e sub }
 
-abbrev pub view_of : StateOf → Mediation
+abbrev pub view_of : KeptState → Mediation
 view_of s = record {
   history = s.chronicle.entries;
   places = map (engine_place s.engine) (live s.chronicle.entries);
@@ -40,10 +40,10 @@ abbrev pub limits_of : KeptJournal → JournalLimits
 limits_of j = j.limits
 
 -- the state stands for its journal
-abbrev pub StandsForJournal : StateOf → Type 0
+abbrev pub StandsForJournal : KeptState → Type 0
 StandsForJournal s = StateStandsFor tells s s.chronicle.entries
 
 -- so it does, and holds no more than its limits allow
-pub record IsStateKept (s : StateOf) : Type 0 where
+pub record IsStateKept (s : KeptState) : Type 0 where
   pub stands : StandsForJournal s
   pub held : IsHeld (view_of s)

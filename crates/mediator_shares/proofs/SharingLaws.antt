@@ -164,19 +164,18 @@ counted_removed k index sub (field ∷ fields) some full = counted_more k (note_
 
 -- nothing that counts is told in the fields that are removed
 counts_told : (tells : Bool) (aggregates : List Aggregate) (clock : ℕ) (r : DataRecord) (d : Decision) → counts_by aggregates clock r (outcome.told_with tells d) ≡ counts_by aggregates clock r d
-counts_told true aggregates clock r d = refl
-counts_told false aggregates clock r (Passed kept removed) = refl
-counts_told false aggregates clock r (Aggregated rule definition) = refl
-counts_told false aggregates clock r (Withheld rule reason) = refl
+counts_told tells aggregates clock r (Passed kept removed) = refl
+counts_told tells aggregates clock r (Aggregated rule definition) = refl
+counts_told tells aggregates clock r (Withheld rule reason) = refl
 
 -- as many notes are due where the first of them is told alone, and where no more are kept nobody sees which
 noting_told : (tells : Bool) (aggregates : List Aggregate) (clock : ℕ) (r : DataRecord) (d : Decision) (index sub : ℕ) (k : KeptNotes) → (tells ≡ false → k.most ≤ length k.notes)
     → and_more k (map (note_of index sub) (kept_back_by aggregates clock r (outcome.told_with tells d))) ≡ and_more k (map (note_of index sub) (kept_back_by aggregates clock r d))
-noting_told true aggregates clock r d index sub k full = refl
+noting_told true aggregates clock r (Passed kept removed) index sub k full = refl
 noting_told false aggregates clock r (Passed kept []) index sub k full = refl
 noting_told false aggregates clock r (Passed kept (field ∷ fields)) index sub k full = counted_same k (note_of index sub (Removed (field ∷ []))) (note_of index sub (Removed (field ∷ fields))) (full refl)
-noting_told false aggregates clock r (Aggregated rule definition) index sub k full = refl
-noting_told false aggregates clock r (Withheld rule reason) index sub k full = refl
+noting_told tells aggregates clock r (Aggregated rule definition) index sub k full = refl
+noting_told tells aggregates clock r (Withheld rule reason) index sub k full = refl
 
 -- one subscription more, for which this is decided of the record
 pub adding_step : (old new new2 : List (ℕ × List DataRecord)) (told tnew tnew2 : List Tally) (before notes notes2 : KeptNotes) (domain : ℕ) (f : InForce) (index : ℕ) (r : DataRecord) (served : List Served) (place : ℕ) (who other : Served) (found : Decision) (tells : Bool)
