@@ -1,7 +1,7 @@
 -- A message that a run accepts, or refuses.
 use Rattle.std.proofs.Common.{◌≡◌, ℕ, ◌+◌, ◌≤◌, ◌<◌, ◌^◌, ◌⊎◌, inl, inr, Bool, true, false, List, [], ◌∷◌, ◌++◌, length, drop, map, Option, Some, None, Result, Ok, Err, refl, sym, ap, ◌∙◌, subst, arith, append_assoc, append-nil, length-append}
 use Rattle.std.specs.Result.{IsErr, IsErrAnd, IfErr}
-use Rattle.std.specs.Prelude.{filter, nat_lt, take, is_some, IfSome, is_ok, IsOk, OnOk, OnErr}
+use Rattle.std.specs.Prelude.{filter, nat_lt, take, is_some, IfSome, IsOk, OnOk, OnErr}
 use Rattle.std.specs.List.{flat_map, enumerate_from}
 use Rattle.std.proofs.lemmas.Bool.{ltb-true, ltb-false}
 use Rattle.std.proofs.lemmas.List.{drop_all, take_all, length_push, length-map, length-drop}
@@ -365,12 +365,14 @@ drained_are d h out so few kept asked is = by d.state.engine.audit.standing.entr
   by (Some es) some are = is (kept ∙ asked) ∙ take_all 4294967295 (drop (audit_drained d) (audit_list h)) (omega (arith, few, so.stands.audit.waiting)) ∙ sym are
 
 -- where a drain is refused, there were entries to hand out, and so they are kept
-pub refused_asked : {Q X E : Type 0} (d : OfflineRun Q) (most : ℕ) (r : Result X E) → KeepsAsked d → (oldest most d.state.engine.audit.standing ≡ [] → IsOk r) → is_ok r ≡ false → d.job.audit ≡ true
-refused_asked d most r kept none not = by d.state.engine.audit.standing.entries kept none where
+pub refused_asked : {Q X E : Type 0} (d : OfflineRun Q) (most : ℕ) (r : Result X E) → KeepsAsked d → (oldest most d.state.engine.audit.standing ≡ [] → IsOk r) → ((x : X) → r ≡ Ok x → ⊥) → d.job.audit ≡ true
+refused_asked d most r kept none refused = by d.state.engine.audit.standing.entries kept none where
+  never : (a : Result X E) → IsOk a → ((x : X) → a ≡ Ok x → ⊥) → ⊥
+  never (Ok x) ok is = is x refl
+  never (Err e) ok is = absurd cc
+
   by : (entries : Option (List AuditEntry)) → is_some entries ≡ d.job.audit → (oldest_in most entries ≡ [] → IsOk r) → d.job.audit ≡ true
-  by None is ok = absurd (no (sym not ∙ ok refl)) where
-    no : false ≡ true → ⊥
-    no e = absurd cc
+  by None is ok = absurd (never r (ok refl) refused)
   by (Some es) is ok = sym is
 
 -- what a call of the state that drains the audit gives to a run

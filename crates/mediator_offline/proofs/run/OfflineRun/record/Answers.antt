@@ -5,7 +5,8 @@ use Rattle.disclosure_audit.specs.declared.entry.AuditEntry.{AuditEntry}
 use Rattle.mediator_offline.specs.Runs.{audit_waiting}
 use Rattle.mediator_offline.specs.Lines.{lines_of, WritesBeginning}
 use Rattle.mediator_offline.proofs.Lines.{lines_for-asked, unasked}
-use Rattle.mediator_offline.proofs.Receiving.{on_ok, drained_are, recorded}
+use Rattle.mediator_offline.proofs.GatheringLaws.{differs}
+use Rattle.mediator_offline.proofs.Receiving.{on_ok, on_err, drained_are, refused_asked, recorded}
 use Rattle.mediator_offline.proofs.run.OfflineRun.record.Goals as goal
 
 -- all that waited is handed out where it is asked for
@@ -41,3 +42,12 @@ returns-then-not-self-clause-drained g c = recorded c.args.self.now (record { al
 
 pub returns-then-not-self-clause-written : goal.returns-then-not-self-clause-written
 returns-then-not-self-clause-written g c = unasked (g.A.Sink.contents c.args.writer.now) c.args.self.now.job.audit (audit_waiting c.args.self.now) c.if-not-self.true
+
+pub returns-in_default-clause-asked : goal.returns-in_default-clause-asked
+returns-in_default-clause-asked g c = refused_asked c.args.self.now 4294967295 c.drain_audit.result (c.drain_audit.ensures.keeps ∙ sym c.requires.asked) c.drain_audit.ensures.none c.in_default.not-Ok
+
+pub returns-clause-asked : goal.returns-clause-asked
+returns-clause-asked g c = on_err c.write_lines.result c.if-not-self.false
+
+pub returns-clause-unasked : goal.returns-clause-unasked
+returns-clause-unasked g c = λ silent. absurd (differs (sym silent ∙ c.if-not-self.false))
