@@ -82,14 +82,14 @@ impl Shares {
     ///
     /// # Errors
     /// Want of memory.
-    fn led(
+    fn led<'a>(
         alloc: Global,
         in_force: &mut InForce,
         domain: u32,
         records: &Records,
-        leaders: &[Served<'_>],
+        leaders: &[Served<'a>],
         places: &[usize],
-        served: &[Served<'_>],
+        served: &[Served<'a>],
         most: u64,
     ) -> Result<Shares, AllocError>
         requires few { length records.now ≤ 2 ^ 32 }
@@ -550,13 +550,22 @@ fn spread_led(
 {
     let mut shares = Vec::with_capacity(alloc, served.len())?;
     'served: for (place, who) in served.iter().enumerate() {
-        let given = given[places[place]].given.clone()?;
-        shares.push(Share {
-            sub: who.sub,
-            given,
-        })?;
+        shares.push(shared_with(who.sub, &given[places[place]])?)?;
     }
     Ok(shares)
+}
+
+/// The records of `share`, for the subscription with the number `sub`.
+///
+/// # Errors
+/// Want of memory.
+fn shared_with(sub: u64, share: &Share) -> Result<Share, AllocError>
+    ensures { IfOk result (λ s. shown s ≡ (sub, share.now.given)) }
+{
+    Ok(Share {
+        sub,
+        given: share.given.clone()?,
+    })
 }
 
 /// What the audit says of a record that the aggregate rule with the number `rule` names, where `timing` is what became
