@@ -1,4 +1,4 @@
-use Rattle.std.proofs.Common.{◌≡◌, ℕ, [], length, refl, sym, ap, ◌∙◌, arith}
+use Rattle.std.proofs.Common.{◌≡◌, [], length, refl, sym, ap, ◌∙◌, arith}
 use Rattle.subscriber_stream.specs.Waiting.{items_in}
 use Rattle.subscriber_stream.specs.Standing.{KeptStream}
 use Rattle.subscriber_stream.proofs.Messages.{behind_none}
