@@ -2,7 +2,7 @@ use Rattle.std.proofs.Common.{arith, map, sym}
 use Rattle.std.proofs.lemmas.List.{length-map}
 use Rattle.rule_table.specs.Places.{value_at}
 use Rattle.rule_table.proofs.ClassLaws.{key_of_three}
-use Rattle.rule_table.proofs.keys.key_at.Goals as goal
+use Rattle.rule_table.proofs.keys.key_of_several.Goals as goal
 
 pub returns-then-places-gt-MOST_DIGITS-clause-key : goal.returns-then-places-gt-MOST_DIGITS-clause-key
 returns-then-places-gt-MOST_DIGITS-clause-key c =
