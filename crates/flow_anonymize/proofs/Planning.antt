@@ -16,7 +16,7 @@ use Rattle.flow_anonymize.specs.Outcome.{Outcome, IsKeptAsText}
 use Rattle.flow_anonymize.specs.Remaining.{kept_fields, kept_values, removed_fields}
 use Rattle.flow_anonymize.specs.Within.{AreJudged}
 use Rattle.flow_anonymize.specs.Disclosed.{remaining, first_lost, transformed, by_action}
-use Rattle.flow_anonymize.specs.Steps.{AreSteps}
+use Rattle.flow_anonymize.specs.Steps.{AreSteps, steps_in}
 use Rattle.flow_anonymize.specs.Planning.{Plan, planned, passing_record, ShowsRecord, IsShowable, ShowsNone, IsPlanFrom}
 use Rattle.flow_anonymize.proofs.Sound.{left_is_sound}
 use Rattle.flow_anonymize.proofs.PermittedLaws.{passed_by}
@@ -47,7 +47,7 @@ showable r verdict ws (Passed passing removed) judged is =
     let kept : DataRecord = passing_record passing r.values in
     let passed = passed_by verdict.action verdict.rule (first_lost r.template.scope (removed_fields ws)) (remaining r ws) (removed_fields ws) kept removed (sym (is.leaves r.values)) in
     let left = left_is_sound r ws judged.sound judged.each passed.none_lost passed.has_octets in
-    let P : List ElementVerdict → Type 0 = λ ws. ShowsRecord r (arc_value passing.template) ws passing.steps.items in
+    let P : List ElementVerdict → Type 0 = λ ws. ShowsRecord r (arc_value passing.template) ws (steps_in passing.steps) in
     let fields : (arc_value passing.template).fields ≡ kept_fields r.template.fields ws = ap (λ (x : DataRecord). x.template.fields) (sym passed.record_is) in
     let values : kept_values r.values ws ≡ kept.values = ap (λ (x : DataRecord). x.values) passed.record_is in
     let sound : IsSound (record { template = arc_value passing.template; values = kept_values r.values ws }) = subst (λ (v : List (List ℕ)). IsSound (record { template = arc_value passing.template; values = v })) (sym values) (subst IsSound passed.record_is left) in

@@ -41,6 +41,7 @@ mod plans;
 mod record_classes;
 mod slot;
 mod steps;
+mod stretch;
 mod transform;
 mod values;
 

@@ -2,7 +2,7 @@ use Rattle.std.proofs.Common.{length}
 use Rattle.std.proofs.lemmas.List.{length_push}
 use Rattle.std.proofs.lemmas.Slice.Zip.{zip_turn, zip_end}
 use Rattle.flow_anonymize.proofs.StepLaws.{one_made, all_made}
-use Rattle.flow_anonymize.proofs.steps.steps_of.Goals as goal
+use Rattle.flow_anonymize.proofs.steps.made_steps.Goals as goal
 
 pub fields-preserved : goal.fields-preserved
 fields-preserved c =
