@@ -9,7 +9,7 @@ ghost use Rattle.flow_anonymize.specs.Disclosed.{remaining_template, first_lost,
 
 use crate::disclosure::Disclosure;
 use crate::fields::{kept_fields, removed_fields};
-use crate::steps::{Steps, put_by_steps, steps_of};
+use crate::steps::{Steps, put_by_steps, see_octets, steps_of};
 use crate::values::kept_text;
 use disclosure_audit::{Reason, RemovedField, RemovedFields};
 use ipfix_template::{Fields, Record, RecordView, Template};
@@ -148,7 +148,9 @@ impl Disclosure<Passing> {
     {
         match self {
             Disclosure::Passed { kept, .. } => {
-                put_by_steps(&kept.steps, flow_record.as_octets(), text)
+                let octets = flow_record.as_octets();
+                see_octets(octets);
+                put_by_steps(&kept.steps, octets, text)
             }
             Disclosure::Aggregated { .. } => Ok(()),
             Disclosure::Withheld { .. } => Ok(()),

@@ -1,5 +1,6 @@
 //! What is shown of a record, by a few steps over its octets that are worked out once for a plan.
 ghost use Rattle.std.specs.Prelude.{◌≡◌, ◌+◌, ◌≤◌, ◌++◌, ◌∷◌, [], List, length, take, drop, map, IfOk, IfSome, OnOk, OnErr};
+ghost use Rattle.sequences.specs.Octets.{AreOctets};
 ghost use Rattle.flow_anonymize.specs.declared.steps.Step.{Step};
 ghost use Rattle.flow_anonymize.specs.Changes.{changed_value};
 ghost use Rattle.flow_anonymize.specs.declared.steps.Step.TheVariants.{Octets};
@@ -167,6 +168,11 @@ fn stretches_of(alloc: Global, steps: &[Step]) -> Result<Option<Vec<Stretch>>, A
     }
     Ok(Some(stretches))
 }
+
+/// Tells proofs that octets are less than 256, by their type. It does nothing.
+pub(crate) fn see_octets(octets: &[u8])
+    ensures { AreOctets octets.now }
+{}
 
 /// Appends what the steps show of octets.
 ///

@@ -6,7 +6,7 @@ ghost use Rattle.flow_anonymize.specs.Remaining.{kept_fields, kept_values};
 ghost use Rattle.flow_anonymize.specs.Steps.{shown_by, steps_in, AreSteps};
 ghost use Rattle.flow_anonymize.specs.Within.{is_whole};
 
-use crate::steps::{Steps, put_by_steps};
+use crate::steps::{Steps, put_by_steps, see_octets};
 use bytes::Bytes;
 use ipfix_template::Record;
 use policy_judge::{ElementAction, ElementVerdict};
@@ -31,6 +31,7 @@ pub(crate) fn kept_text(
     if are_whole(verdicts) {
         return octets.clone();
     }
+    see_octets(octets);
     written_text(alloc, octets, steps)
 }
 

@@ -1,7 +1,8 @@
-use Rattle.std.proofs.Common.{ap, ◌∙◌, rules}
+use Rattle.std.proofs.Common.{ap, subst, ◌∙◌, rules}
 use Rattle.std.proofs.lemmas.Result.{IfOk-weaker}
+use Rattle.sequences.specs.Octets.{AreOctets}
 use Rattle.ipfix_template.proofs.Encoding.{fit_fields-length}
-use Rattle.flow_anonymize.specs.Steps.{shown_by}
+use Rattle.flow_anonymize.specs.Steps.{shown_by, steps_in}
 use Rattle.flow_anonymize.proofs.TextLaws.{whole_text}
 use Rattle.flow_anonymize.proofs.values.kept_text.Goals as goal
 
@@ -15,4 +16,4 @@ pub returns : goal.returns
 returns c =
     let r = c.args.flow_record.now in
     let octets = c.deref.ensures ∙ c.as_octets-octets.ensures.value in
-    IfOk-weaker c.written_text.result _ _ (λ text is. is ∙ ap (shown_by c.args.steps.now) octets ∙ c.requires.by_steps r.values c.as_octets-octets.ensures.sound.fit) c.written_text.ensures
+    IfOk-weaker c.written_text.result _ _ (λ text is. is ∙ ap (shown_by (steps_in c.args.steps.now)) octets ∙ c.requires.by_steps r.values c.as_octets-octets.ensures.sound.fit (subst AreOctets (c.deref.ensures ∙ c.as_octets-octets.ensures.value) c.see_octets.ensures)) c.written_text.ensures
