@@ -1,5 +1,5 @@
 -- What stretches show of octets, and how it is left in place of these.
-use Rattle.std.proofs.Common.{◌≡◌, ◌⊎◌, inl, inr, ℕ, ◌+◌, ◌-◌, ◌<◌, ◌≤◌, List, [], ◌∷◌, ◌++◌, length, take, drop, get_or, refl, sym, ap, subst, ◌∙◌, arith, append_assoc, append-nil, length-append, length-drop}
+use Rattle.std.proofs.Common.{◌≡◌, ◌⊎◌, inl, inr, ℕ, ◌+◌, ◌-◌, ◌<◌, ◌≤◌, List, ◌∷◌, ◌++◌, length, take, drop, get_or, refl, sym, ap, subst, ◌∙◌, arith, append_assoc, append-nil, length-append, length-drop}
 use Rattle.std.proofs.Math.Seq.{take-add}
 use Rattle.std.proofs.lemmas.Bool.{cases_lt}
 use Rattle.std.proofs.lemmas.List.{drop-drop, drop_at, drop_more, drop_all, take_at, take_all, take-take, take-append-drop, length-take, length-take-le, length-replicate, replicate-append-replicate}
@@ -32,12 +32,6 @@ hidden_both shown front back skipped = record {
   behind = λ octets. ap (λ (o : List ℕ). drop skipped o) (sym (drop-drop back front (drop shown octets)));
 }
 
-skipped_both : (shown zeros front back : ℕ) → IsJoined (stretch shown zeros (front + back)) (stretch shown zeros front) (stretch 0 0 back)
-skipped_both shown zeros front back = record {
-  shown = λ octets. sym (append-nil (take shown octets ++ zeroed (length (take zeros (drop shown octets)))));
-  behind = λ octets. sym (drop-drop back front (drop zeros (drop shown octets)));
-}
-
 stretch_of : (s : Stretch) (shown zeros skipped : ℕ) → s.shown ≡ shown → s.zeros ≡ zeros → s.skipped ≡ skipped → s ≡ stretch shown zeros skipped
 stretch_of s shown zeros skipped e f g =
     ap (λ (n : ℕ). stretch n s.zeros s.skipped) e ∙ ap (λ (n : ℕ). stretch shown n s.skipped) f ∙ ap (stretch shown zeros) g
@@ -56,11 +50,6 @@ pub join_hidden : (both one next : Stretch) (sum : ℕ) → one.skipped ≡ 0 �
 join_hidden both one next sum skipped shown is made =
     joined_as both one next (stretch one.shown (one.zeros + next.zeros) next.skipped) (stretch one.shown one.zeros 0) (stretch 0 next.zeros next.skipped) (made ∙ ap (λ (n : ℕ). stretch one.shown n next.skipped) is)
     (stretch_of one one.shown one.zeros 0 refl refl skipped) (stretch_of next 0 next.zeros next.skipped shown refl refl) (hidden_both one.shown one.zeros next.zeros next.skipped)
-
-pub join_skipped : (both one next : Stretch) (sum : ℕ) → next.shown ≡ 0 → next.zeros ≡ 0 → sum ≡ one.skipped + next.skipped → both ≡ stretch one.shown one.zeros sum → IsJoined both one next
-join_skipped both one next sum shown zeros is made =
-    joined_as both one next (stretch one.shown one.zeros (one.skipped + next.skipped)) one (stretch 0 0 next.skipped) (made ∙ ap (λ (n : ℕ). stretch one.shown one.zeros n) is)
-    refl (stretch_of next 0 0 next.skipped shown zeros refl) (skipped_both one.shown one.zeros one.skipped next.skipped)
 
 -- ---- octets in place of others
 
@@ -155,25 +144,6 @@ pub record IsClosing (held : ℕ) (whole octets : List ℕ) (left : List Stretch
   pub room : put + length rest ≤ length octets
   pub suffix : IsRest octets rest
 
-pub closing : (held : ℕ) (octets text : List ℕ) (stretches : List Stretch) → held ≤ length text → drop held text ≡ octets → IsClosing held (take held text ++ shown_in stretches octets) octets stretches 0 octets text
-closing held octets text stretches within there =
-    let here : held + 0 ≡ held = omega arith in
-    let none : length octets - length octets ≡ 0 = omega arith in
-    record {
-      front = ap (λ (n : ℕ). take n text ++ shown_in stretches octets) here;
-      behind = ap (λ (n : ℕ). drop n text) here ∙ there;
-      long = omega (arith, within, length-drop held text, ap length there);
-      room = omega arith;
-      suffix = ap (λ (n : ℕ). drop n octets) (sym none);
-    }
-
--- where nothing was left out before, the octets stand there
-pub not_moved : (held : ℕ) (whole octets : List ℕ) (left : List Stretch) (put : ℕ) (rest text : List ℕ) → IsClosing held whole octets left put rest text → length octets ≤ put + length rest → take (length rest) (drop (held + put) text) ≡ rest
-not_moved held whole octets left put rest text is all =
-    let same : length octets - length rest ≡ put = omega (arith, all, is.room) in
-    let here : drop put octets ≡ rest = sym (is.suffix ∙ ap (λ (n : ℕ). drop n octets) same) in
-    ap (take (length rest)) (is.behind ∙ here) ∙ take_all (length rest) rest (omega arith)
-
 -- a stretch shows no more octets than it takes
 shown_within : (s : Stretch) (octets : List ℕ) → length (shown_of s octets) + length (behind_of s octets) ≤ length octets
 shown_within s octets =
@@ -218,7 +188,3 @@ closed_at held whole octets stretches i d put count rest after text new low is c
     let more : put + count ≡ put + length (shown_of s rest) = ap (λ (n : ℕ). put + n) counted in
     let was : IsClosing held whole octets (s ∷ drop (i + 1) stretches) put rest text = subst (λ (ss : List Stretch). IsClosing held whole octets ss put rest text) (drop_more stretches i d low) is in
     subst (λ (o : List ℕ). IsClosing held whole octets (drop (i + 1) stretches) (put + count) o new) (sym goes) (closed_one held whole octets s (drop (i + 1) stretches) put (put + count) rest text new was more made)
-
-pub closed : (held : ℕ) (whole octets : List ℕ) (left : List Stretch) (put : ℕ) (rest text : List ℕ) → left ≡ [] → IsClosing held whole octets left put rest text → take (held + put) text ≡ whole
-closed held whole octets left put rest text none is =
-    sym (append-nil (take (held + put) text)) ∙ ap (λ (ss : List Stretch). take (held + put) text ++ shown_in ss rest) (sym none) ∙ is.front

@@ -2,7 +2,7 @@ use Rattle.std.proofs.Common.{◌≡◌, Some, IfOk, ap, sym, subst, ◌∙◌, 
 use Rattle.std.specs.Arc.{arc_value}
 use Rattle.std.specs.Option.{option_map}
 use Rattle.flow_anonymize.specs.declared.slot.Slot.{Slot}
-use Rattle.flow_anonymize.specs.Outcome.{Outcome, Decision, decision_of}
+use Rattle.flow_anonymize.specs.Outcome.{Outcome, Decision, decision_of, told_with}
 use Rattle.flow_anonymize.specs.Classes.{classes_of}
 use Rattle.flow_anonymize.specs.Plans.{PlansOf, PlansFor, IsSlot, ArePlansKept}
 use Rattle.flow_anonymize.proofs.PlanLaws.{kept_put}
@@ -20,4 +20,4 @@ returns-clause-decision c =
     let is = c.in_ok-slot.ensures in
     let keys : classes_of c.args.self.now.for.cuts c.args.flow_record.now ≡ Some c.in_ok-slot.slot.classes = sym c.requires.classes ∙ ap Some (sym is.0) in
     let exact = (is.1 c.args.flow_record.now c.template-for_proof.ensures.sound c.requires.template keys).exact in
-    subst (λ (o : Outcome). IfOk c.give.result (λ (d : Decision). d ≡ decision_of o)) exact (c.give.ensures.decision c.in_ok-slot.slot c.in_ok-place.ensures.put.there)
+    subst (λ (o : Outcome). IfOk c.give.result (λ (d : Decision). d ≡ told_with c.args.tells_all (decision_of o))) exact (c.give.ensures.decision c.in_ok-slot.slot c.in_ok-place.ensures.put.there)
