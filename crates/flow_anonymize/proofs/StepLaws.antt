@@ -92,12 +92,12 @@ kept_octets_whole bits v all even =
     let eighths : bits ≡ 8 * k = omega (arith, even) in
     let left : length v - k ≡ length v - min (length v) k = omega arith in
     sym (kept_from-octets bits v all) ∙ ap (λ (n : ℕ). kept_from n v) eighths ∙ kept_whole k v all ∙ ap (λ (n : ℕ). take k v ++ zeroed n) left ∙ ap (λ (xs : List ℕ). xs ++ zeroed (length v - min (length v) k)) (fewer k)
-    where
-      fewer : (k : ℕ) → take k v ≡ take (min (length v) k) v
-      fewer k = by (cases_lt k (length v)) where
-        by : (k < length v) ⊎ (length v ≤ k) → take k v ≡ take (min (length v) k) v
-        by (inl less) = let e : min (length v) k ≡ k = omega (arith, less) in ap (λ (n : ℕ). take n v) (sym e)
-        by (inr more) = let e : min (length v) k ≡ length v = omega (arith, more) in take_all k v more ∙ sym (take_all (length v) v (omega arith)) ∙ ap (λ (n : ℕ). take n v) (sym e)
+  where
+    fewer : (k : ℕ) → take k v ≡ take (min (length v) k) v
+    fewer k = by (cases_lt k (length v)) where
+      by : (k < length v) ⊎ (length v ≤ k) → take k v ≡ take (min (length v) k) v
+      by (inl less) = let e : min (length v) k ≡ k = omega (arith, less) in ap (λ (n : ℕ). take n v) (sym e)
+      by (inr more) = let e : min (length v) k ≡ length v = omega (arith, more) in take_all k v more ∙ sym (take_all (length v) v (omega arith)) ∙ ap (λ (n : ℕ). take n v) (sym e)
 
 -- ---- one field
 

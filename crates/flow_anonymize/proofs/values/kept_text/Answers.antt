@@ -15,5 +15,6 @@ returns-then-are_whole c =
 pub returns : goal.returns
 returns c =
     let r = c.args.flow_record.now in
-    let octets = c.deref.ensures ∙ c.as_octets-octets.ensures.value in
-    IfOk-weaker c.written_text.result _ _ (λ text is. is ∙ ap (shown_by (steps_in c.args.steps.now)) octets ∙ c.requires.by_steps r.values c.as_octets-octets.ensures.sound.fit (subst AreOctets (c.deref.ensures ∙ c.as_octets-octets.ensures.value) c.see_octets.ensures)) c.written_text.ensures
+    let octets = c.deref-2.ensures ∙ c.as_octets-octets.ensures.value in
+    let all = subst AreOctets (c.deref.ensures ∙ c.as_octets-octets.ensures.value) c.see_octets.ensures in
+    IfOk-weaker c.written_text.result _ _ (λ text is. is ∙ ap (shown_by (steps_in c.args.steps.now)) octets ∙ c.requires.by_steps r.values c.as_octets-octets.ensures.sound.fit all) c.written_text.ensures
