@@ -1,4 +1,5 @@
 pub mod SharingLaws
+mod AlikeLaws
 pub mod KeyLaws
 pub mod JudgeLaws
 pub mod TermsLaws

@@ -3,6 +3,7 @@
 //!
 //! - `in_force`: [`InForce`], the policy in force and the time of the clock, with what was worked out for the last messages.
 //! - `revision`: a policy, with what is worked out of it once.
+//! - `alike`: subscriptions that no rule tells apart.
 //! - `judges`: what becomes of a record, for each subscription.
 //! - `shares`: [`Shares`], what each subscription is given (a [`Share`](mediator_tables::Share)), what is added to its
 //!   aggregates ([`Tally`](mediator_tables::Tally)), and what the audit notes ([`Notes`]).
@@ -19,6 +20,7 @@
 //! them (`exact`).
 #![tactic(auto)]
 
+mod alike;
 mod counts;
 mod in_force;
 mod judgement;
