@@ -1,8 +1,8 @@
 -- Subscriptions that no rule tells apart: what is disclosed to them, and their groups.
-use Rattle.std.proofs.Common.{◌≡◌, ◌==◌, ◌&&◌, ◌||◌, not, true, false, Bool, cond, ℕ, zero, suc, ◌+◌, ◌<◌, ◌≤◌, List, [], ◌∷◌, ◌++◌, length, map, take, get_or, slice_get, Option, Some, None, refl, sym, ap, ◌∙◌, subst, arith}
-use Rattle.std.specs.List.{find, enumerate_from, flat_map, AllByRecursion, list_any}
+use Rattle.std.proofs.Common.{◌≡◌, ◌==◌, ◌&&◌, not, true, false, Bool, cond, ℕ, zero, suc, ◌+◌, ◌<◌, ◌≤◌, List, [], ◌∷◌, ◌++◌, length, map, take, get_or, slice_get, Option, Some, None, refl, sym, ap, ◌∙◌, subst, arith}
+use Rattle.std.specs.List.{find, enumerate_from, flat_map, AllByRecursion}
 use Rattle.std.specs.Str.{bytes_eq}
-use Rattle.std.proofs.lemmas.List.{map-append, take_all, length-map}
+use Rattle.std.proofs.lemmas.List.{map-append, take_all}
 use Rattle.std.proofs.lemmas.List.Concat.{flat_map-cons}
 use Rattle.std.proofs.lemmas.Bool.{or_parts}
 use Rattle.std.proofs.lemmas.Bool.Decides.{Decides-eqb}
@@ -10,8 +10,8 @@ use Rattle.std.proofs.Math.ListN.{get_or-map}
 use Rattle.ipfix_element.specs.Element.{Element}
 use Rattle.ipfix_template.specs.DataRecord.{DataRecord}
 use Rattle.policy_text.specs.declared.rule.Rule.{Rule}
-use Rattle.policy_judge.specs.Match.{is_met, is_on_records, is_element, is_for, covers, matches_record, matches_field, element_at}
-use Rattle.policy_judge.specs.Verdicts.{first_rule, record_verdict_by, element_verdict_by, record_verdict_of, element_verdict_of}
+use Rattle.policy_judge.specs.Match.{is_met, is_on_records, is_element, covers, matches_record, matches_field, element_at}
+use Rattle.policy_judge.specs.Verdicts.{record_verdict_by, element_verdict_by, record_verdict_of, element_verdict_of}
 use Rattle.policy_judge.specs.declared.verdict.RecordVerdict.{RecordVerdict}
 use Rattle.policy_judge.specs.declared.verdict.ElementVerdict.{ElementVerdict}
 use Rattle.policy_judge.specs.Laws.{concerns}
@@ -48,11 +48,11 @@ flat_alike f g same (x ∷ xs) =
     flat_map-cons f x xs ∙ ap (λ y. y ++ flat_map f xs) (same x) ∙ ap (λ ys. g x ++ ys) (flat_alike f g same xs) ∙ sym (flat_map-cons g x xs)
 
 record_alike : (a b : List ℕ) (domain : ℕ) (r : DataRecord) (rule : Rule) → concerns a rule ≡ concerns b rule → matches_record a domain r rule ≡ matches_record b domain r rule
-record_alike a b domain r rule same = ap (λ w. is_on_records rule.action && ((w && is_met (λ d. d == domain) rule.domain) && covers r rule)) same
+record_alike a b domain r rule same = ap (λ (w : Bool). is_on_records rule.action && ((w && is_met (λ d. d == domain) rule.domain) && covers r rule)) same
 
 field_alike : (a b : List ℕ) (domain : ℕ) (r : DataRecord) (element : Option Element) (rule : Rule) → concerns a rule ≡ concerns b rule → matches_field a domain r element rule ≡ matches_field b domain r element rule
 field_alike a b domain r element rule same =
-    ap (λ w. not (is_on_records rule.action) && (is_met (is_element element) rule.element && ((w && is_met (λ d. d == domain) rule.domain) && covers r rule))) same
+    ap (λ (w : Bool). not (is_on_records rule.action) && (is_met (is_element element) rule.element && ((w && is_met (λ d. d == domain) rule.domain) && covers r rule))) same
 
 -- to two that no rule tells apart the same is disclosed
 pub same_outcome : (a b : List ℕ) (domain : ℕ) (r : DataRecord) (rules : List Rule) → AreAlike rules a b → disclosure_of a domain r rules ≡ disclosure_of b domain r rules
@@ -62,12 +62,12 @@ same_outcome a b domain r rules so =
   where
     on_record : record_verdict_of a domain r rules ≡ record_verdict_of b domain r rules
     on_record = ap record_verdict_by (found_alike (matches_record a domain r) (matches_record b domain r) 1 rules
-        (all_weaker _ _ (record_alike a b domain r) rules so.each))
+        (all_weaker (λ (rule : Rule). concerns a rule ≡ concerns b rule) (λ (rule : Rule). matches_record a domain r rule ≡ matches_record b domain r rule) (record_alike a b domain r) rules so.each))
 
     on_fields : verdicts_of a domain r rules ≡ verdicts_of b domain r rules
     on_fields = map_alike (λ place. element_verdict_of a domain r place rules) (λ place. element_verdict_of b domain r place rules)
         (λ place. ap element_verdict_by (found_alike (matches_field a domain r (element_at r place)) (matches_field b domain r (element_at r place)) 1 rules
-        (all_weaker _ _ (field_alike a b domain r (element_at r place)) rules so.each)))
+        (all_weaker (λ (rule : Rule). concerns a rule ≡ concerns b rule) (λ (rule : Rule). matches_field a domain r (element_at r place) rule ≡ matches_field b domain r (element_at r place) rule) (field_alike a b domain r (element_at r place)) rules so.each)))
         (places_of r)
 
 -- ---- whom no rule names
@@ -160,7 +160,7 @@ leaders_led rules leaders served places so =
 
 pub leaders_alone : (rules : List Rule) (served : List Served) → AreLeaders rules served served []
 leaders_alone rules [] = record { led = λ yes. tt; alone = λ differ. refl }
-leaders_alone rules (who ∷ served) = record { led = λ yes. absurd cc; alone = λ differ. refl }
+leaders_alone rules (who ∷ served) = record { led = λ yes. absurd (omega (arith, (Decides-eqb 0 (suc (length served))).0 yes)); alone = λ differ. refl }
 
 -- ---- groups, one subscription after another
 

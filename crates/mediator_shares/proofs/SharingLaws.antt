@@ -96,7 +96,7 @@ sharing_end gives old new r served place so over done start =
     ∙ ap (λ l. map (share_by gives (done ++ r ∷ [])) served ++ map (share_by gives done) l) (drop_of_length-le served over)
     ∙ append-nil (map (share_by gives (done ++ r ∷ [])) served)
 
-more_served : (served : List Served) (place : ℕ) (who other : Served) → place < length served → who ≡ get_or served place other → take (place + 1) served ≡ take place served ++ who ∷ []
+pub more_served : (served : List Served) (place : ℕ) (who other : Served) → place < length served → who ≡ get_or served place other → take (place + 1) served ≡ take place served ++ who ∷ []
 more_served served place who other within at = take_more served place other within ∙ ap (λ x. take place served ++ x ∷ []) (sym at)
 
 rest_served : (served : List Served) (place : ℕ) (who other : Served) → place < length served → who ≡ get_or served place other → drop place served ≡ who ∷ drop (place + 1) served
@@ -208,7 +208,8 @@ noting_step told tnew tnew2 before notes notes2 domain f index r served place wh
 -- where no more are kept, none is after others either
 pub still_full : (k now : KeptNotes) (more : List Note) → now ≡ and_more k more → k.most ≤ length k.notes → now.most ≤ length now.notes
 still_full k now more is full =
-    subst (λ (n : KeptNotes). n.most ≤ length n.notes) (sym is) (omega (arith, full, length-append k.notes (take (k.most - length k.notes) more)))
+    let grown : k.most ≤ length (k.notes ++ take (k.most - length k.notes) more) = omega (arith, full, length-append k.notes (take (k.most - length k.notes) more)) in
+    subst (λ (n : KeptNotes). n.most ≤ length n.notes) (sym is) grown
 
 -- ---- the records of a run, one after another
 

@@ -550,13 +550,22 @@ fn spread_led(
 {
     let mut shares = Vec::with_capacity(alloc, served.len())?;
     'served: for (place, who) in served.iter().enumerate() {
-        let given = given[places[place]].given.clone()?;
-        shares.push(Share {
-            sub: who.sub,
-            given,
-        })?;
+        shares.push(shared_with(who.sub, &given[places[place]])?)?;
     }
     Ok(shares)
+}
+
+/// The records of `share`, for the subscription with the number `sub`.
+///
+/// # Errors
+/// Want of memory.
+fn shared_with(sub: u64, share: &Share) -> Result<Share, AllocError>
+    ensures { IfOk result (λ s. shown s ≡ (sub, share.now.given)) }
+{
+    Ok(Share {
+        sub,
+        given: share.given.clone()?,
+    })
 }
 
 /// What the audit says of a record that the aggregate rule with the number `rule` names, where `timing` is what became
