@@ -82,14 +82,14 @@ impl Shares {
     ///
     /// # Errors
     /// Want of memory.
-    fn led(
+    fn led<'a>(
         alloc: Global,
         in_force: &mut InForce,
         domain: u32,
         records: &Records,
-        leaders: &[Served<'_>],
+        leaders: &[Served<'a>],
         places: &[usize],
-        served: &[Served<'_>],
+        served: &[Served<'a>],
         most: u64,
     ) -> Result<Shares, AllocError>
         requires few { length records.now ≤ 2 ^ 32 }
