@@ -179,7 +179,7 @@ within_at (p ∷ places) n zero place none all l at = subst (λ (x : ℕ). x < n
 within_at (p ∷ places) n (suc k) place none all l at = within_at places n k place none all.1 (omega (arith, l)) at
 
 pub different : (a b : ℕ) → (a ≡ b → ⊥) → (a == b) ≡ false
-different a b no = false_from_ne_true (a == b) (λ yes. no ((Decides-eqb a b).0 yes))
+different a b differ = false_from_ne_true (a == b) (λ same. differ ((Decides-eqb a b).0 same))
 
 pub alike_many : (a b : ℕ) → a ≡ b → (a == b) ≡ true
 alike_many a b same = (Decides-eqb a b).1 same

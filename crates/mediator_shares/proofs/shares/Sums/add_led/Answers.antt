@@ -18,7 +18,7 @@ leaders-init c =
     )
 
 pub disclose-requires-clause-there : goal.disclose-requires-clause-there
-disclose-requires-clause-there c = there_for c.leaders.judges c.args.in_force.now c.args.domain _ c.args.leaders.now c.leaders.place c.leaders.invariant.2 (omega (arith, c.leaders-test.true, c.len-place-end.ensures.value, c.leaders.auto.place-end))
+disclose-requires-clause-there c = there_for c.leaders.judges c.args.in_force.now c.args.domain _ c.args.leaders.now c.leaders.place c.leaders.invariant.2 (omega (arith, c.leaders-test.true))
 
 pub disclose-requires-clause-template : goal.disclose-requires-clause-template
 disclose-requires-clause-template c = λ p at. template_at c.leaders.judges c.args.in_force.now c.args.domain _ c.args.leaders.now c.leaders.place p c.leaders.invariant.2 at
@@ -31,7 +31,7 @@ disclose-requires-clause-classes c = c.classes_of-classes.ensures.value ∙ ap (
 
 pub leaders-preserved : goal.leaders-preserved
 leaders-preserved c =
-    let l : c.leaders.place < length c.args.leaders.now = omega (arith, c.leaders-test.true, c.len-place-end.ensures.value, c.leaders.auto.place-end) in
+    let l : c.leaders.place < length c.args.leaders.now = omega (arith, c.leaders-test.true) in
     let one = at_place c.args.leaders.now c.leaders.place l in
     let found = c.in_ok-found.ensures in
     let there = judge_at c.leaders.judges c.args.in_force.now c.args.domain (Some c.args.flow_record.now.template) c.args.leaders.now c.leaders.place one.who one.who c.leaders.invariant.2 l one.is in (
@@ -48,9 +48,9 @@ served-init c = noting_start c.args.self.now.tallies.items c.args.self.now.notes
 pub bounds-places-place : goal.bounds-places-place
 bounds-places-place c = omega (arith, c.served-test.true, led_many c.args.in_force.now.policy.rules c.args.leaders.now c.args.served.now c.args.places.now c.requires.led)
 
-pub index-requires : goal.index-requires
-index-requires c =
-    let over : length c.args.leaders.now ≤ c.leaders.place = omega (arith, c.leaders-test.false, c.len-place-end.ensures.value, c.leaders.auto.place-end) in
+pub index-found-requires : goal.index-found-requires
+index-found-requires c =
+    let over : length c.args.leaders.now ≤ c.leaders.place = omega (arith, c.leaders-test.false) in
     let r = c.args.flow_record.now in
     let decided = decided_all c.keeps_next-tells_all.result c.args.domain c.args.in_force.now r c.leaders.decided.items c.args.leaders.now c.leaders.place c.leaders.invariant.1 over in
     decided_within c.keeps_next-tells_all.result c.args.domain c.args.in_force.now r c.leaders.decided.items c.args.leaders.now c.args.served.now c.args.places.now c.served.place _ decided c.requires.led (omega (arith, c.served-test.true))
@@ -60,7 +60,7 @@ add-requires c = omega (arith, c.served-test.true, c.served.invariant.stay)
 
 pub served-preserved : goal.served-preserved
 served-preserved c =
-    let over : length c.args.leaders.now ≤ c.leaders.place = omega (arith, c.leaders-test.false, c.len-place-end.ensures.value, c.leaders.auto.place-end) in
+    let over : length c.args.leaders.now ≤ c.leaders.place = omega (arith, c.leaders-test.false) in
     let l = c.served-test.true in
     let r = c.args.flow_record.now in
     let tells = c.keeps_next-tells_all.result in
@@ -75,4 +75,4 @@ served-preserved c =
 pub returns : goal.returns
 returns c =
     added c.args.judges.now c.leaders.judges c.args.self.now.tallies.items c.served.self.tallies.items c.args.self.now.notes c.served.self.notes c.args.domain c.args.in_force.now c.args.index c.args.flow_record.now c.args.leaders.now c.args.served.now c.leaders.place c.served.place
-    c.leaders.invariant.0 (omega (arith, c.leaders-test.false, c.len-place-end.ensures.value, c.leaders.auto.place-end)) c.served.invariant (omega (arith, c.served-test.false)) c.leaders.invariant.2
+    c.leaders.invariant.0 (omega (arith, c.leaders-test.false)) c.served.invariant (omega (arith, c.served-test.false)) c.leaders.invariant.2
