@@ -11,13 +11,13 @@ served-init c = λ domain f records leaders all led. ap (map shown) c.in_ok-shar
 pub bounds-places-place : goal.bounds-places-place
 bounds-places-place c = omega (arith, c.served-test.true, c.requires.each)
 
-pub bounds-given-places : goal.bounds-given-places
-bounds-given-places c = within_at c.args.places.now (length c.args.given.now) c.served.place _ _ c.requires.within (omega (arith, c.served-test.true, c.requires.each)) refl
+pub bounds-given-leader : goal.bounds-given-leader
+bounds-given-leader c = within_at c.args.places.now (length c.args.given.now) c.served.place _ _ c.requires.within (omega (arith, c.served-test.true, c.requires.each)) refl
 
 pub served-preserved : goal.served-preserved
 served-preserved c = λ domain f records leaders all led.
-    spread_step c.args.given.now c.served.shares.items c.push.new.self.items domain f records leaders c.args.served.now c.args.places.now c.served.place _ _ _ _ c.index-given-places.result _ c.in_ok-shared_with.field-0 all led (c.served.invariant domain f records leaders all led)
-    (omega (arith, c.served-test.true)) refl refl c.index-given-places.is c.in_ok-shared_with.ensures c.in_ok-push.ensures.items
+    spread_step c.args.given.now c.served.shares.items c.push.new.self.items domain f records leaders c.args.served.now c.args.places.now c.served.place _ _ _ _ c.index-given-leader.result _ c.in_ok-shared_with.field-0 all led (c.served.invariant domain f records leaders all led)
+    (omega (arith, c.served-test.true)) refl refl c.index-given-leader.is c.in_ok-shared_with.ensures c.in_ok-push.ensures.items
 
 pub returns : goal.returns
 returns c = λ domain f records leaders all led.
