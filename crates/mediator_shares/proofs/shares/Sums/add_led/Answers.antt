@@ -53,7 +53,8 @@ index-found-requires c =
     let over : length c.args.leaders.now ≤ c.leaders.place = omega (arith, c.leaders-test.false) in
     let r = c.args.flow_record.now in
     let decided = decided_all c.keeps_next-tells_all.result c.args.domain c.args.in_force.now r c.leaders.decided.items c.args.leaders.now c.leaders.place c.leaders.invariant.1 over in
-    decided_within c.keeps_next-tells_all.result c.args.domain c.args.in_force.now r c.leaders.decided.items c.args.leaders.now c.args.served.now c.args.places.now c.served.place _ decided c.requires.led (omega (arith, c.served-test.true))
+    let there = decided_within c.keeps_next-tells_all.result c.args.domain c.args.in_force.now r c.leaders.decided.items c.args.leaders.now c.args.served.now c.args.places.now c.served.place 0 decided c.requires.led (omega (arith, c.served-test.true)) in
+    omega (arith, there, c.leaders.decided.ok.0)
 
 pub add-requires : goal.add-requires
 add-requires c = omega (arith, c.served-test.true, c.served.invariant.stay)
@@ -68,7 +69,7 @@ served-preserved c =
     let one = led_at c.args.in_force.now.policy.rules c.args.leaders.now c.args.served.now c.args.places.now c.served.place _ _ _ _ c.requires.led (omega (arith, l)) refl refl in
     noting_step c.args.self.now.tallies.items c.served.self.tallies.items c.add.new.self.tallies.items c.args.self.now.notes c.served.self.notes c.add.new.self.notes
         c.args.domain c.args.in_force.now c.args.index r c.args.served.now c.served.place _ _ c.index-found.result.now tells c.served.invariant (omega (arith, l)) refl
-        (decided_led tells c.args.domain c.args.in_force.now r c.leaders.decided.items c.args.leaders.now _ _ c.index-found.result.now _ one decided c.index-found.ensures.value)
+        (decided_led tells c.args.domain c.args.in_force.now r c.leaders.decided.items c.args.leaders.now _ _ c.index-found.result.now _ one decided c.index-found.ensures)
         (λ none. still_full c.args.self.now.notes c.served.self.notes _ c.served.invariant.noting (ltb-false (length c.args.self.now.notes.notes) c.args.self.now.notes.most (sym c.keeps_next-tells_all.ensures ∙ none)))
         c.in_ok-add.ensures.tallies c.in_ok-add.ensures.stay c.in_ok-add.ensures.notes
 
