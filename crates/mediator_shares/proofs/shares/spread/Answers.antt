@@ -1,4 +1,5 @@
-use Rattle.std.proofs.Common.{length, ap, ◌∙◌, arith}
+use Rattle.std.proofs.Common.{length, map, ap, ◌∙◌, arith}
+use Rattle.mediator_tables.specs.SubscriptionTable.{shown}
 use Rattle.mediator_shares.specs.Sharing.{shares_of}
 use Rattle.mediator_shares.proofs.AlikeLaws.{different, alike_many}
 use Rattle.mediator_shares.proofs.shares.spread.Goals as goal
@@ -9,4 +10,4 @@ returns-then-places-served c = λ domain f records leaders all so.
 
 pub returns : goal.returns
 returns c = λ domain f records leaders all so.
-    c.spread_led.ensures domain f records leaders all (so.led (alike_many (length c.args.places.now) (length c.args.served.now) (omega (arith, c.if-places-served.false))))
+    c.spread_led.ensures domain f records leaders (ap (map shown) c.deref.ensures.value ∙ all) (so.led (alike_many (length c.args.places.now) (length c.args.served.now) (omega (arith, c.if-places-served.false))))
