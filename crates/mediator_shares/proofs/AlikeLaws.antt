@@ -1,11 +1,12 @@
 -- Subscriptions that no rule tells apart: what is disclosed to them, and their groups.
-use Rattle.std.proofs.Common.{◌≡◌, ◌==◌, ◌&&◌, not, true, false, Bool, cond, ℕ, zero, suc, ◌+◌, ◌<◌, ◌≤◌, List, [], ◌∷◌, ◌++◌, length, map, take, get_or, slice_get, Option, Some, None, refl, sym, ap, ◌∙◌, subst, arith}
+use Rattle.std.proofs.Common.{◌≡◌, ◌==◌, ◌&&◌, ◌||◌, not, true, false, Bool, cond, ℕ, zero, suc, ◌+◌, ◌<◌, ◌≤◌, List, [], ◌∷◌, ◌++◌, length, map, take, get_or, slice_get, Option, Some, None, refl, sym, ap, ◌∙◌, subst, arith}
 use Rattle.std.specs.List.{find, enumerate_from, flat_map, AllByRecursion}
 use Rattle.std.specs.Str.{bytes_eq}
-use Rattle.std.proofs.lemmas.List.{map-append, take_all}
+use Rattle.std.proofs.lemmas.List.{map-append, length-map, take_all}
 use Rattle.std.proofs.lemmas.List.Concat.{flat_map-cons}
-use Rattle.std.proofs.lemmas.Bool.{or_parts}
-use Rattle.std.proofs.lemmas.Bool.Decides.{Decides-eqb}
+use Rattle.std.proofs.lemmas.Bool.{or_parts, false_from_ne_true}
+use Rattle.std.proofs.lemmas.Bool.Decides.{Decides-eqb, same_from_decides}
+use Rattle.std.proofs.lemmas.Slice.Eq.{bytes_eq-Decides}
 use Rattle.std.proofs.Math.ListN.{get_or-map}
 use Rattle.ipfix_element.specs.Element.{Element}
 use Rattle.ipfix_template.specs.DataRecord.{DataRecord}
@@ -24,6 +25,7 @@ use Rattle.mediator_tables.specs.SubscriptionTable.{shown}
 use Rattle.mediator_shares.specs.InForce.{InForce}
 use Rattle.mediator_shares.specs.Sharing.{outcome_by, given_by, share_of, shares_of}
 use Rattle.mediator_shares.specs.Alike.{is_who, is_named, AreAlike, IsLed, AreLed, AreLeaders}
+use Rattle.mediator_shares.proofs.TermsLaws.{no_truth}
 use Rattle.mediator_shares.proofs.SharingLaws.{as_share, more_served}
 
 -- ---- what is disclosed
@@ -92,6 +94,29 @@ same_each : (rules : List Rule) (a : List ℕ) → AllByRecursion (λ rule. conc
 same_each [] a = tt
 same_each (rule ∷ rules) a = (refl, same_each rules a)
 
+-- ---- the names that rules have, one rule after another
+
+bytes_same : (a b : List ℕ) → bytes_eq a b ≡ bytes_eq b a
+bytes_same a b = same_from_decides (bytes_eq a b) (bytes_eq b a) (bytes_eq-Decides a b) (
+  (λ yes. sym ((bytes_eq-Decides b a).0 yes)),
+  (λ same. (bytes_eq-Decides b a).1 (sym same)),
+)
+
+put_either : (was b : Bool) → cond b true was ≡ (was || b)
+put_either true true = refl
+put_either true false = refl
+put_either false true = refl
+put_either false false = refl
+
+-- a name is put beside those that are there
+pub put_some : (name other : List ℕ) (who : Option (List ℕ)) (was now : Bool) → now ≡ cond (bytes_eq other name) true was → who ≡ Some other → now ≡ (was || is_who name who)
+put_some name other who was now is at =
+    is ∙ ap (λ (b : Bool). cond b true was) (bytes_same other name) ∙ put_either was (bytes_eq name other) ∙ ap (λ (w : Option (List ℕ)). was || is_who name w) (sym at)
+
+-- or none is
+pub put_none : (name : List ℕ) (who : Option (List ℕ)) (was : Bool) → who ≡ None → was ≡ (was || is_who name who)
+put_none name who was at = put_either was false ∙ ap (λ (w : Option (List ℕ)). was || is_who name w) (sym at)
+
 -- ---- places of leaders
 
 got_front : {A : Type 0} (xs more : List A) (n : ℕ) (x : A) → slice_get xs n ≡ Some x → slice_get (xs ++ more) n ≡ Some x
@@ -153,14 +178,24 @@ within_at [] n k place none all l at = absurd (omega (arith, l))
 within_at (p ∷ places) n zero place none all l at = subst (λ (x : ℕ). x < n) (sym at) all.0
 within_at (p ∷ places) n (suc k) place none all l at = within_at places n k place none all.1 (omega (arith, l)) at
 
+pub different : (a b : ℕ) → (a ≡ b → ⊥) → (a == b) ≡ false
+different a b differ = false_from_ne_true (a == b) (λ same. differ ((Decides-eqb a b).0 same))
+
+pub alike_many : (a b : ℕ) → a ≡ b → (a == b) ≡ true
+alike_many a b same = (Decides-eqb a b).1 same
+
 pub leaders_led : (rules : List Rule) (leaders served : List Served) (places : List ℕ) → AreLed rules leaders served places → AreLeaders rules leaders served places
 leaders_led rules leaders served places so =
-    let same = (Decides-eqb (length places) (length served)).1 (led_many rules leaders served places so) in
-    record { led = λ yes. so; alone = λ differ. absurd cc }
+    let same = alike_many (length places) (length served) (led_many rules leaders served places so) in
+    record { led = λ yes. so; alone = λ differ. absurd (no_truth (sym differ ∙ same)) }
 
 pub leaders_alone : (rules : List Rule) (served : List Served) → AreLeaders rules served served []
 leaders_alone rules [] = record { led = λ yes. tt; alone = λ differ. refl }
 leaders_alone rules (who ∷ served) = record { led = λ yes. absurd (omega (arith, (Decides-eqb 0 (suc (length served))).0 yes)); alone = λ differ. refl }
+
+-- each place is one of so many, where a place is named for each that is served
+pub places_within : (rules : List Rule) (leaders served : List Served) (places : List ℕ) (n : ℕ) → AreLeaders rules leaders served places → n ≡ length leaders → length places ≡ length served → AllByRecursion (λ place. place < n) places
+places_within rules leaders served places n so many same = led_within rules leaders served places n (so.led (alike_many (length places) (length served) same)) many
 
 -- ---- groups, one subscription after another
 
@@ -235,6 +270,13 @@ deciding_step tells domain f r ds ds2 leaders k who other d so within at is grow
 pub decided_all : (tells : Bool) (domain : ℕ) (f : InForce) (r : DataRecord) (ds : List Decision) (leaders : List Served) (k : ℕ) → ds ≡ map (told_for tells domain f r) (take k leaders) → length leaders ≤ k → ds ≡ map (told_for tells domain f r) leaders
 decided_all tells domain f r ds leaders k so over = so ∙ ap (map (told_for tells domain f r)) (take_all k leaders over)
 
+-- there is one for each that is served
+pub decided_within : (tells : Bool) (domain : ℕ) (f : InForce) (r : DataRecord) (ds : List Decision) (leaders served : List Served) (places : List ℕ) (k none : ℕ) → ds ≡ map (told_for tells domain f r) leaders → AreLed f.policy.rules leaders served places → k < length served
+    → get_or places k none < length ds
+decided_within tells domain f r ds leaders served places k none all led l =
+    let many : length ds ≡ length leaders = ap length all ∙ length-map leaders (told_for tells domain f r) in
+    within_at places (length ds) k (get_or places k none) none (led_within f.policy.rules leaders served places (length ds) led many) (omega (arith, l, led_many f.policy.rules leaders served places led)) refl
+
 -- is decided for each that it leads
 pub decided_led : (tells : Bool) (domain : ℕ) (f : InForce) (r : DataRecord) (ds : List Decision) (leaders : List Served) (who : Served) (place : ℕ) (d other : Decision) → IsLed f.policy.rules leaders who place → ds ≡ map (told_for tells domain f r) leaders → d ≡ get_or ds place other
     → d ≡ told_for tells domain f r who
@@ -253,6 +295,9 @@ at_place (who ∷ leaders) zero l = record { who = who; is = refl }
 at_place (who ∷ leaders) (suc k) l = let rest = at_place leaders k (omega (arith, l)) in record { who = rest.who; is = rest.is }
 
 -- ---- what is given to each leader, spread
+
+pub given_each : (given : List Share) (domain : ℕ) (f : InForce) (records : List DataRecord) (leaders : List Served) → map shown given ≡ shares_of domain f records leaders → length given ≡ length leaders
+given_each given domain f records leaders all = sym (length-map given shown) ∙ ap length all ∙ length-map leaders (share_of domain f records)
 
 pub spread_step : (given shares shares2 : List Share) (domain : ℕ) (f : InForce) (records : List DataRecord) (leaders served : List Served) (places : List ℕ) (k place none : ℕ) (who other : Served) (from another share : Share)
     → map shown given ≡ shares_of domain f records leaders → AreLed f.policy.rules leaders served places → map shown shares ≡ shares_of domain f records (take k served) → k < length served → who ≡ get_or served k other → place ≡ get_or places k none

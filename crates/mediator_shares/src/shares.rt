@@ -550,7 +550,8 @@ fn spread_led(
 {
     let mut shares = Vec::with_capacity(alloc, served.len())?;
     'served: for (place, who) in served.iter().enumerate() {
-        shares.push(shared_with(who.sub, &given[places[place]])?)?;
+        let leader = places[place];
+        shares.push(shared_with(who.sub, &given[leader])?)?;
     }
     Ok(shares)
 }
