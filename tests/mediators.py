@@ -134,7 +134,7 @@ class Server:
         self.server_close()
 
 
-class AdminDoor(Server, socketserver.ThreadingTCPServer):
+class AdminListener(Server, socketserver.ThreadingTCPServer):
     """Where `advance` connects."""
 
     def __init__(self, mediator):
@@ -143,7 +143,7 @@ class AdminDoor(Server, socketserver.ThreadingTCPServer):
         self.begin(mediator)
 
 
-class AskDoor(Server, socketserver.ThreadingUnixStreamServer):
+class AskListener(Server, socketserver.ThreadingUnixStreamServer):
     """Where `ask`, `watch` and `metrics` connect, in the place of `advance`."""
 
     def __init__(self, mediator, path):

@@ -149,7 +149,7 @@ def reach(port, kind=Peer):
     return kind(wait_until(try_once, f"someone listens on port {port}"))
 
 
-class Door:
+class Listener:
     """Where a collector listens, on a port that was free.
 
     With `room`, the system keeps about so many octets for it; with `segment`, it is sent segments of so many octets.

@@ -9,7 +9,7 @@ from typing import NamedTuple
 
 import program
 from messages import flow_message
-from peers import HOST, Admin, Door, free_port, reach, wait_until
+from peers import HOST, Admin, Listener, free_port, reach, wait_until
 
 # All is disclosed to all.
 PASS = "policy 1\nrule for * in * from * to * pass\nrule for * in * from * to * element * keep\n"
@@ -44,13 +44,13 @@ class Ended(NamedTuple):
 class Run:
     """A run of `ipmd serve`, as a context: it is killed where it hasn't ended by then, or lasts too long.
 
-    A collector listens for each subscriber; `doors` may give the doors, by name. `settings` are those that aren't the usual
+    A collector listens for each subscriber; `listeners` may give the listeners, by name. `settings` are those that aren't the usual
     ones; a value of None leaves the key out. `files` are empty files that its folder has before, and `links` links, by name.
     `wrapper` is a script that runs the program, given the admin's address, without which it isn't wrapped.
     """
 
-    def __init__(self, rules=PASS, subscribers=("acme",), connections=1, doors=None, longest=LONGEST, files=(), links=None, wrapper=None, **settings):
-        self.doors = {name: Door() for name in subscribers} | (doors or {})
+    def __init__(self, rules=PASS, subscribers=("acme",), connections=1, listeners=None, longest=LONGEST, files=(), links=None, wrapper=None, **settings):
+        self.listeners = {name: Listener() for name in subscribers} | (listeners or {})
         self.ports = {"exporters": free_port(), "admin": free_port()}
         self.folder = tempfile.TemporaryDirectory(prefix="ipmd-test-")
         self.settings = {
@@ -58,7 +58,7 @@ class Run:
             "admin": f"{HOST}:{self.ports['admin']}",
             "policy": "policy.txt",
             "connections": connections,
-            "deliver": {name: f"{HOST}:{door.port}" for name, door in self.doors.items()},
+            "deliver": {name: f"{HOST}:{listener.port}" for name, listener in self.listeners.items()},
         }
         self.settings |= ROOMY | settings
         self.rules, self.longest, self.peers = rules, longest, []
@@ -95,7 +95,7 @@ class Run:
         self.watch.cancel()
         self.kill()
         self.child.wait()
-        for one in [*self.peers, *self.doors.values()]:
+        for one in [*self.peers, *self.listeners.values()]:
             one.close()
         self.folder.cleanup()
 
@@ -129,7 +129,7 @@ class Run:
     def collector(self, name="acme"):
         """A subscriber's collector, when the program has connected to it."""
         try:
-            return self.doors[name].accept()
+            return self.listeners[name].accept()
         except TimeoutError:
             raise AssertionError(f"nobody connects to {name}'s collector; noted:\n{self.notes()}") from None
 

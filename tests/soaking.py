@@ -339,7 +339,7 @@ class Exporter:
 
 
 class Collector:
-    """A collector that takes all it is sent, and comes whenever it is connected to. It stands as a door where a run wants one."""
+    """A collector that takes all it is sent, and comes whenever it is connected to. It stands as a listener where a run wants one."""
 
     # Whether the system keeps little for it that it hasn't taken.
     has_little_room = False
@@ -614,18 +614,18 @@ class Soak:
     def play(self):
         """Has everything happen, and answers the soak itself."""
         plan = self.plan
-        doors = {"acme": Collector(self, "acme"), "beta": Collector(self, "beta")}
-        doors |= {"gamma": Staller(self, "gamma"), "delta": Leaver(self, "delta")}
+        listeners = {"acme": Collector(self, "acme"), "beta": Collector(self, "beta")}
+        listeners |= {"gamma": Staller(self, "gamma"), "delta": Leaver(self, "delta")}
         self.run = Run(
-            POLICIES[0], subscribers=(), doors=doors, connections=100, longest=plan.seconds + 120,
+            POLICIES[0], subscribers=(), listeners=listeners, connections=100, longest=plan.seconds + 120,
             endless=True, runs=plan.runs, journal=str(self.folder / "journal"), journal_octets=plan.journal_octets,
             queue=plan.queue, shapes=256, audit=4_000_000, reconnect=1, hold=plan.hold, idle=plan.idle, drain=plan.drain,
         )
-        collectors = {name: Helper(door.run) for name, door in doors.items()}
+        collectors = {name: Helper(listener.run) for name, listener in listeners.items()}
         exporters = Helper(self.export)
         administrator = Administrator(self)
         try:
-            for _ in doors:
+            for _ in listeners:
                 assert self.ready.acquire(timeout=PATIENCE), "a collector doesn't listen"
             with mock.patch.dict(os.environ, ARENAS | os.environ), self.run, ThreadPoolExecutor(2) as pool:
                 try:

@@ -4,14 +4,14 @@ import unittest
 
 from tool_copies import repository_with
 
-KINDS = ("clause", "arguments", "function", "head", "prose", "number")
+KINDS = ("clause", "arguments", "function", "head", "comment", "parameter", "name", "prose", "number")
 
 HEAD = "//! What this is for.\n"
 
 # Sources, definitions and pages in which nothing is found: at the bounds, in comments and texts, and implicit arguments.
 RIGHT = {
     "crates/low/src/lib.rt": HEAD
-    + "use std::alloc::Global;\n\n/// The octets of a header.\npub const HEADER_OCTETS: usize = 16;\n\nconst PIECE: usize = 65_536;\n\n"
+    + "ghost use Rattle.low.specs.Numbers.{header_octets};\n\nuse std::alloc::Global;\n\n/// The octets of a header.\npub const HEADER_OCTETS: usize = 16;\n\nconst PIECE: usize = 65_536;\n\n"
     + "fn at_the_bound(text: &str) -> bool\n"
     + "    ensures bound { " + "x" * 98 + " }\n{\n"
     + "    // A brace { and fn wide() ensures { in a comment.\n    let brace = '{';\n" + "    let text = \"}\";\n" + "    step();\n" * 39 + "}\n",
@@ -19,8 +19,10 @@ RIGHT = {
     + "pub record Seven {A : Type 0} (a b : A) (c d e : ℕ) (f : A → A) (g : ℕ) : Type 0 where\n  pub is : a ≡ b\n\n"
     + "abbrev pub IsSeven : {A : Type 0} → A → A → (ℕ → ℕ → ℕ) → ℕ → (m n : ℕ)\n    → ℕ → Type 0\nIsSeven a b f n m o p = n ≡ m\n",
     "crates/high/src/lib.rt": HEAD
-    + "use low::HEADER_OCTETS;\n\nconst PIECE: usize = 65_536;\n\nconst LEAST: u64 = HEADER_OCTETS as u64;\n\nconst TEMPLATE_OCTETS: usize = 16;\n",
-    "crates/tests_high/src/lib.rt": HEAD + "const HEADER_OCTETS: usize = 0x10;\n",
+    + "ghost use Rattle.high.specs.Helpers.{header_octets};\n\nuse low::HEADER_OCTETS;\n\n"
+    + "/// The sum of `one` and what `other` answers, in memory from an allocator.\n#[inline]\n"
+    + "pub fn add<F: Fn(u64) -> u64>(alloc: Global, one: u64, other: F) -> u64 {\n    one\n}\n\nconst PIECE: usize = 65_536;\n\nconst LEAST: u64 = HEADER_OCTETS as u64;\n\nconst TEMPLATE_OCTETS: usize = 16;\n",
+    "crates/tests_high/src/lib.rt": HEAD + "const HEADER_OCTETS: usize = 0x10;\n\n/// No name is needed here.\npub fn play(turns: u64) {}\n",
     "docs/PAGE.md": "# A page\n\n" + "y" * 50 + " " + "z" * 49 + "\n",
 }
 
@@ -61,6 +63,31 @@ WRONG = [
         "crates/high/src/lib.rt",
         HEAD + "const MESSAGE_HEADER: u16 = 0x10;\n",
         "2: 16 is `MESSAGE_HEADER` here, and `header_octets` in low/specs/Numbers.antt:3", "number",
+    ),
+    (
+        "crates/low/src/more.rt",
+        HEAD + "/// Fails after so many calls.\nfn f() {}\n",
+        '2: a comment says "so many", or begins with "The same"', "comment",
+    ),
+    (
+        "crates/low/src/more.rt",
+        HEAD + "/// The length.\nfn f() {}\n\n/// The same of others.\nfn g() {}\n",
+        '5: a comment says "so many", or begins with "The same"', "comment",
+    ),
+    (
+        "crates/low/src/more.rt",
+        HEAD + "impl A {\n    /// Adds `one` and another.\n    pub fn add<F: Fn(u8) -> u8>(&mut self, one: u8, other: F) -> u8 {\n        one\n    }\n}\n",
+        "4: the comment of `add` doesn't name `other`", "parameter",
+    ),
+    (
+        "crates/high/specs/More.antt",
+        "abbrev pub IsSeven : ℕ → Type 0\nIsSeven n = n ≡ 7\n",
+        "1: `IsSeven` is a definition of low/specs/Numbers.antt too", "name",
+    ),
+    (
+        "crates/high/specs/Helpers.antt",
+        "abbrev pub header_octets : ℕ\nheader_octets = 7\n",
+        "1: `header_octets` is a definition of low/specs/Numbers.antt too", "name",
     ),
     ("docs/PAGE.md", "# A page\n\n" + "y" * 50 + " " + "z" * 50 + "\n", "3: 101 columns, and 100 at most", "prose"),
 ]

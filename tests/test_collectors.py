@@ -4,7 +4,7 @@ import unittest
 from concurrent.futures import ThreadPoolExecutor
 
 from messages import VARIABLE, Template, flow_message, message, records
-from peers import Door, wait_until
+from peers import Listener, wait_until
 from serving import ServeTest
 
 # One value of 60,000 octets, of the element paddingOctets.
@@ -71,8 +71,8 @@ class Collectors(ServeTest):
 
     def start_tight(self, **asked):
         """A run in which few records may wait, and acme's collector takes nothing yet."""
-        doors = {"acme": Door(room=65536), "beta": Door()}
-        run = self.start(subscribers=(), doors=doors, queue=QUEUE, target=65535, **asked)
+        listeners = {"acme": Listener(room=65536), "beta": Listener()}
+        run = self.start(subscribers=(), listeners=listeners, queue=QUEUE, target=65535, **asked)
         return run, run.collector("acme"), run.collector("beta")
 
     def send_until_cut(self, exporter, admin, other):
@@ -123,8 +123,8 @@ class Collectors(ServeTest):
         1,000 octets, as many as a message has. So a write that waits has sent nothing of its message, and the 12 seconds
         don't begin a second time.
         """
-        doors = {"acme": Door(room=65536, segment=STEADY_OCTETS), "beta": Door()}
-        run = self.start(subscribers=(), doors=doors, longest=120)
+        listeners = {"acme": Listener(room=65536, segment=STEADY_OCTETS), "beta": Listener()}
+        run = self.start(subscribers=(), listeners=listeners, longest=120)
         run.collector("acme")
         other, admin, exporter = run.collector("beta"), run.admin(), run.exporter()
         with ThreadPoolExecutor(1) as pool:

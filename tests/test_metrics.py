@@ -19,7 +19,7 @@ import unittest
 import urllib.request
 
 import browser
-from mediators import AskDoor, Mediator
+from mediators import AskListener, Mediator
 from messages import flow_message, records
 from peers import HOST, PATIENCE, free_port, wait_until
 from serving import SCRIPTS, ServeTest
@@ -156,10 +156,10 @@ class MetricsTest(unittest.TestCase):
         self.mediator = Mediator()
         self.mediator.clock = 1700000061005
 
-    def open_door(self):
-        door = AskDoor(self.mediator, self.socket)
-        self.addCleanup(door.end)
-        return door
+    def open_listener(self):
+        listener = AskListener(self.mediator, self.socket)
+        self.addCleanup(listener.end)
+        return listener
 
     def start(self, *words):
         """A `metrics` that looks five times a second; it is ended, at the latest, when the test is."""
@@ -173,9 +173,9 @@ class MetricsTest(unittest.TestCase):
 
     def start_all(self):
         """A mediator, and a `metrics` with settings and notes."""
-        door = self.open_door()
+        listener = self.open_listener()
         self.start("--settings", self.settings, "--notes", self.notes)
-        return door
+        return listener
 
     def answers(self):
         with contextlib.suppress(ConnectionRefusedError):
@@ -220,7 +220,7 @@ class Pages(MetricsTest):
     def test_without_settings(self):
         """Where it isn't told the settings, who has a collector is known by the mediator, and the limit of queues isn't."""
         self.mediator.subscriptions.append("3 gamma 0 0 live none")
-        self.open_door()
+        self.open_listener()
         self.start("--notes", self.notes)
         found = self.metrics()
         self.assertNotIn("ipmd_queue_limit_records", found)
@@ -248,16 +248,16 @@ class Pages(MetricsTest):
 
     def test_gone(self):
         """A mediator that doesn't answer is told plainly, and nothing of it that is old; when it is back, so are its numbers."""
-        door = self.start_all()
+        listener = self.start_all()
         self.assertEqual(self.value("ipmd_up"), 1)
-        door.end()
+        listener.end()
         self.wait_for("ipmd_up", 0)
         self.assertEqual(set(self.metrics()), ALWAYS)
         page = self.get("/")[1]
         self.assertIn("The mediator does not answer.", Reader(page).text)
         self.assertIn("<title>ipmd: no answer</title>", page)
         os.unlink(self.socket)
-        self.open_door()
+        self.open_listener()
         self.wait_for("ipmd_up", 1)
         self.assertEqual(set(self.metrics()), {*EXPECTED, "ipmd_poll_timestamp_seconds"})
 
@@ -265,16 +265,16 @@ class Pages(MetricsTest):
         """It begins also where there is no mediator yet."""
         self.start("--settings", self.settings)
         self.assertEqual(self.value("ipmd_up"), 0)
-        self.open_door()
+        self.open_listener()
         self.wait_for("ipmd_up", 1)
 
     def test_broken_answers(self):
         """An answer that breaks off, a refusal and lines of no sense are those of no mediator, and no end."""
-        door = self.start_all()
-        door.most = 30
+        listener = self.start_all()
+        listener.most = 30
         self.wait_for("ipmd_up", 0)
         self.assertIn("broken off", Reader(self.get("/")[1]).text)
-        door.most = None
+        listener.most = None
         self.wait_for("ipmd_up", 1)
         self.mediator.is_older = True
         self.wait_for("ipmd_up", 0)
@@ -341,7 +341,7 @@ class Pages(MetricsTest):
 
     def test_rates(self):
         """The records a second are a line, which has a gap where the mediator didn't answer, and begins anew with a run."""
-        door = self.start_all()
+        listener = self.start_all()
 
         def lines():
             """How many pieces the line has."""
@@ -350,10 +350,10 @@ class Pages(MetricsTest):
 
         self.assertEqual(lines(), 0)
         wait_until(lambda: lines() == 1, "a line")
-        door.end()
+        listener.end()
         os.unlink(self.socket)
         self.wait_for("ipmd_up", 0)
-        self.open_door()
+        self.open_listener()
         wait_until(lambda: lines() == 2, "a line behind the gap")
         self.mediator.run |= {"records": "0", "run": "2"}
         wait_until(lambda: lines() == 3, "a line of the second run")
@@ -588,9 +588,9 @@ class Prometheus(MetricsTest):
     def test_metrics(self):
         """The page is one, and its names are as they should be."""
         self.mediator.subscriptions.append('7 a"b\\c 1 2 cut none')
-        door = self.start_all()
+        listener = self.start_all()
         self.promtool("check", "metrics", given=self.get()[1])
-        door.end()
+        listener.end()
         self.wait_for("ipmd_up", 0)
         self.promtool("check", "metrics", given=self.get()[1])
 
@@ -667,13 +667,13 @@ class Looks(MetricsTest):
         self.mediator.policy = ["policy 1", "x" * 500, "rule for " + "a" * 32 + " in * from 2001:db8:1111:2222:3333:4444::/96 to * pass"]
         with open(self.notes, "a", encoding="utf-8") as notes:
             notes.write("[ERROR ipmd] " + "z" * 500 + "\n")
-        door = self.start_all()
+        listener = self.start_all()
         with browser.Browser() as page:
             grounds = {(width, scheme): self.expect_narrow(page, width, scheme) for width in (320, 390, 1280) for scheme in ("light", "dark")}
             self.assertEqual(len(set(grounds.values())), 2, grounds)
             self.assertEqual(page.value("document.querySelectorAll('script, img').length"), 0)
             self.assertEqual(page.value("document.title"), "ipmd: up")
-            door.end()
+            listener.end()
             self.wait_for("ipmd_up", 0)
             for width in (390, 1280):
                 self.expect_narrow(page, width, "light")

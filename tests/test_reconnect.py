@@ -9,7 +9,7 @@ import unittest
 from concurrent.futures import ThreadPoolExecutor
 
 from messages import EXPORTED, FLOW, VARIABLE, Template, address, flow_message, message, records
-from peers import HOST, PATIENCE, Door, Peer, free_port, wait_until
+from peers import HOST, PATIENCE, Listener, Peer, free_port, wait_until
 from serving import ServeTest
 
 # Records of one message, and how many messages make a stream that is larger than a queue of a thousand.
@@ -45,12 +45,12 @@ def broad(number):
     return message(number, BROAD.octets(), BROAD.data(BROAD.record(bytes(60_000))))
 
 
-class LateDoor:
+class LateListener:
     """Where a collector will listen."""
 
     def __init__(self):
         self.port = free_port()
-        self.door = None
+        self.listener = None
 
     def open(self):
         """Begins to listen, and answers the collector's end of the connection."""
@@ -69,8 +69,8 @@ class LateDoor:
 class Reconnects(ServeTest):
     def test_absent_at_the_start(self):
         """Acme's collector comes late: others are served meanwhile, and it is sent what waited for it."""
-        late = LateDoor()
-        run = self.start(subscribers=("beta",), doors={"acme": late}, reconnect=1)
+        late = LateListener()
+        run = self.start(subscribers=("beta",), listeners={"acme": late}, reconnect=1)
         other, admin, exporter = run.collector("beta"), run.admin(), run.exporter()
         run.wait_for_note(f"[WARN  ipmd] cannot connect to collector acme {HOST}:{late.port} yet: Connection refused (os error 111)")
         exporter.send(flow_message(0))
@@ -83,8 +83,8 @@ class Reconnects(ServeTest):
 
     def test_comes_back(self):
         """Acme's collector goes and comes back: it has a new subscription, its templates anew, and a note tells what it missed."""
-        late = LateDoor()
-        run = self.start(subscribers=("beta",), doors={"acme": late}, reconnect=1)
+        late = LateListener()
+        run = self.start(subscribers=("beta",), listeners={"acme": late}, reconnect=1)
         other, admin, exporter = run.collector("beta"), run.admin(), run.exporter()
         first = late.open()
         exporter.send(flow_message(0))
@@ -114,8 +114,8 @@ class Reconnects(ServeTest):
 
     def test_after_a_cut(self):
         """Acme's collector takes nothing until it is cut: it gets what was queued, and then a new subscription."""
-        doors = {"acme": Door(room=65536)}
-        run = self.start(subscribers=(), doors=doors, queue=MANY, target=65535, reconnect=1)
+        listeners = {"acme": Listener(room=65536)}
+        run = self.start(subscribers=(), listeners=listeners, queue=MANY, target=65535, reconnect=1)
         idle, admin, exporter = run.collector("acme"), run.admin(), run.exporter()
         sent = 0
         while not admin.ask("status 1").endswith(" cut"):
@@ -125,7 +125,7 @@ class Reconnects(ServeTest):
             time.sleep(0.002)
         run.wait_for_note(f" cut subscriptions: 1 by the message at ")
         first = records(idle.take_reset())
-        second = doors["acme"].accept()
+        second = listeners["acme"].accept()
         run.wait_for_note(" connected again: dropped 0 accepted meanwhile ")
         exporter.send(burst(sent))
         self.assertEqual(len(records(second.take_message())), MANY)
@@ -142,8 +142,8 @@ class Reconnects(ServeTest):
 
     def test_absent_at_the_end(self):
         """A collector that never came holds nothing up, and a note tells what waited for it."""
-        late = LateDoor()
-        run = self.start(subscribers=(), doors={"acme": late}, reconnect=1)
+        late = LateListener()
+        run = self.start(subscribers=(), listeners={"acme": late}, reconnect=1)
         admin, exporter = run.admin(), run.exporter()
         exporter.send(flow_message(0))
         wait_until(lambda: admin.ask("status 1") == "ok 1 0 live", "a record waits")
@@ -179,8 +179,8 @@ class Slow(ServeTest):
 
     def test_held_too_long(self):
         """A message waits no longer than it may: then a collector that takes nothing is cut."""
-        doors = {"acme": Door(room=65536), "beta": Door()}
-        run = self.start(subscribers=(), doors=doors, hold=500, queue=1000, target=65535)
+        listeners = {"acme": Listener(room=65536), "beta": Listener()}
+        run = self.start(subscribers=(), listeners=listeners, hold=500, queue=1000, target=65535)
         idle, admin, exporter = run.collector("acme"), run.admin(), run.exporter()
         with ThreadPoolExecutor(1) as pool:
             taking = pool.submit(run.collector("beta").take_all)
@@ -201,8 +201,8 @@ class Slow(ServeTest):
 
     def test_held_advance(self):
         """An advance that closes more groups than the queue has room for waits for the collector."""
-        doors = {"acme": Door(room=4096)}
-        run = self.start(GROUPS, subscribers=(), doors=doors, target=1400, queue=200, hold=10_000)
+        listeners = {"acme": Listener(room=4096)}
+        run = self.start(GROUPS, subscribers=(), listeners=listeners, target=1400, queue=200, hold=10_000)
         collector, admin, exporter = run.collector("acme"), run.admin(), run.exporter()
         sent = 0
 
@@ -253,8 +253,8 @@ class Slow(ServeTest):
 
     def test_stopped_process(self):
         """A process that is stopped for a while, as it writes and waits, goes on as if nothing had been."""
-        doors = {"acme": Door(room=65536)}
-        run = self.start(subscribers=(), doors=doors, target=65535)
+        listeners = {"acme": Listener(room=65536)}
+        run = self.start(subscribers=(), listeners=listeners, target=65535)
         collector, exporter = run.collector("acme"), run.exporter()
         run.admin().close()
         for n in range(MESSAGES):
@@ -269,8 +269,8 @@ class Slow(ServeTest):
 
     def test_drain(self):
         """The end of a run waits no longer for a slow collector than it may, and a note tells what was dropped."""
-        doors = {"acme": Door(room=65536)}
-        run = self.start(subscribers=(), doors=doors, drain=1)
+        listeners = {"acme": Listener(room=65536)}
+        run = self.start(subscribers=(), listeners=listeners, drain=1)
         run.collector("acme")
         admin, exporter = run.admin(), run.exporter()
         for n in range(BROAD_MESSAGES):
@@ -287,8 +287,8 @@ class Slow(ServeTest):
 
     def test_trickle(self):
         """A collector that takes some octets now and then is given up as one that takes none, since all of a message counts."""
-        doors = {"acme": Door(room=65536)}
-        run = self.start(subscribers=(), doors=doors, longest=120)
+        listeners = {"acme": Listener(room=65536)}
+        run = self.start(subscribers=(), listeners=listeners, longest=120)
         collector, admin, exporter = run.collector("acme"), run.admin(), run.exporter()
         for n in range(BROAD_MESSAGES):
             exporter.send(broad(n))

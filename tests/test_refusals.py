@@ -3,7 +3,7 @@ import socket
 import unittest
 
 from messages import flow_message
-from peers import HOST, Door, free_port
+from peers import HOST, Listener, free_port
 from serving import PASS, ServeTest
 
 DEVICE = "ipmd: device\n"
@@ -42,10 +42,10 @@ class Refusals(ServeTest):
         """The second of two collectors doesn't listen: the first is left again, and sent nothing."""
         nobody = f"{HOST}:{free_port()}"
         note = f"[ERROR ipmd] cannot connect to collector beta {nobody}: Connection refused (os error 111)"
-        with Door() as door:
-            deliver = {"acme": f"{HOST}:{door.port}", "beta": nobody}
+        with Listener() as listener:
+            deliver = {"acme": f"{HOST}:{listener.port}", "beta": nobody}
             self.expect_refused(3, DEVICE, note, subscribers=(), deliver=deliver)
-            self.assertEqual(door.accept().take_all(), b"")
+            self.assertEqual(listener.accept().take_all(), b"")
 
     def test_no_policy(self):
         """The policy's file has none."""

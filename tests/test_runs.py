@@ -176,7 +176,7 @@ class Runs(ServeTest):
         self.assertEqual((ended.status, ended.output), (0, "accepted 2 handed 2\n"))
         self.assertEqual(ended.notes.count("the journal is full: the run ends\n"), 1)
 
-    def test_full_at_the_door(self):
+    def test_full_at_the_listener(self):
         """An exporter for whose session the journal has no room is closed, and the last that is let in."""
         run = self.start(connections=5, journal_entries=3)
         collector, first = run.collector(), run.exporter()

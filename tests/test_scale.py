@@ -15,7 +15,7 @@ import unittest
 
 import program
 from messages import Template, address, flow_message, message, records
-from peers import Door, free_port, reach, wait_until
+from peers import Listener, free_port, reach, wait_until
 from serving import SCRIPTS, ServeTest
 
 SCALE = program.TOP / "examples" / "scale"
@@ -155,15 +155,15 @@ class ScaleTest(ServeTest):
         """What acme, beta and peer are sent where one mediator serves all exporters, by the policy of examples/serve."""
         names = ("acme", "beta", "peer")
         run = self.start(SERVED, subscribers=names, connections=EXPORTERS + 1)
-        doors = [run.collector(name) for name in names]
+        listeners = [run.collector(name) for name in names]
         self.send([run.exporter() for _ in range(EXPORTERS)])
         run.wait_for_note(" ended: messages ", EXPORTERS)
         self.close_intervals(run)
-        return self.stop(run, *doors)
+        return self.stop(run, *listeners)
 
-    def start_sums(self, door):
-        """The mediator of the sums, for which somebody listens at this door, and the connection over which it tells them."""
-        run = self.start(text_of("sums.txt"), subscribers=(), doors={"peer": door}, **roomy_of("sums"))
+    def start_sums(self, listener):
+        """The mediator of the sums, for which somebody listens at this listener, and the connection over which it tells them."""
+        run = self.start(text_of("sums.txt"), subscribers=(), listeners={"peer": listener}, **roomy_of("sums"))
         return run, run.collector("peer")
 
     def expect_sums(self, run, collector, wanted):
@@ -212,13 +212,13 @@ class Balanced(ScaleTest):
         """Nine exporters come to three mediators, three to each. Their collectors get the records that one mediator gives, and the
         mediator of the sums gives its sums."""
         acme, beta, peer = self.by_one()
-        doors = {name: self.enterContext(Door()) for name in ("acme", "beta", "peer")}
-        sums, adding = self.start_sums(doors["peer"])
+        listeners = {name: self.enterContext(Listener()) for name in ("acme", "beta", "peer")}
+        sums, adding = self.start_sums(listeners["peer"])
         tier, taking = {}, {}
         for name in NAMES:
-            deliver = {"acme": f"127.0.0.1:{doors['acme'].port}", "beta": f"127.0.0.1:{doors['beta'].port}", "sums": sums.settings["exporters"]}
+            deliver = {"acme": f"127.0.0.1:{listeners['acme'].port}", "beta": f"127.0.0.1:{listeners['beta'].port}", "sums": sums.settings["exporters"]}
             tier[name] = self.start(text_of("policy.txt"), subscribers=(), deliver=deliver, **roomy_of(name))
-            taking[name] = [doors["acme"].accept(), doors["beta"].accept()]
+            taking[name] = [listeners["acme"].accept(), listeners["beta"].accept()]
             tier[name].wait_for_note("] collector sums ")
         self.start_balancer(tier)
         exporters = self.exporters(tier.values(), EXPORTERS)
@@ -273,7 +273,7 @@ class Sums(ScaleTest):
     def test_sums_of_sums(self):
         """Where each mediator adds up its own exporters' flows, the one behind them adds up these sums, and gives those of one mediator."""
         _, _, peer = self.by_one()
-        sums, adding = self.start_sums(self.enterContext(Door()))
+        sums, adding = self.start_sums(self.enterContext(Listener()))
         deliver = {"peer": sums.settings["exporters"]}
         tier = [self.start(SERVED, subscribers=(), deliver=deliver, connections=EXPORTERS) for _ in NAMES]
         self.send([run.exporter() for run in tier for _ in range(EXPORTERS // len(NAMES))])

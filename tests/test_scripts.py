@@ -16,7 +16,7 @@ import time
 import unittest
 from unittest import mock
 
-from mediators import AdminDoor, AskDoor, Mediator
+from mediators import AdminListener, AskListener, Mediator
 from messages import flow_message, records
 from peers import HOST, wait_until
 from serving import PASS, SCRIPTS, ServeTest
@@ -226,11 +226,11 @@ class Advance(FakeTest):
     """`advance` on a mediator that says what a test wants."""
 
     def start(self, *words):
-        door = AdminDoor(self.mediator)
-        self.addCleanup(door.end)
-        self.child = self.begin("advance", "--admin", door.address, "--socket", self.socket, "--seconds", "0.1", *words)
+        listener = AdminListener(self.mediator)
+        self.addCleanup(listener.end)
+        self.child = self.begin("advance", "--admin", listener.address, "--socket", self.socket, "--seconds", "0.1", *words)
         wait_until(lambda: os.path.exists(self.socket), "advance listens")
-        return door
+        return listener
 
     def wait_for(self, text, times=1):
         wait_until(lambda: self.said("advance").count(text) == times, f"{times} lines with {text!r}")
@@ -284,7 +284,7 @@ class Advance(FakeTest):
             with self.subTest(off=off):
                 self.mediator.asked.clear()
                 self.mediator.clock = milliseconds() + off
-                door = self.start()
+                listener = self.start()
                 self.wait_for("the clock is not advanced: the machine's clock stands at ")
                 self.looks()
                 self.assertEqual(self.mediator.advances(), [])
@@ -294,7 +294,7 @@ class Advance(FakeTest):
                 self.assertEqual(self.said("advance").count("\n"), 2)
                 self.child.terminate()
                 self.expect_end(self.child, 0)
-                door.end()
+                listener.end()
 
     def test_far_from_the_last(self):
         """So it is with one that is more than an hour off the last time that was set, of a mediator that doesn't tell its clock."""
@@ -386,11 +386,11 @@ class Advance(FakeTest):
 
     def test_who_may_ask(self):
         """The socket is for the user alone, or for a group as well."""
-        door = self.start()
+        listener = self.start()
         self.assertEqual(stat.S_IMODE(os.stat(self.socket).st_mode), 0o700)
         self.child.terminate()
         self.expect_end(self.child, 0)
-        door.end()
+        listener.end()
         self.start("--group", grp.getgrgid(os.getgid()).gr_name)
         wait_until(lambda: stat.S_IMODE(os.stat(self.socket).st_mode) == 0o660, "the group may ask")
         self.assertEqual(os.stat(self.socket).st_gid, os.getgid())
@@ -399,9 +399,9 @@ class Advance(FakeTest):
         """Where nobody listens, or the group is none, it says so in a line and ends."""
         self.expect_end(self.begin("advance", "--admin", f"{HOST}:1", "--socket", self.socket), 1)
         self.assertRegex(self.said("advance"), r"\Aadvance: .*refused\n\Z")
-        door = AdminDoor(self.mediator)
-        self.addCleanup(door.end)
-        self.expect_end(self.begin("advance", "--admin", door.address, "--socket", self.socket, "--group", "no such group"), 1)
+        listener = AdminListener(self.mediator)
+        self.addCleanup(listener.end)
+        self.expect_end(self.begin("advance", "--admin", listener.address, "--socket", self.socket, "--group", "no such group"), 1)
         self.assertRegex(self.said("advance"), r"\Aadvance: .*no such group.*\n\Z")
 
 
@@ -413,10 +413,10 @@ class Watch(FakeTest):
         self.days = self.folder / "days"
         self.days.mkdir()
 
-    def open_door(self):
-        door = AskDoor(self.mediator, self.socket)
-        self.addCleanup(door.end)
-        return door
+    def open_listener(self):
+        listener = AskListener(self.mediator, self.socket)
+        self.addCleanup(listener.end)
+        return listener
 
     def begin_watch(self, *words, **environment):
         """A `watch` that writes files by day, and says nothing else."""
@@ -432,7 +432,7 @@ class Watch(FakeTest):
 
     def test_all(self):
         """With no number it tells of all subscriptions, with numbers of these."""
-        self.open_door()
+        self.open_listener()
         child = self.begin("watch")
         wait_until(lambda: self.said("watch").count("\n") >= 4, "two looks")
         self.end(child)
@@ -444,17 +444,17 @@ class Watch(FakeTest):
 
     def test_files(self):
         """The audit's lines go to a file of the day, behind a line that names their run."""
-        door = self.open_door()
+        listener = self.open_listener()
         self.mediator.audit.extend(f"{n} 0 1 withheld 0 rule" for n in range(25_000))
         child = self.begin_watch()
         wait_until(lambda: len(self.lines()) == 25_000, "all is read")
         # Another `advance` in the same run, and then one of another run.
         for run, started, line in (("1", "1700000000123", "9 0 1 cut"), ("2", "1700000099999", "3 0 1 cut")):
             count = len(self.lines())
-            door.end()
+            listener.end()
             self.mediator.run |= {"run": run, "started": started}
             self.mediator.audit.append(line)
-            door = self.open_door()
+            listener = self.open_listener()
             wait_until(lambda: len(self.lines()) == count + 1, "all is read")
         self.mediator.asked.clear()
         wait_until(lambda: len(self.mediator.asked) > 3, "looks")
@@ -471,7 +471,7 @@ class Watch(FakeTest):
     def test_older(self):
         """A mediator that doesn't know `run` has its lines there all the same."""
         self.mediator.is_older = True
-        self.open_door()
+        self.open_listener()
         self.mediator.audit.append("3 0 1 cut")
         child = self.begin_watch()
         wait_until(lambda: self.lines() == ["3 0 1 cut"], "it is read")
@@ -479,7 +479,7 @@ class Watch(FakeTest):
 
     def test_long_lines(self):
         """Answers that are ended by their octets are followed by others in the same look."""
-        self.open_door()
+        self.open_listener()
         self.mediator.audit.extend(f"{n} 0 1 removed {'2:7,' * 40_000}9:9" for n in range(40))
         child = self.begin_watch(SECONDS_BETWEEN="3600")
         wait_until(lambda: len(self.lines()) == 40, "all is read")
@@ -494,7 +494,7 @@ class Watch(FakeTest):
         """SIGTERM behind the question loses nothing of the answer, and what else is left is read."""
         for sent in (signal.SIGTERM, signal.SIGINT):
             with self.subTest(signal=sent.name):
-                door = self.open_door()
+                listener = self.open_listener()
                 self.mediator.audit.extend(f"{n} 0 1 withheld 0 rule" for n in range(30_000))
                 self.mediator.asked.clear()
                 self.mediator.hold.clear()
@@ -507,11 +507,11 @@ class Watch(FakeTest):
                 self.assertEqual(self.lines(), [f"{n} 0 1 withheld 0 rule" for n in range(30_000)])
                 for path in self.days.iterdir():
                     path.unlink()
-                door.end()
+                listener.end()
 
     def test_signal_while_it_waits(self):
         """SIGTERM between two looks has it read what came since."""
-        self.open_door()
+        self.open_listener()
         child = self.begin_watch(SECONDS_BETWEEN="3600")
         wait_until(lambda: "audit 10000" in self.mediator.asked, "a look")
         time.sleep(0.2)
@@ -521,10 +521,10 @@ class Watch(FakeTest):
 
     def test_broken_answer(self):
         """Of an answer that breaks off the whole lines are kept, and the rest is told."""
-        door = self.open_door()
+        listener = self.open_listener()
         self.mediator.is_older = True
         self.mediator.audit.extend(["3 0 1 cut"] * 3)
-        door.most = len("ok 3\n3 0 1 cut\n3 0")
+        listener.most = len("ok 3\n3 0 1 cut\n3 0")
         with open(self.folder / "lines", "wb") as output:
             self.expect_end(self.begin("watch", "--quiet", output=output), 1)
         self.assertEqual((self.folder / "lines").read_text(), "3 0 1 cut\n")
@@ -537,10 +537,10 @@ class Watch(FakeTest):
         self.mediator.audit.append("3 0 1 cut")
         child = self.begin_watch()
         wait_until(lambda: self.said("watch"), "it says so")
-        door = self.open_door()
+        listener = self.open_listener()
         wait_until(lambda: self.lines() == ["3 0 1 cut"], "the audit is read")
         wait_until(lambda: self.said("watch").count("\n") == 2, "it says that it is answered")
-        door.end()
+        listener.end()
         wait_until(lambda: self.said("watch").count("\n") == 3, "it says that it isn't")
         time.sleep(0.5)
         self.end(child)
@@ -551,7 +551,7 @@ class Watch(FakeTest):
 
     def test_half_line(self):
         """A file that ends in half a line, as a machine that failed leaves it, gets a line's end first."""
-        self.open_door()
+        self.open_listener()
         # The day may change meanwhile.
         for ago in (0, -86_400):
             (self.days / time.strftime("%Y-%m-%d.txt", time.gmtime(time.time() - ago))).write_text("1 0 1 cut\n2 0 1 wit")
@@ -563,7 +563,7 @@ class Watch(FakeTest):
 
     def test_full(self):
         """Where what it writes to takes nothing, it tries again; a signal then ends it, and it says what is lost."""
-        self.open_door()
+        self.open_listener()
         self.mediator.audit.extend(["3 0 1 cut"] * 3)
         with open("/dev/full", "wb") as full:
             child = self.begin("watch", "--quiet", output=full)
@@ -575,7 +575,7 @@ class Watch(FakeTest):
 
     def test_no_folder(self):
         """Without the folder it reads nothing; where that goes meanwhile, it tries again until it is back."""
-        self.open_door()
+        self.open_listener()
         self.mediator.audit.append("3 0 1 cut")
         self.expect_end(self.begin("watch", "--days", self.folder / "none"), 1)
         self.assertRegex(self.said("watch"), r"\Awatch: .* is no folder that can be written to\n\Z")
@@ -591,7 +591,7 @@ class Watch(FakeTest):
 
     def test_full_for_a_while(self):
         """What a full pipe didn't take is written when it has room, each line once and in order."""
-        self.open_door()
+        self.open_listener()
         self.mediator.audit.extend(f"{n} 0 1 withheld 0 rule" for n in range(20_000))
         reading, writing = os.pipe()
         os.set_blocking(writing, False)
@@ -609,7 +609,7 @@ class Watch(FakeTest):
 
     def test_reader_gone(self):
         """Where the reader of its output has gone, it ends, and says how much is lost."""
-        self.open_door()
+        self.open_listener()
         self.mediator.audit.append("3 0 1 cut")
         reading, writing = os.pipe()
         os.close(reading)

@@ -67,10 +67,10 @@ COLLECTOR = """
 import json, socket, sys
 import ipfix.ie, ipfix.reader
 ipfix.ie.use_iana_default()
-with socket.create_server(("127.0.0.1", 0)) as door:
-    door.settimeout(15)
-    print(door.getsockname()[1], flush=True)
-    stream = door.accept()[0].makefile("rb")
+with socket.create_server(("127.0.0.1", 0)) as listener:
+    listener.settimeout(15)
+    print(listener.getsockname()[1], flush=True)
+    stream = listener.accept()[0].makefile("rb")
 for record in ipfix.reader.from_stream(stream).namedict_iterator():
     values = (record[name] for name in sys.argv[1:])
     print(json.dumps([one if isinstance(one, int) else str(one) for one in values]))

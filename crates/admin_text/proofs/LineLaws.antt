@@ -18,12 +18,12 @@ use Rattle.flow_prefix.proofs.CutLaws.{cut_at-middle, cut_at-text}
 use Rattle.replay_text.specs.Grammar.{IsNumberLine}
 use Rattle.replay_text.specs.Lines.{greatest}
 use Rattle.admin_text.specs.declared.command.Command.{Command}
-use Rattle.admin_text.specs.Sayings.{AdminSaying, saying}
+use Rattle.admin_text.specs.Sayings.{AdminSaying, admin_saying}
 use Rattle.admin_text.specs.Sayings.AdminSaying.{to_edit, to_subscribe, to_unsubscribe, to_advance, to_tell_status, to_drain_audit, to_tell, to_stop}
 use Rattle.admin_text.specs.declared.command.Topic.{Topic}
 use Rattle.admin_text.specs.declared.command.Topic.TheVariants as topic
 use Rattle.admin_text.specs.Grammar.{longest_line, longest_policy, most_audit_entries, topic_word, IsSubscribeLine, AsksFor, IsCommandLine, IsNamingLine}
-use Rattle.admin_text.specs.Reading.{is_one_word, edit_of, subscribe_of, unsubscribe_of, advance_of, status_of, audit_of, some_entries, command_alone, command_in, command_by, command_of, NamesSubscriber}
+use Rattle.admin_text.specs.Reading.{is_one_word, asks_edit, asks_subscribe, asks_unsubscribe, asks_advance, asks_status, asks_audit, some_entries, command_alone, command_in, command_by, command_of, NamesSubscriber}
 use Rattle.admin_text.proofs.ArgumentLaws.{lacks_from_test, test_from_lacks}
 
 -- a name, a space and an argument
@@ -45,20 +45,20 @@ by_number name most argument f said small asks e =
     let P : AdminSaying → Type 0 = λ s. AsksFor s (line_of name argument) in
     subst P (same_Some (f n.0) said n.2) (asks n.0 (line_of name argument) (number_line name most n.0 argument small n.1))
 
-edit_found : (argument : List ℕ) (said : AdminSaying) → edit_of argument ≡ Some said → AsksFor said (line_of (codes "edit") argument)
-unfolding edit_of
+edit_found : (argument : List ℕ) (said : AdminSaying) → asks_edit argument ≡ Some said → AsksFor said (line_of (codes "edit") argument)
+unfolding asks_edit
 edit_found argument said e = by_number (codes "edit") longest_policy argument (λ n. to_edit n) said (omega arith) (λ n line is. is) e
 
-unsubscribe_found : (argument : List ℕ) (said : AdminSaying) → unsubscribe_of argument ≡ Some said → AsksFor said (line_of (codes "unsubscribe") argument)
-unfolding unsubscribe_of
+unsubscribe_found : (argument : List ℕ) (said : AdminSaying) → asks_unsubscribe argument ≡ Some said → AsksFor said (line_of (codes "unsubscribe") argument)
+unfolding asks_unsubscribe
 unsubscribe_found argument said e = by_number (codes "unsubscribe") (greatest 64) argument (λ n. to_unsubscribe n) said (omega arith) (λ n line is. is) e
 
-advance_found : (argument : List ℕ) (said : AdminSaying) → advance_of argument ≡ Some said → AsksFor said (line_of (codes "advance") argument)
-unfolding advance_of
+advance_found : (argument : List ℕ) (said : AdminSaying) → asks_advance argument ≡ Some said → AsksFor said (line_of (codes "advance") argument)
+unfolding asks_advance
 advance_found argument said e = by_number (codes "advance") (greatest 64) argument (λ n. to_advance n) said (omega arith) (λ n line is. is) e
 
-status_found : (argument : List ℕ) (said : AdminSaying) → status_of argument ≡ Some said → AsksFor said (line_of (codes "status") argument)
-unfolding status_of
+status_found : (argument : List ℕ) (said : AdminSaying) → asks_status argument ≡ Some said → AsksFor said (line_of (codes "status") argument)
+unfolding asks_status
 status_found argument said e = by_number (codes "status") (greatest 64) argument (λ n. to_tell_status n) said (omega arith) (λ n line is. is) e
 
 subscribe_line : (argument : List ℕ) → is_one_word argument ≡ true → IsSubscribeLine argument (line_of (codes "subscribe") argument)
@@ -66,8 +66,8 @@ subscribe_line argument h =
     let both = and_parts (ltb 0 (length argument)) (list_all (λ c. not (eqb c 32)) argument) h in
     record { begun = ltb-true 0 (length argument) both.0; word = lacks_from_test argument both.1; text = refl }
 
-subscribe_found : (argument : List ℕ) (said : AdminSaying) → subscribe_of argument ≡ Some said → AsksFor said (line_of (codes "subscribe") argument)
-unfolding subscribe_of
+subscribe_found : (argument : List ℕ) (said : AdminSaying) → asks_subscribe argument ≡ Some said → AsksFor said (line_of (codes "subscribe") argument)
+unfolding asks_subscribe
 subscribe_found argument said e =
     let found = cond_some (is_one_word argument) (to_subscribe argument) said e in
     let P : AdminSaying → Type 0 = λ s. AsksFor s (line_of (codes "subscribe") argument) in
@@ -82,8 +82,8 @@ audit_line argument most said false read none e =
     subst P (same_Some (to_drain_audit most) said e)
     (record { begun = omega (arith, other); number = number_line (codes "audit") most_audit_entries most argument (omega arith) read })
 
-audit_found : (argument : List ℕ) (said : AdminSaying) → audit_of argument ≡ Some said → AsksFor said (line_of (codes "audit") argument)
-unfolding audit_of
+audit_found : (argument : List ℕ) (said : AdminSaying) → asks_audit argument ≡ Some said → AsksFor said (line_of (codes "audit") argument)
+unfolding asks_audit
 audit_found argument said e =
     let most = bind_some (number_of most_audit_entries argument) some_entries said e in
     audit_line argument most.0 said (eqb most.0 0) most.1 refl most.2
@@ -101,18 +101,18 @@ asked word name argument read said found is =
 command_by-found : (word argument : List ℕ) (said : AdminSaying) → command_by word argument ≡ Some said → AsksFor said (line_of word argument)
 unfolding command_by
 command_by-found word argument said e =
-    ⊎_elim (asked word (codes "edit") argument (edit_of argument) said (edit_found argument said)) (λ e1.
-    ⊎_elim (asked word (codes "subscribe") argument (subscribe_of argument) said (subscribe_found argument said)) (λ e2.
-    ⊎_elim (asked word (codes "unsubscribe") argument (unsubscribe_of argument) said (unsubscribe_found argument said)) (λ e3.
-    ⊎_elim (asked word (codes "advance") argument (advance_of argument) said (advance_found argument said)) (λ e4.
-    ⊎_elim (asked word (codes "status") argument (status_of argument) said (status_found argument said)) (λ e5.
-    ⊎_elim (asked word (codes "audit") argument (audit_of argument) said (audit_found argument said)) (λ e6. absurd (none-some said e6))
-    (named word (codes "audit") (audit_of argument) _ said (bytes_eq word (codes "audit")) refl e5))
-    (named word (codes "status") (status_of argument) _ said (bytes_eq word (codes "status")) refl e4))
-    (named word (codes "advance") (advance_of argument) _ said (bytes_eq word (codes "advance")) refl e3))
-    (named word (codes "unsubscribe") (unsubscribe_of argument) _ said (bytes_eq word (codes "unsubscribe")) refl e2))
-    (named word (codes "subscribe") (subscribe_of argument) _ said (bytes_eq word (codes "subscribe")) refl e1))
-    (named word (codes "edit") (edit_of argument) _ said (bytes_eq word (codes "edit")) refl e)
+    ⊎_elim (asked word (codes "edit") argument (asks_edit argument) said (edit_found argument said)) (λ e1.
+    ⊎_elim (asked word (codes "subscribe") argument (asks_subscribe argument) said (subscribe_found argument said)) (λ e2.
+    ⊎_elim (asked word (codes "unsubscribe") argument (asks_unsubscribe argument) said (unsubscribe_found argument said)) (λ e3.
+    ⊎_elim (asked word (codes "advance") argument (asks_advance argument) said (advance_found argument said)) (λ e4.
+    ⊎_elim (asked word (codes "status") argument (asks_status argument) said (status_found argument said)) (λ e5.
+    ⊎_elim (asked word (codes "audit") argument (asks_audit argument) said (audit_found argument said)) (λ e6. absurd (none-some said e6))
+    (named word (codes "audit") (asks_audit argument) _ said (bytes_eq word (codes "audit")) refl e5))
+    (named word (codes "status") (asks_status argument) _ said (bytes_eq word (codes "status")) refl e4))
+    (named word (codes "advance") (asks_advance argument) _ said (bytes_eq word (codes "advance")) refl e3))
+    (named word (codes "unsubscribe") (asks_unsubscribe argument) _ said (bytes_eq word (codes "unsubscribe")) refl e2))
+    (named word (codes "subscribe") (asks_subscribe argument) _ said (bytes_eq word (codes "subscribe")) refl e1))
+    (named word (codes "edit") (asks_edit argument) _ said (bytes_eq word (codes "edit")) refl e)
 
 words_found : (line : List ℕ) (said : AdminSaying) (words : List ℕ × List ℕ) → cut_at 32 line ≡ Some words → command_by words.0 words.1 ≡ Some said → AsksFor said line
 words_found line said words cut e =
@@ -167,30 +167,30 @@ number_read most n f small bound =
     rw value refl
 
 edit_read : (n : ℕ) → n ≤ longest_policy → command_by (codes "edit") (decimal n) ≡ Some (to_edit n)
-unfolding command_by edit_of
+unfolding command_by asks_edit
 edit_read n bound = number_read longest_policy n (λ m. to_edit m) (omega arith) bound
 
 unsubscribe_read : (n : ℕ) → n ≤ greatest 64 → command_by (codes "unsubscribe") (decimal n) ≡ Some (to_unsubscribe n)
-unfolding command_by unsubscribe_of
+unfolding command_by asks_unsubscribe
 unsubscribe_read n bound = number_read (greatest 64) n (λ m. to_unsubscribe m) (omega arith) bound
 
 advance_read : (n : ℕ) → n ≤ greatest 64 → command_by (codes "advance") (decimal n) ≡ Some (to_advance n)
-unfolding command_by advance_of
+unfolding command_by asks_advance
 advance_read n bound = number_read (greatest 64) n (λ m. to_advance m) (omega arith) bound
 
 status_read : (n : ℕ) → n ≤ greatest 64 → command_by (codes "status") (decimal n) ≡ Some (to_tell_status n)
-unfolding command_by status_of
+unfolding command_by asks_status
 status_read n bound = number_read (greatest 64) n (λ m. to_tell_status m) (omega arith) bound
 
 audit_read : (n : ℕ) → 1 ≤ n → n ≤ most_audit_entries → command_by (codes "audit") (decimal n) ≡ Some (to_drain_audit n)
-unfolding command_by audit_of
+unfolding command_by asks_audit
 audit_read n begun bound =
     let value = number_of-only most_audit_entries (decimal n) n (omega arith) (record { bound = bound; text = refl }) in
     let some = ne_eqb n 0 (λ e. omega (arith, begun, e)) in
     rw (value, some) refl
 
 subscribe_read : (name : List ℕ) → 0 < length name → Lacks 32 name → command_by (codes "subscribe") name ≡ Some (to_subscribe name)
-unfolding command_by subscribe_of
+unfolding command_by asks_subscribe
 subscribe_read name begun lacks =
     let some = lt-ltb 0 (length name) begun in
     let word = test_from_lacks name lacks in
@@ -240,12 +240,12 @@ subscription_found line names = (names.0, command_of-found line (to_subscribe na
 
 -- ---- what a reader answered
 
-pub if_found : {E : Type 0} (line : List ℕ) (r : Result (Option Command) E) → IfOk r (λ command. option_map saying command ≡ command_of line) → IfOk r (λ command. IfSome command (λ x. IsCommandLine (saying x) line))
+pub if_found : {E : Type 0} (line : List ℕ) (r : Result (Option Command) E) → IfOk r (λ command. option_map admin_saying command ≡ command_of line) → IfOk r (λ command. IfSome command (λ x. IsCommandLine (admin_saying x) line))
 if_found line (Ok None) e = tt
-if_found line (Ok (Some command)) e = command_of-found line (saying command) (sym e)
+if_found line (Ok (Some command)) e = command_of-found line (admin_saying command) (sym e)
 if_found line (Err x) e = tt
 
-pub if_only : {E : Type 0} (line : List ℕ) (r : Result (Option Command) E) → IfOk r (λ command. option_map saying command ≡ command_of line) → (said : AdminSaying) → IsCommandLine said line → IfOk r (λ command. option_map saying command ≡ Some said)
+pub if_only : {E : Type 0} (line : List ℕ) (r : Result (Option Command) E) → IfOk r (λ command. option_map admin_saying command ≡ command_of line) → (said : AdminSaying) → IsCommandLine said line → IfOk r (λ command. option_map admin_saying command ≡ Some said)
 if_only line (Ok command) e said is = e ∙ command_of-only line said is
 if_only line (Err x) e said is = tt
 
@@ -254,7 +254,7 @@ if_memory line (Ok x) names = tt
 if_memory line (Err e) names = subscription_found line names
 
 -- memory is asked for only where the argument is a word
-pub word_memory : {A E : Type 0} (argument : List ℕ) (r : Result A E) → is_one_word argument ≡ true → IfErr r (λ _. NamesSubscriber (subscribe_of argument))
-unfolding subscribe_of
+pub word_memory : {A E : Type 0} (argument : List ℕ) (r : Result A E) → is_one_word argument ≡ true → IfErr r (λ _. NamesSubscriber (asks_subscribe argument))
+unfolding asks_subscribe
 word_memory argument (Ok x) h = tt
 word_memory argument (Err e) h = (argument, rw h refl)

@@ -9,23 +9,23 @@ use Rattle.answer_writing.specs.Written.{WritesAll, StopsWriting}
 use Rattle.admin_text.specs.declared.answer.Answer.{Answer}
 use Rattle.admin_text.specs.declared.answer.Answer.TheVariants as answer
 
-abbrev pub status_text : Status → List ℕ
-status_text status = codes "ok " ++ decimal status.queued ++ codes " " ++ decimal status.handed ++ codes " " ++ cut_word status.cut ++ 10 ∷ []
+abbrev pub admin_status_text : Status → List ℕ
+admin_status_text status = codes "ok " ++ decimal status.queued ++ codes " " ++ decimal status.handed ++ codes " " ++ cut_word status.cut ++ 10 ∷ []
 
 -- the lines of a page: the octets are as many lines as they have line feeds
 abbrev pub page_text : List ℕ → List ℕ
 page_text page = codes "ok " ++ decimal (length (filter (λ c. c == 10) page)) ++ 10 ∷ page
 
-abbrev pub answer_text : Answer → List ℕ
-answer_text (answer.Edited revision) = codes "ok " ++ decimal revision ++ 10 ∷ []
-answer_text (answer.Subscribed sub) = codes "ok " ++ decimal sub ++ 10 ∷ []
-answer_text answer.Done = codes "ok" ++ 10 ∷ []
-answer_text (answer.Stands status) = status_text status
-answer_text (answer.Drained entries) = drained_text entries.items
-answer_text (answer.Told page) = page_text page.items
-answer_text (answer.Refused why) = refusal_text why ++ 10 ∷ []
-answer_text answer.BadLine = codes "err Line" ++ 10 ∷ []
-answer_text answer.BadText = codes "err Text" ++ 10 ∷ []
+abbrev pub admin_answer_text : Answer → List ℕ
+admin_answer_text (answer.Edited revision) = codes "ok " ++ decimal revision ++ 10 ∷ []
+admin_answer_text (answer.Subscribed sub) = codes "ok " ++ decimal sub ++ 10 ∷ []
+admin_answer_text answer.Done = codes "ok" ++ 10 ∷ []
+admin_answer_text (answer.Stands status) = admin_status_text status
+admin_answer_text (answer.Drained entries) = drained_text entries.items
+admin_answer_text (answer.Told page) = page_text page.items
+admin_answer_text (answer.Refused why) = refusal_text why ++ 10 ∷ []
+admin_answer_text answer.BadLine = codes "err Line" ++ 10 ∷ []
+admin_answer_text answer.BadText = codes "err Text" ++ 10 ∷ []
 
 -- a call that was refused for want of memory
 abbrev pub refused_for_memory : Answer
@@ -33,8 +33,8 @@ refused_for_memory = answer.Refused OutOfMemory
 
 -- the text of the answer; or where a call was refused and there was no memory to say why, that it was refused for want of memory
 abbrev pub IsAnswerText : Answer → List ℕ → Type 0
-IsAnswerText (answer.Refused why) text = (text ≡ answer_text (answer.Refused why)) ⊎ (text ≡ answer_text refused_for_memory)
-IsAnswerText reply text = text ≡ answer_text reply
+IsAnswerText (answer.Refused why) text = (text ≡ admin_answer_text (answer.Refused why)) ⊎ (text ≡ admin_answer_text refused_for_memory)
+IsAnswerText reply text = text ≡ admin_answer_text reply
 
 -- the answer was written whole behind so many octets, and its octets were counted
 pub record WritesAnswer (reply : Answer) (sent count : ℕ) (held holds : Option (List ℕ)) : Type 0 where

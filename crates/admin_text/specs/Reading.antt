@@ -17,39 +17,39 @@ is_one_word argument = nat_lt 0 (length argument) && list_all (λ c. not (c == 3
 
 -- ---- by the argument of each command
 
-unfoldable pub edit_of : List ℕ → Option AdminSaying
-edit_of argument = number_of longest_policy argument >>= λ octets. Some (to_edit octets)
+unfoldable pub asks_edit : List ℕ → Option AdminSaying
+asks_edit argument = number_of longest_policy argument >>= λ octets. Some (to_edit octets)
 
-unfoldable pub subscribe_of : List ℕ → Option AdminSaying
-subscribe_of argument = if is_one_word argument then Some (to_subscribe argument) else None
+unfoldable pub asks_subscribe : List ℕ → Option AdminSaying
+asks_subscribe argument = if is_one_word argument then Some (to_subscribe argument) else None
 
-unfoldable pub unsubscribe_of : List ℕ → Option AdminSaying
-unsubscribe_of argument = number_of (greatest 64) argument >>= λ sub. Some (to_unsubscribe sub)
+unfoldable pub asks_unsubscribe : List ℕ → Option AdminSaying
+asks_unsubscribe argument = number_of (greatest 64) argument >>= λ sub. Some (to_unsubscribe sub)
 
-unfoldable pub advance_of : List ℕ → Option AdminSaying
-advance_of argument = number_of (greatest 64) argument >>= λ t. Some (to_advance t)
+unfoldable pub asks_advance : List ℕ → Option AdminSaying
+asks_advance argument = number_of (greatest 64) argument >>= λ t. Some (to_advance t)
 
-unfoldable pub status_of : List ℕ → Option AdminSaying
-status_of argument = number_of (greatest 64) argument >>= λ sub. Some (to_tell_status sub)
+unfoldable pub asks_status : List ℕ → Option AdminSaying
+asks_status argument = number_of (greatest 64) argument >>= λ sub. Some (to_tell_status sub)
 
 -- none is not asked for
 abbrev pub some_entries : ℕ → Option AdminSaying
 some_entries most = if most == 0 then None else Some (to_drain_audit most)
 
-unfoldable pub audit_of : List ℕ → Option AdminSaying
-audit_of argument = number_of most_audit_entries argument >>= λ most. some_entries most
+unfoldable pub asks_audit : List ℕ → Option AdminSaying
+asks_audit argument = number_of most_audit_entries argument >>= λ most. some_entries most
 
 -- ---- a line
 
 -- by the name of the command
 unfoldable pub command_by : List ℕ → List ℕ → Option AdminSaying
 command_by word argument =
-    if bytes_eq word (codes "edit") then edit_of argument
-    else if bytes_eq word (codes "subscribe") then subscribe_of argument
-    else if bytes_eq word (codes "unsubscribe") then unsubscribe_of argument
-    else if bytes_eq word (codes "advance") then advance_of argument
-    else if bytes_eq word (codes "status") then status_of argument
-    else if bytes_eq word (codes "audit") then audit_of argument
+    if bytes_eq word (codes "edit") then asks_edit argument
+    else if bytes_eq word (codes "subscribe") then asks_subscribe argument
+    else if bytes_eq word (codes "unsubscribe") then asks_unsubscribe argument
+    else if bytes_eq word (codes "advance") then asks_advance argument
+    else if bytes_eq word (codes "status") then asks_status argument
+    else if bytes_eq word (codes "audit") then asks_audit argument
     else None
 
 -- by the one word of a line that has no space

@@ -16,12 +16,12 @@ pub data AdminSaying : Type 0 where
   to_tell : Topic → AdminSaying
   to_stop : AdminSaying
 
-abbrev pub saying : Command → AdminSaying
-saying (command.Edit octets) = to_edit octets
-saying (command.Subscribe name) = to_subscribe name.items
-saying (command.Unsubscribe sub) = to_unsubscribe sub
-saying (command.Advance t) = to_advance t
-saying (command.Status sub) = to_tell_status sub
-saying (command.Audit most) = to_drain_audit most
-saying (command.Tell topic) = to_tell topic
-saying command.Stop = to_stop
+abbrev pub admin_saying : Command → AdminSaying
+admin_saying (command.Edit octets) = to_edit octets
+admin_saying (command.Subscribe name) = to_subscribe name.items
+admin_saying (command.Unsubscribe sub) = to_unsubscribe sub
+admin_saying (command.Advance t) = to_advance t
+admin_saying (command.Status sub) = to_tell_status sub
+admin_saying (command.Audit most) = to_drain_audit most
+admin_saying (command.Tell topic) = to_tell topic
+admin_saying command.Stop = to_stop

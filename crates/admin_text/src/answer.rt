@@ -2,7 +2,7 @@
 ghost use Rattle.std.specs.Prelude.{◌≡◌, ◌==◌, ◌++◌, ◌∷◌, [], codes, filter, length, IfOk, IfErr, OnOk};
 ghost use Rattle.std.specs.Fmt.{decimal};
 ghost use Rattle.answer_writing.specs.Written.{WritesAll, StopsWriting};
-ghost use Rattle.admin_text.specs.Answers.{status_text, page_text, WritesAnswer, StopsAnswering};
+ghost use Rattle.admin_text.specs.Answers.{admin_status_text, page_text, WritesAnswer, StopsAnswering};
 
 use answer_writing::{AnswerBuffer, Stopped, write_both, write_drained, write_octets};
 use disclosure_audit::AuditEntry;
@@ -136,11 +136,11 @@ fn write_status<S: Sink>(
     status: &Status,
     sent: u64,
 ) -> Result<u64, Stopped>
-    ensures ok { IfOk result (λ n. WritesAll (status_text status.now) sent n
+    ensures ok { IfOk result (λ n. WritesAll (admin_status_text status.now) sent n
         (S.contents sink.old) (S.contents sink.new)) }
     ensures stays { OnOk result (S.has_failed sink.new ≡ S.has_failed sink.old) }
     ensures err { IfErr result (λ e.
-        StopsWriting e (status_text status.now) sent (S.contents sink.old) (S.contents sink.new)
+        StopsWriting e (admin_status_text status.now) sent (S.contents sink.old) (S.contents sink.new)
         (S.has_failed sink.old) (S.has_failed sink.new)) }
 {
     buffer.clear();

@@ -1,10 +1,10 @@
 //! The command that a line asks for.
 ghost use Rattle.std.specs.Prelude.{◌≡◌, Some, IfErr, IfOk, IfSome};
 ghost use Rattle.std.specs.Option.{option_map};
-ghost use Rattle.admin_text.specs.Sayings.{AdminSaying, saying};
+ghost use Rattle.admin_text.specs.Sayings.{AdminSaying, admin_saying};
 ghost use Rattle.admin_text.specs.Sayings.AdminSaying.{to_tell};
 ghost use Rattle.admin_text.specs.Grammar.{IsCommandLine, IsNamingLine};
-ghost use Rattle.admin_text.specs.Reading.{command_of, command_alone, command_by, edit_of, subscribe_of, unsubscribe_of, advance_of, status_of, audit_of, NamesSubscriber};
+ghost use Rattle.admin_text.specs.Reading.{command_of, command_alone, command_by, asks_edit, asks_subscribe, asks_unsubscribe, asks_advance, asks_status, asks_audit, NamesSubscriber};
 
 use crate::argument::{is_one_word, read_number};
 use flow_prefix::cut_at;
@@ -63,14 +63,14 @@ pub enum Command {
 pub fn read_command(alloc: Global, line: &[u8]) -> Result<Option<Command>, AllocError>
     // What is read stands there.
     ensures found { IfOk result (λ command.
-        IfSome command (λ command. IsCommandLine (saying command) line.now)) }
+        IfSome command (λ command. IsCommandLine (admin_saying command) line.now)) }
     // What stands there is read, unless memory runs out.
     ensures only { (said : AdminSaying) → IsCommandLine said line.now
-        → IfOk result (λ command. option_map saying command ≡ Some said) }
+        → IfOk result (λ command. option_map admin_saying command ≡ Some said) }
     // Memory is wanted for a name alone.
     ensures memory { IfErr result (λ _. IsNamingLine line.now) }
     // Which command it is.
-    ensures exact { IfOk result (λ command. option_map saying command ≡ command_of line.now) }
+    ensures exact { IfOk result (λ command. option_map admin_saying command ≡ command_of line.now) }
 {
     read_line(alloc, line)
 }
@@ -78,7 +78,7 @@ pub fn read_command(alloc: Global, line: &[u8]) -> Result<Option<Command>, Alloc
 /// Reads a line that may be too long.
 #[tactic(auto, unfolding(crate::specs::Reading::command_of))]
 fn read_line(alloc: Global, line: &[u8]) -> Result<Option<Command>, AllocError>
-    ensures value { IfOk result (λ command. option_map saying command ≡ command_of line.now) }
+    ensures value { IfOk result (λ command. option_map admin_saying command ≡ command_of line.now) }
     ensures memory { IfErr result (λ _. NamesSubscriber (command_of line.now)) }
 {
     if line.len() > LONGEST_LINE {
@@ -93,7 +93,7 @@ fn read_line(alloc: Global, line: &[u8]) -> Result<Option<Command>, AllocError>
 /// The command that a line of one word is.
 #[tactic(auto, unfolding(crate::specs::Reading::command_alone))]
 fn read_alone(word: &[u8]) -> Option<Command>
-    ensures { option_map saying result ≡ command_alone word.now }
+    ensures { option_map admin_saying result ≡ command_alone word.now }
 {
     if is_word(word, b"status") {
         tell(Topic::Subscriptions)
@@ -112,7 +112,7 @@ fn read_alone(word: &[u8]) -> Option<Command>
 
 /// The command that asks for the page on `topic`.
 const fn tell(topic: Topic) -> Option<Command>
-    ensures { option_map saying result ≡ Some (to_tell topic) }
+    ensures { option_map admin_saying result ≡ Some (to_tell topic) }
 {
     Some(Command::Tell { topic })
 }
@@ -120,7 +120,7 @@ const fn tell(topic: Topic) -> Option<Command>
 /// The command that the first word names, with the argument behind it.
 #[tactic(auto, unfolding(crate::specs::Reading::command_by))]
 fn read_by(alloc: Global, word: &[u8], argument: &[u8]) -> Result<Option<Command>, AllocError>
-    ensures value { IfOk result (λ command. option_map saying command
+    ensures value { IfOk result (λ command. option_map admin_saying command
         ≡ command_by word.now argument.now) }
     ensures memory { IfErr result (λ _. NamesSubscriber (command_by word.now argument.now)) }
 {
@@ -142,9 +142,9 @@ fn read_by(alloc: Global, word: &[u8], argument: &[u8]) -> Result<Option<Command
 }
 
 /// Behind `edit`: how many octets the policy has.
-#[tactic(auto, unfolding(crate::specs::Reading::edit_of))]
+#[tactic(auto, unfolding(crate::specs::Reading::asks_edit))]
 fn read_edit(argument: &[u8]) -> Option<Command>
-    ensures { option_map saying result ≡ edit_of argument.now }
+    ensures { option_map admin_saying result ≡ asks_edit argument.now }
 {
     let octets = read_number(argument, u64::from(LONGEST_POLICY))?;
     Some(Command::Edit {
@@ -153,10 +153,10 @@ fn read_edit(argument: &[u8]) -> Option<Command>
 }
 
 /// Behind `subscribe`: the name, one word.
-#[tactic(auto, unfolding(crate::specs::Reading::subscribe_of))]
+#[tactic(auto, unfolding(crate::specs::Reading::asks_subscribe))]
 fn read_subscribe(alloc: Global, argument: &[u8]) -> Result<Option<Command>, AllocError>
-    ensures value { IfOk result (λ command. option_map saying command ≡ subscribe_of argument.now) }
-    ensures memory { IfErr result (λ _. NamesSubscriber (subscribe_of argument.now)) }
+    ensures value { IfOk result (λ command. option_map admin_saying command ≡ asks_subscribe argument.now) }
+    ensures memory { IfErr result (λ _. NamesSubscriber (asks_subscribe argument.now)) }
 {
     if !is_one_word(argument) {
         return Ok(None);
@@ -166,36 +166,36 @@ fn read_subscribe(alloc: Global, argument: &[u8]) -> Result<Option<Command>, All
 }
 
 /// Behind `unsubscribe`: the subscription.
-#[tactic(auto, unfolding(crate::specs::Reading::unsubscribe_of))]
+#[tactic(auto, unfolding(crate::specs::Reading::asks_unsubscribe))]
 fn read_unsubscribe(argument: &[u8]) -> Option<Command>
-    ensures { option_map saying result ≡ unsubscribe_of argument.now }
+    ensures { option_map admin_saying result ≡ asks_unsubscribe argument.now }
 {
     let sub = read_number(argument, u64::MAX)?;
     Some(Command::Unsubscribe { sub })
 }
 
 /// Behind `advance`: the time, in milliseconds since 1970.
-#[tactic(auto, unfolding(crate::specs::Reading::advance_of))]
+#[tactic(auto, unfolding(crate::specs::Reading::asks_advance))]
 fn read_advance(argument: &[u8]) -> Option<Command>
-    ensures { option_map saying result ≡ advance_of argument.now }
+    ensures { option_map admin_saying result ≡ asks_advance argument.now }
 {
     let t = read_number(argument, u64::MAX)?;
     Some(Command::Advance { t })
 }
 
 /// Behind `status`: the subscription.
-#[tactic(auto, unfolding(crate::specs::Reading::status_of))]
+#[tactic(auto, unfolding(crate::specs::Reading::asks_status))]
 fn read_status(argument: &[u8]) -> Option<Command>
-    ensures { option_map saying result ≡ status_of argument.now }
+    ensures { option_map admin_saying result ≡ asks_status argument.now }
 {
     let sub = read_number(argument, u64::MAX)?;
     Some(Command::Status { sub })
 }
 
 /// Behind `audit`: how many entries are asked for, at least one.
-#[tactic(auto, unfolding(crate::specs::Reading::audit_of))]
+#[tactic(auto, unfolding(crate::specs::Reading::asks_audit))]
 fn read_audit(argument: &[u8]) -> Option<Command>
-    ensures { option_map saying result ≡ audit_of argument.now }
+    ensures { option_map admin_saying result ≡ asks_audit argument.now }
 {
     let most = read_number(argument, u64::from(MOST_AUDIT_ENTRIES))?;
     if most == 0 {

@@ -7,7 +7,7 @@ use Rattle.disclosure_audit.specs.declared.entry.RemovedField.{RemovedField}
 use Rattle.disclosure_audit.specs.declared.entry.What.{What}
 use Rattle.disclosure_audit.specs.declared.entry.What.TheVariants.{Withheld, Aggregated, Removed, Cut}
 use Rattle.disclosure_audit.specs.declared.entry.AuditEntry.{AuditEntry}
-use Rattle.disclosure_audit.specs.Lines.{line_of, what_words}
+use Rattle.disclosure_audit.specs.Lines.{audit_line, what_words}
 use Rattle.answer_writing.specs.Pieces.{rest_of_line, rest_of_lines}
 
 -- what was kept back stands behind three numbers
@@ -19,8 +19,8 @@ line_is position index sub (Removed fields) = simp append_assoc
 line_is position index sub Cut = simp append_assoc
 
 -- the first piece of an entry's line, before those of the others
-pub entry_first : (entry : AuditEntry) (whole entries : List AuditEntry) (fields : List RemovedField) (old new : List ℕ) → whole ≡ entry ∷ entries → new ++ rest_of_line fields ≡ old ++ line_of entry
-    → new ++ rest_of_lines fields entries ≡ old ++ flat_map line_of whole
+pub entry_first : (entry : AuditEntry) (whole entries : List AuditEntry) (fields : List RemovedField) (old new : List ℕ) → whole ≡ entry ∷ entries → new ++ rest_of_line fields ≡ old ++ audit_line entry
+    → new ++ rest_of_lines fields entries ≡ old ++ flat_map audit_line whole
 entry_first entry whole entries fields old new is put =
-    sym (append_assoc new (rest_of_line fields) (flat_map line_of entries)) ∙ ap (λ t. t ++ flat_map line_of entries) put ∙ append_assoc old (line_of entry) (flat_map line_of entries)
-    ∙ ap (λ t. old ++ t) (sym (flat_map-cons line_of entry entries)) ∙ ap (λ es. old ++ flat_map line_of es) (sym is)
+    sym (append_assoc new (rest_of_line fields) (flat_map audit_line entries)) ∙ ap (λ t. t ++ flat_map audit_line entries) put ∙ append_assoc old (audit_line entry) (flat_map audit_line entries)
+    ∙ ap (λ t. old ++ t) (sym (flat_map-cons audit_line entry entries)) ∙ ap (λ es. old ++ flat_map audit_line es) (sym is)

@@ -3,7 +3,7 @@ use Rattle.std.specs.Prelude.{ℕ, List, [], ◌∷◌, ◌++◌}
 use Rattle.std.specs.List.{flat_map}
 use Rattle.disclosure_audit.specs.declared.entry.RemovedField.{RemovedField}
 use Rattle.disclosure_audit.specs.declared.entry.AuditEntry.{AuditEntry}
-use Rattle.disclosure_audit.specs.Lines.{line_of, fields_text}
+use Rattle.disclosure_audit.specs.Lines.{audit_line, fields_text}
 
 -- how many octets a buffer has room for, one piece has at most, and the digits of a number are at most
 abbrev pub most_octets : ℕ
@@ -22,4 +22,4 @@ rest_of_line (field ∷ fields) = fields_text (field ∷ fields) ++ 10 ∷ []
 
 -- that, and the lines of the entries behind it
 abbrev pub rest_of_lines : List RemovedField → List AuditEntry → List ℕ
-rest_of_lines fields entries = rest_of_line fields ++ flat_map line_of entries
+rest_of_lines fields entries = rest_of_line fields ++ flat_map audit_line entries

@@ -5,13 +5,13 @@ use Rattle.std.specs.Fmt.{decimal}
 use Rattle.std.specs.Io.KnownBytes.{Appends}
 use Rattle.octet_io.specs.Written.{WritesFront}
 use Rattle.disclosure_audit.specs.declared.entry.AuditEntry.{AuditEntry}
-use Rattle.disclosure_audit.specs.Lines.{line_of}
+use Rattle.disclosure_audit.specs.Lines.{audit_line}
 use Rattle.answer_writing.specs.declared.writing.Stopped.{Stopped}
 use Rattle.answer_writing.specs.declared.writing.Stopped.TheVariants.{Failed, Uncounted}
 
 -- how many entries there are, and then a line for each
 abbrev pub drained_octets : List AuditEntry → List ℕ
-drained_octets entries = codes "ok " ++ decimal (length entries) ++ 10 ∷ flat_map line_of entries
+drained_octets entries = codes "ok " ++ decimal (length entries) ++ 10 ∷ flat_map audit_line entries
 
 -- all was written behind so many octets, and counted
 pub record WritesAll (due : List ℕ) (sent count : ℕ) (held holds : Option (List ℕ)) : Type 0 where

@@ -3,7 +3,7 @@
 ghost use Rattle.std.specs.Prelude.{◌≡◌, ◌+◌, ◌<◌, ◌≤◌, ◌++◌, ◌∷◌, [], length, codes, MatchOption, if◌then◌else◌};
 ghost use Rattle.std.specs.Fmt.{decimal};
 ghost use Rattle.std.specs.List.{join_with_byte};
-ghost use Rattle.disclosure_audit.specs.Lines.{line_of, what_words, field_text};
+ghost use Rattle.disclosure_audit.specs.Lines.{audit_line, what_words, field_text};
 ghost use Rattle.answer_writing.specs.Pieces.{most_octets, longest_piece, rest_of_line, rest_of_lines};
 
 use crate::buffer::AnswerBuffer;
@@ -85,7 +85,7 @@ fn put_next_entry<'e>(buffer: &mut AnswerBuffer, entries: &'e [AuditEntry]) -> O
 /// answers these.
 fn put_entry<'e>(buffer: &mut AnswerBuffer, entry: &'e AuditEntry) -> &'e [RemovedField]
     requires room { length buffer.old + longest_piece ≤ most_octets }
-    ensures put { buffer.new ++ rest_of_line result.now ≡ buffer.old ++ line_of entry.now }
+    ensures put { buffer.new ++ rest_of_line result.now ≡ buffer.old ++ audit_line entry.now }
     ensures some { length buffer.old < length buffer.new }
 {
     buffer.put_number(entry.position);

@@ -3,7 +3,7 @@ use Rattle.std.specs.Prelude.{◌≡◌, ◌↔◌, ℕ, Bool, List, [], ◌∷�
 use Rattle.ipfix_template.specs.declared.template.Template.{Template}
 use Rattle.ipfix_session.specs.Standing.{Knows}
 use Rattle.prepared_message.specs.declared.fault.Fault.{Fault as PrepareFault}
-use Rattle.prepared_message.specs.Faults.{Gives, prepared_from}
+use Rattle.prepared_message.specs.Faults.{GivesPrepared, prepared_from}
 use Rattle.prepared_message.specs.Preparation.{Preparation, AgreesWith}
 use Rattle.prepared_message.specs.Uses.{TablesAgree}
 
@@ -20,7 +20,7 @@ module _ (known : Tables) where
   -- this message holds, or which fault it has; want of memory says nothing. A prepared message is this one, and it agrees with a
   -- session exactly where that has the snapshot's templates for the Set IDs that the message uses.
   pub record IsAnswer (message : List ℕ) (answer : Result Preparation PrepareFault) : Type 0 where
-    pub gives : (older : List (List ℕ)) → Knows known older → Gives (λ p. p.contents) answer (prepared_from older message)
+    pub gives : (older : List (List ℕ)) → Knows known older → GivesPrepared (λ p. p.contents) answer (prepared_from older message)
     pub whole : IfOk answer (λ p. p.message ≡ message)
     pub used : IfOk answer (λ p. (older : List (List ℕ)) → AgreesWith older p ↔ TablesAgree known older message)
 

@@ -5,7 +5,7 @@ use Rattle.disclosure_audit.specs.declared.entry.RemovedField.{RemovedField}
 use Rattle.disclosure_audit.specs.declared.entry.What.{What}
 use Rattle.disclosure_audit.specs.declared.entry.What.TheVariants.{Withheld, Aggregated, Removed, Cut}
 use Rattle.disclosure_audit.specs.declared.entry.AuditEntry.{AuditEntry}
-use Rattle.disclosure_audit.specs.Lines.{line_of}
+use Rattle.disclosure_audit.specs.Lines.{audit_line}
 
 -- the numbers are in the ranges of the code's types
 pub record IsField (field : RemovedField) : Type 0 where
@@ -26,4 +26,4 @@ pub record IsAuditEntry (entry : AuditEntry) : Type 0 where
 
 -- no line is that of two entries
 abbrev pub OneEntry : Type 0
-OneEntry = (a b : AuditEntry) → IsAuditEntry a → IsAuditEntry b → line_of a ≡ line_of b → a ≡ b
+OneEntry = (a b : AuditEntry) → IsAuditEntry a → IsAuditEntry b → audit_line a ≡ audit_line b → a ≡ b

@@ -37,5 +37,5 @@ abbrev pub entry_words : AuditEntry → List (List ℕ)
 entry_words entry = decimal entry.position ∷ decimal entry.index ∷ decimal entry.sub ∷ what_words entry.what
 
 -- one space (32) between words, and a line feed (10)
-abbrev pub line_of : AuditEntry → List ℕ
-line_of entry = join_with_byte 32 (entry_words entry) ++ 10 ∷ []
+abbrev pub audit_line : AuditEntry → List ℕ
+audit_line entry = join_with_byte 32 (entry_words entry) ++ 10 ∷ []

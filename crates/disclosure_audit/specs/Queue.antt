@@ -19,12 +19,12 @@ pub record KeptAudit : Type 0 where
   pub spare : ℕ
 
 -- an audit that was given no entry
-abbrev pub at_start : AuditStanding
-at_start = record { drained = 0; entries = [] }
+abbrev pub empty_audit : AuditStanding
+empty_audit = record { drained = 0; entries = [] }
 
 -- one entry more, behind the others
-abbrev pub with_entry : AuditStanding → AuditEntry → AuditStanding
-with_entry s entry = record { drained = s.drained; entries = s.entries ++ entry ∷ [] }
+abbrev pub with_noted : AuditStanding → AuditEntry → AuditStanding
+with_noted s entry = record { drained = s.drained; entries = s.entries ++ entry ∷ [] }
 
 -- the same for entries in a row
 abbrev pub with_entries : AuditStanding → List AuditEntry → AuditStanding

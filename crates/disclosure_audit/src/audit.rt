@@ -56,14 +56,14 @@ impl Model for Audit {
 }
 
 impl Audit {
-    ghost use Rattle.disclosure_audit.specs.Queue.{stamp, at_start, with_entry, with_entries, oldest, without_oldest, StandsIn, TakesEntries, DrainsOldest};
+    ghost use Rattle.disclosure_audit.specs.Queue.{stamp, empty_audit, with_noted, with_entries, oldest, without_oldest, StandsIn, TakesEntries, DrainsOldest};
 
     /// An audit that was given no entry and may hold `limit` of them, 1 to [`MOST_ENTRIES`]. What it comes
     /// to keep is taken from `alloc`.
     pub fn new(alloc: Global, limit: u32) -> Audit
         requires least { 1 ≤ limit }
         requires most { limit ≤ MOST_ENTRIES }
-        ensures value { result ≡ record { standing = at_start; limit = limit; spare = 0 } }
+        ensures value { result ≡ record { standing = empty_audit; limit = limit; spare = 0 } }
         ensures stands { StandsIn result.standing [] }
     {
         Audit {
@@ -126,7 +126,7 @@ impl Audit {
         requires reserved { 0 < self.old.spare }
         requires count { self.old.standing.drained + length self.old.standing.entries + 1 < 2 ^ 64 }
         ensures value { self.new ≡ record {
-          standing = with_entry self.old.standing entry;
+          standing = with_noted self.old.standing entry;
           limit = self.old.limit;
           spare = self.old.spare - 1;
         } }

@@ -2,7 +2,7 @@
 ghost use Rattle.std.specs.Prelude.{◌≡◌, ◌++◌, ◌∷◌, [], ◌<◌, OnOk, IfOk, string_bytes};
 ghost use Rattle.std.specs.Fmt.{decimal};
 ghost use Rattle.std.specs.List.{join_with_byte};
-ghost use Rattle.disclosure_audit.specs.Lines.{line_of, what_words, fields_text, field_text};
+ghost use Rattle.disclosure_audit.specs.Lines.{audit_line, what_words, fields_text, field_text};
 
 use crate::entry::{AuditEntry, RemovedField, What};
 use itoa::Buffer;
@@ -14,7 +14,7 @@ use std::alloc::{AllocError, Global};
 /// # Errors
 /// Want of memory.
 pub fn line(alloc: Global, entry: &AuditEntry) -> Result<String, AllocError>
-    ensures { IfOk result (λ text. string_bytes text ≡ line_of entry.now) }
+    ensures { IfOk result (λ text. string_bytes text ≡ audit_line entry.now) }
 {
     let mut text = String::new(alloc);
     put_line(&mut text, entry)?;
@@ -26,7 +26,7 @@ pub fn line(alloc: Global, entry: &AuditEntry) -> Result<String, AllocError>
 /// # Errors
 /// Want of memory, and then a part of the line may stand there.
 pub fn put_line(text: &mut String, entry: &AuditEntry) -> Result<(), AllocError>
-    ensures { OnOk result (string_bytes text.new ≡ string_bytes text.old ++ line_of entry.now) }
+    ensures { OnOk result (string_bytes text.new ≡ string_bytes text.old ++ audit_line entry.now) }
 {
     put_number(text, entry.position)?;
     put_mark(text, ' ')?;

@@ -14,7 +14,7 @@ use Rattle.flow_aggregate.specs.Groups.{Group, Sample, group_of}
 use Rattle.flow_aggregate.specs.GroupOrder.{same_group, same_group-is}
 use Rattle.flow_aggregate.specs.Running.{Entries, held_of, of_group, flows_of, sums_over, SumsStand}
 use Rattle.flow_aggregate.specs.Counts.{Count, count_of}
-use Rattle.flow_aggregate.specs.Additions.{is_among, groups_in, AddsCount, AreReadyToAdd, sums_of, with_addition, with_additions}
+use Rattle.flow_aggregate.specs.Additions.{is_group_among, groups_in, AddsCount, AreReadyToAdd, sums_of, with_addition, with_additions}
 use Rattle.flow_aggregate.proofs.SumLaws.{totals_more, so_far}
 use Rattle.flow_aggregate.proofs.EntryLaws.{look_written, look_there, keys_written}
 use Rattle.flow_aggregate.proofs.RunningLaws.{more_of, none_of}
@@ -99,21 +99,21 @@ any_at p (h ∷ gs) (suc i) g at is = by (p h) (any_at p gs i g at is) where
   by false rest = rest
 
 -- those that are added to have places
-added_there : (gs : List Group) (xs : List Addition) (ks : List Count) (g : Group) → AllZip (AddsCount gs) xs ks → is_among (groups_in ks) g ≡ true → is_among gs g ≡ true
+added_there : (gs : List Group) (xs : List Addition) (ks : List Count) (g : Group) → AllZip (AddsCount gs) xs ks → is_group_among (groups_in ks) g ≡ true → is_group_among gs g ≡ true
 added_there gs [] [] g adds is = absurd cc
 added_there gs [] (k ∷ ks) g adds is = absurd adds
 added_there gs (a ∷ xs) [] g adds is = absurd adds
 added_there gs (a ∷ xs) (k ∷ ks) g adds is = by (same_group g k.group) refl is (added_there gs xs ks g adds.1) where
-  by : (b : Bool) → same_group g k.group ≡ b → (b || is_among (groups_in ks) g) ≡ true → (is_among (groups_in ks) g ≡ true → is_among gs g ≡ true) → is_among gs g ≡ true
+  by : (b : Bool) → same_group g k.group ≡ b → (b || is_group_among (groups_in ks) g) ≡ true → (is_group_among (groups_in ks) g ≡ true → is_group_among gs g ≡ true) → is_group_among gs g ≡ true
   by true same is rest = any_at (same_group g) gs a.place k.group adds.0.0 same
   by false same is rest = rest is
 
 -- those that were made are added to
-wanted_there : (gs hs : List Group) (g : Group) → AllByRecursion (λ h. is_among hs h ≡ true) gs → is_among gs g ≡ true → is_among hs g ≡ true
+wanted_there : (gs hs : List Group) (g : Group) → AllByRecursion (λ h. is_group_among hs h ≡ true) gs → is_group_among gs g ≡ true → is_group_among hs g ≡ true
 wanted_there [] hs g wanted is = absurd cc
 wanted_there (h ∷ gs) hs g wanted is = by (same_group g h) refl is (wanted_there gs hs g wanted.1) where
-  by : (b : Bool) → same_group g h ≡ b → (b || is_among gs g) ≡ true → (is_among gs g ≡ true → is_among hs g ≡ true) → is_among hs g ≡ true
-  by true same is rest = ap (λ x. is_among hs x) (same_group-is g h same) ∙ wanted.0
+  by : (b : Bool) → same_group g h ≡ b → (b || is_group_among gs g) ≡ true → (is_group_among gs g ≡ true → is_group_among hs g ≡ true) → is_group_among hs g ≡ true
+  by true same is rest = ap (λ x. is_group_among hs x) (same_group-is g h same) ∙ wanted.0
   by false same is rest = rest is
 
 -- records of a group are those that were counted, and those that are added
@@ -121,11 +121,11 @@ some_over : (cs ds : List Sample) → is_some (sums_over (cs ++ ds)) ≡ (is_som
 some_over [] ds = refl
 some_over (c ∷ cs) ds = refl
 
-some_of : (g : Group) (cs : List Sample) → is_some (sums_over (of_group g cs)) ≡ is_among (groups_in (map count_of cs)) g
+some_of : (g : Group) (cs : List Sample) → is_some (sums_over (of_group g cs)) ≡ is_group_among (groups_in (map count_of cs)) g
 some_of g [] = refl
 some_of g (c ∷ cs) = by (same_group g (group_of c)) (some_of g cs) where
-  by : (b : Bool) → is_some (sums_over (of_group g cs)) ≡ is_among (groups_in (map count_of cs)) g
-      → is_some (sums_over (cond b (c ∷ of_group g cs) (of_group g cs))) ≡ (b || is_among (groups_in (map count_of cs)) g)
+  by : (b : Bool) → is_some (sums_over (of_group g cs)) ≡ is_group_among (groups_in (map count_of cs)) g
+      → is_some (sums_over (cond b (c ∷ of_group g cs) (of_group g cs))) ≡ (b || is_group_among (groups_in (map count_of cs)) g)
   by true rest = refl
   by false rest = rest
 
@@ -142,20 +142,20 @@ same_groups es fs xs before more g stands ready =
     let gs : List Group = keys_of es in
     let hs : List Group = keys_of fs in
     let ks : List Group = groups_in (map count_of more) in
-    let counted : is_among gs g ≡ is_some (sums_over (of_group g before)) = sym (is_some-lookup (same_group g) es) ∙ ap is_some (stands g) in
-    let back : is_among ks g ≡ true → (is_among gs g || is_among hs g) ≡ true =
+    let counted : is_group_among gs g ≡ is_some (sums_over (of_group g before)) = sym (is_some-lookup (same_group g) es) ∙ ap is_some (stands g) in
+    let back : is_group_among ks g ≡ true → (is_group_among gs g || is_group_among hs g) ≡ true =
     λ is. sym (list_any-append (same_group g) gs hs) ∙ added_there (gs ++ hs) xs (map count_of more) g ready.each is in
     is_some-lookup (same_group g) (es ++ fs)
     ∙ ap (is_among_of g) (map-append (λ (e : Group × Sums). e.0) es fs)
     ∙ list_any-append (same_group g) gs hs
-    ∙ either (is_among gs g) (is_among hs g) (is_among ks g) (wanted_there hs ks g ready.wanted) back
-    ∙ ap (λ b. b || is_among ks g) counted
+    ∙ either (is_group_among gs g) (is_group_among hs g) (is_group_among ks g) (wanted_there hs ks g ready.wanted) back
+    ∙ ap (λ b. b || is_group_among ks g) counted
     ∙ ap (λ b. is_some (sums_over (of_group g before)) || b) (sym (some_of g more))
     ∙ sym (some_over (of_group g before) (of_group g more))
     ∙ ap (λ cs. is_some (sums_over cs)) (sym (filter-append (λ (d : Sample). same_group g (group_of d)) before more))
   where
     is_among_of : Group → List Group → Bool
-    is_among_of g gs = is_among gs g
+    is_among_of g gs = is_group_among gs g
 
 -- ---- so they stand for both
 
@@ -173,7 +173,7 @@ both_stand es fs xs before more distinct empty stands ready g =
     let adds : AllZip (AddsCount (keys_of all)) xs (map count_of more) = subst (λ (gs : List Group). AllZip (AddsCount gs) xs (map count_of more)) (sym keys) ready.each in
     let have = all_added xs more all before distinct adds (have_sums es fs before empty stands) g in
     let kept : is_some (lookup (same_group g) (with_additions all xs)) ≡ is_some (lookup (same_group g) all) =
-    is_some-lookup (same_group g) (with_additions all xs) ∙ ap (λ (gs : List Group). is_among gs g) (keys_added xs all) ∙ sym (is_some-lookup (same_group g) all) in
+    is_some-lookup (same_group g) (with_additions all xs) ∙ ap (λ (gs : List Group). is_group_among gs g) (keys_added xs all) ∙ sym (is_some-lookup (same_group g) all) in
     sums_are (lookup (same_group g) (with_additions all xs)) (of_group g (before ++ more)) (kept ∙ same_groups es fs xs before more g stands ready) have
 
 pub additions_stand : (n : ℕ) (es : Entries) (xs : List Addition) (before more : List Sample) → IsDistinct same_group (keys_of es)

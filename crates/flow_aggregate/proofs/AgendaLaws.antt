@@ -19,7 +19,7 @@ use Rattle.flow_aggregate.specs.Sums.{no_sums}
 use Rattle.flow_aggregate.specs.Groups.{Group}
 use Rattle.flow_aggregate.specs.GroupOrder.{same_group, same_group-is, same_group-itself, same_group-whole}
 use Rattle.flow_aggregate.specs.Running.{Entries, sums_at, is_due}
-use Rattle.flow_aggregate.specs.Agenda.{Timed, time_of, listed_in, listed_at, AreListed, ListsTheSame, ListsOneMore, without, ListsWithout, FirstBy, NoneListedTo, TakesOut, TakesOutDue, Closes, ListsNoneTo}
+use Rattle.flow_aggregate.specs.Agenda.{Timed, time_of, listed_in, listed_at, AreListed, ListsTheSame, ListsOneMore, without, ListsWithout, FirstBy, NoneListedTo, TakesOut, TakesOutDue, ClosesDue, ListsNoneTo}
 use Rattle.flow_aggregate.proofs.EntryLaws.{same_both, all_at}
 
 -- ---- a map whose list of one time is written
@@ -314,7 +314,7 @@ none_left t es agenda listed none g due = by (sums_at es g) refl where
       absurd (let e : true ≡ false = sym there ∙ gone in cc)
 
 pub closes_by : (t : ℕ) (es fs : Entries) (agenda : Timed) → AreListed fs agenda → NoneListedTo t agenda → ((g : Group) → is_due t g ≡ false → sums_at fs g ≡ sums_at es g)
-    → Closes t es fs agenda
+    → ClosesDue t es fs agenda
 closes_by t es fs agenda listed none stay = record { listed = listed; sums = λ g. by g (is_due t g) refl } where
   by : (g : Group) (b : Bool) → is_due t g ≡ b → sums_at fs g ≡ cond b None (sums_at es g)
   by g true due = none_left t fs agenda listed none g due
@@ -327,7 +327,7 @@ not_among t time groups g le all due =
     not_at time g groups all (ne_eqb time (time_of g) (λ same. omega (arith, le, later, same)))
 
 pub closes_all : (t : ℕ) (es fs : Entries) (before after : Timed) → AreListed es before → ListsNoneTo t before after → IsDistinct same_group (keys_of fs)
-    → ((g : Group) → sums_at fs g ≡ cond (is_due t g) None (sums_at es g)) → Closes t es fs after
+    → ((g : Group) → sums_at fs g ≡ cond (is_due t g) None (sums_at es g)) → ClosesDue t es fs after
 closes_all t es fs before after was lists keys sums = record {
   listed = record {
     keys = keys;

@@ -11,7 +11,7 @@ use Rattle.flow_aggregate.specs.Sums.{no_sums}
 use Rattle.flow_aggregate.specs.Groups.{Group, Sample, group_of}
 use Rattle.flow_aggregate.specs.GroupOrder.{same_group, same_group-whole}
 use Rattle.flow_aggregate.specs.Running.{Entries, HeldGroups, held_of, of_group, sums_over, SumsStand, staying}
-use Rattle.flow_aggregate.specs.Agenda.{Timed, AreListed, AreGroupsKept, Closes}
+use Rattle.flow_aggregate.specs.Agenda.{Timed, AreListed, AreGroupsKept, ClosesDue}
 use Rattle.flow_aggregate.specs.Counts.{count_of}
 use Rattle.flow_aggregate.specs.Additions.{AreReadyToAdd, with_additions}
 use Rattle.flow_aggregate.proofs.RunningLaws.{stays}
@@ -110,7 +110,7 @@ pub none_ready : (m : ℕ) (es fs : Entries) (xs : List Addition) → fs ≡ wit
 none_ready m es fs xs is long = ap (λ (ds : Entries). keys_of ds) (drop_all m fs (added_whole m es fs xs is long))
 
 -- once all that was due is gone, all groups count
-pub closed_stand : (t m : ℕ) (es fs : Entries) (agenda : Timed) (held : HeldGroups) (cs : List Sample) → es ≡ held.groups → Closes t es fs agenda → m ≡ length fs → SumsStand held.groups cs
+pub closed_stand : (t m : ℕ) (es fs : Entries) (agenda : Timed) (held : HeldGroups) (cs : List Sample) → es ≡ held.groups → ClosesDue t es fs agenda → m ≡ length fs → SumsStand held.groups cs
     → SumsStand (take m fs) (staying t cs)
 closed_stand t m es fs agenda held cs same closes long stands =
     let stood : SumsStand es cs = subst (λ (ds : Entries). SumsStand ds cs) (sym same) stands in

@@ -11,14 +11,14 @@ use Rattle.ipfix_template.specs.DataRecord.{DataRecord, IsSound}
 use Rattle.policy_text.specs.Policies.{Aggregate}
 use Rattle.flow_aggregate.specs.declared.timing.Timing.TheVariants.{Placed, NoTime, NoKey}
 use Rattle.flow_aggregate.specs.Values.{first_value, has_value, full_width}
-use Rattle.flow_aggregate.specs.Placing.{start_of, has_key, interval_start, in_interval, timing_at, timing_of}
+use Rattle.flow_aggregate.specs.Placing.{flow_start, has_key, interval_start, in_interval, timing_at, timing_of}
 use Rattle.flow_aggregate.specs.Groups.{wide_value, key_octets, HaveWidths, IsSummed, IsGroup}
 use Rattle.flow_aggregate.specs.Running.{IsPlaced}
 use Rattle.flow_aggregate.proofs.WidthLaws.{first_wide}
 
 -- it starts before 2^62, and has the key
 pub record CanCount (a : Aggregate) (r : DataRecord) : Type 0 where
-  pub start : unwrap_or (start_of r) 0 < 2 ^ 62
+  pub start : unwrap_or (flow_start r) 0 < 2 ^ 62
   pub key : has_key a.key r ≡ true
 
 placed_by : (a : Aggregate) (r : DataRecord) (closed_to start : ℕ) (time : Option ℕ) → timing_at a r closed_to time ≡ Placed start
@@ -34,7 +34,7 @@ placed_by a r closed_to start (Some time) is = by (nat_lt time (2 ^ 62)) (has_ke
 pub can_count : (a : Aggregate) (r : DataRecord) → IsPlaced a r → CanCount a r
 unfolding timing_of
 can_count a r placed =
-    let parts = placed_by a r placed.0 placed.1 (start_of r) placed.2 in
+    let parts = placed_by a r placed.0 placed.1 (flow_start r) placed.2 in
     record { start = parts.0; key = parts.1 }
 
 -- ---- the key's octets
@@ -61,7 +61,7 @@ key_long (e ∷ es) r sound widths has =
 
 -- the group of a record that is placed
 pub group_found : (a : Aggregate) (r : DataRecord) (d : Aggregate) (start : ℕ) (key : List ℕ) → IsPlaced a r → IsSound r → IsSummed a → d ≡ a
-    → start ≤ unwrap_or (start_of r) 0 → key ≡ key_octets a.key r → IsGroup (record { start = start; definition = d; key = key })
+    → start ≤ unwrap_or (flow_start r) 0 → key ≡ key_octets a.key r → IsGroup (record { start = start; definition = d; key = key })
 group_found a r d start key placed sound summed same early is-key =
     let can = can_count a r placed in
     let all : IsGroup (record { start = start; definition = a; key = key }) = record {

@@ -22,7 +22,8 @@ use Rattle.ipfix_template.specs.Template.{is_variable, has_allowed_length, has_b
 use Rattle.ipfix_template.specs.Values.{fits_field}
 use Rattle.ipfix_template.specs.DataRecord.{DataRecord, IsSound}
 use Rattle.ipfix_template.proofs.Encoding.{fit_fields-at, fit_fields-length}
-use Rattle.flow_aggregate.specs.Values.{is_same_element, first_value, full_width, flow_start_milliseconds, flow_start_seconds, flow_end_milliseconds, octet_delta_count, packet_delta_count, delta_flow_count}
+use Rattle.policy_judge.specs.Match.{is_same_element}
+use Rattle.flow_aggregate.specs.Values.{first_value, full_width, flow_start_milliseconds, flow_start_seconds, flow_end_milliseconds, octet_delta_count, packet_delta_count, delta_flow_count}
 use Rattle.policy_text.specs.Classes.{is_key_kind}
 use Rattle.flow_aggregate.specs.Widths.{IsWide}
 use Rattle.policy_text.specs.Policies.{Aggregate, IsRanged}

@@ -8,12 +8,12 @@ use Rattle.flow_aggregate.specs.declared.addition.Addition.{Addition}
 use Rattle.flow_aggregate.specs.Sums.{no_sums, plus}
 use Rattle.flow_aggregate.specs.Groups.{Group}
 use Rattle.flow_aggregate.specs.GroupOrder.{same_group}
-use Rattle.flow_aggregate.specs.Running.{Entries, HeldGroups, places}
+use Rattle.flow_aggregate.specs.Running.{Entries, HeldGroups, group_places}
 use Rattle.flow_aggregate.specs.Counts.{Count}
 
 -- the group is one of these
-abbrev pub is_among : List Group → Group → Bool
-is_among groups g = list_any (same_group g) groups
+abbrev pub is_group_among : List Group → Group → Bool
+is_group_among groups g = list_any (same_group g) groups
 
 -- the groups of what is added
 abbrev pub groups_in : List Count → List Group
@@ -25,8 +25,8 @@ AddsCount groups a c = (slice_get groups a.place ≡ Some c.group) × (a.counter
 
 -- these additions were made ready for these counts, one for each, and no group was made for anything else
 pub record AreReadyToAdd (held : HeldGroups) (additions : List Addition) (counts : List Count) : Type 0 where
-  pub each : AllZip (AddsCount (places held)) additions counts
-  pub wanted : AllByRecursion (λ g. is_among (groups_in counts) g ≡ true) held.ready
+  pub each : AllZip (AddsCount (group_places held)) additions counts
+  pub wanted : AllByRecursion (λ g. is_group_among (groups_in counts) g ≡ true) held.ready
 
 -- this group was made, or none
 abbrev pub MakesAtMost : Group → List Group → List Group → Type 0

@@ -76,7 +76,7 @@ TakesOutDue t groups before after = (time : ℕ) × (time ≤ t) × TakesOut tim
 -- ---- what closing leaves
 
 -- the groups that are due are gone, from the lists as well, and the others have the sums that they had
-pub record Closes (t : ℕ) (before after : Entries) (agenda : Timed) : Type 0 where
+pub record ClosesDue (t : ℕ) (before after : Entries) (agenda : Timed) : Type 0 where
   pub listed : AreListed after agenda
   pub sums : (g : Group) → sums_at after g ≡ (if is_due t g then None else sums_at before g)
 

@@ -13,7 +13,7 @@ use Rattle.ipfix_element.specs.Element.{Element}
 use Rattle.ipfix_template.specs.Equality.{same_pen}
 use Rattle.ipfix_template.specs.SameTemplate.{pen_is}
 use Rattle.policy_text.specs.Policies.{Aggregate}
-use Rattle.flow_aggregate.specs.Values.{is_same_element}
+use Rattle.policy_judge.specs.Match.{is_same_element}
 use Rattle.flow_aggregate.specs.Groups.{Group}
 
 -- ---- equality

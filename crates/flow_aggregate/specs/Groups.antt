@@ -6,7 +6,7 @@ use Rattle.ipfix_element.specs.Element.{Element}
 use Rattle.ipfix_template.specs.DataRecord.{DataRecord}
 use Rattle.policy_text.specs.Policies.{Aggregate, IsRanged}
 use Rattle.flow_aggregate.specs.Values.{first_value, full_width}
-use Rattle.flow_aggregate.specs.Placing.{start_of, interval_start}
+use Rattle.flow_aggregate.specs.Placing.{flow_start, interval_start}
 
 -- where the interval starts, the aggregate, and the values of the key's elements, each at full width
 pub record Group : Type 0 where
@@ -35,7 +35,7 @@ key_octets key r = flat_map (wide_value r) key
 -- the group that a record counts in
 abbrev pub group_of : Sample → Group
 group_of c = record {
-  start = interval_start c.definition (unwrap_or (start_of c.flow) 0);
+  start = interval_start c.definition (unwrap_or (flow_start c.flow) 0);
   definition = c.definition;
   key = key_octets c.definition.key c.flow;
 }

@@ -16,8 +16,8 @@ start_by None (Some seconds) = Some (seconds * 1000)
 start_by None None = None
 
 -- when the record's flow started, in milliseconds since 1970
-unfoldable pub start_of : DataRecord → Option ℕ
-start_of r = start_by (first_number flow_start_milliseconds r) (first_number flow_start_seconds r)
+unfoldable pub flow_start : DataRecord → Option ℕ
+flow_start r = start_by (first_number flow_start_milliseconds r) (first_number flow_start_seconds r)
 
 -- the length of an interval, and its grace, in milliseconds
 abbrev pub width_of : Aggregate → ℕ
@@ -50,4 +50,4 @@ timing_at a r closed_to (Some start) =
 
 -- where a record counts in an aggregate, after an advance of the clock to closed_to, or the first reason why it doesn't
 unfoldable pub timing_of : Aggregate → DataRecord → ℕ → Timing
-timing_of a r closed_to = timing_at a r closed_to (start_of r)
+timing_of a r closed_to = timing_at a r closed_to (flow_start r)

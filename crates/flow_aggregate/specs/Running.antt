@@ -31,8 +31,8 @@ abbrev pub nothing_held : HeldGroups
 nothing_held = record { groups = []; ready = [] }
 
 -- all of them, by their places
-abbrev pub places : HeldGroups → List Group
-places held = keys_of held.groups ++ held.ready
+abbrev pub group_places : HeldGroups → List Group
+group_places held = keys_of held.groups ++ held.ready
 
 -- ---- the records that were counted
 

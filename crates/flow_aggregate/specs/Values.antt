@@ -1,11 +1,11 @@
 -- The values of a record that aggregates look at. Of an element that stands twice the first counts: this project's own rule.
-use Rattle.std.specs.Prelude.{ℕ, Bool, List, Option, None, option_map, is_some, unwrap_or, slice_get, position, ◌==◌, ◌&&◌}
+use Rattle.std.specs.Prelude.{ℕ, Bool, List, Option, None, option_map, is_some, unwrap_or, slice_get, position}
 use Rattle.ipfix_octets.specs.Octets.{be_value}
 use Rattle.sequences.specs.Options.{◌>>=◌}
 use Rattle.ipfix_element.specs.Element.{Element}
 use Rattle.ipfix_element.specs.Kinds.{kind_of, full_width_of}
 use Rattle.ipfix_template.specs.DataRecord.{DataRecord}
-use Rattle.ipfix_template.specs.Equality.{same_pen}
+use Rattle.policy_judge.specs.Match.{is_same_element}
 
 -- the element of this number in IANA's registry
 abbrev pub of_iana : ℕ → Element
@@ -30,9 +30,6 @@ packet_delta_count = of_iana 2
 
 abbrev pub delta_flow_count : Element
 delta_flow_count = of_iana 3
-
-abbrev pub is_same_element : Element → Element → Bool
-is_same_element e f = same_pen e.pen f.pen && e.number == f.number
 
 -- the value of the first field of the element
 abbrev pub first_value : Element → DataRecord → Option (List ℕ)

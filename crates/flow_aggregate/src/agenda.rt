@@ -9,8 +9,8 @@ use crate::group::Group;
 use std::alloc::{AllocError, Global};
 use std::collections::BTreeMap;
 
-/// Where more than one in so many groups is due, all groups are looked at, which then takes less time than to look up
-/// those that are due.
+/// Where more than one group in `FEW` is due, all groups are looked at, which then takes less time than to look up the
+/// groups that are due.
 const FEW: usize = 16;
 
 /// The groups that are kept, by the times at which they close, so that those that are due are found without a look at the
@@ -125,7 +125,8 @@ impl Agenda {
         }
     }
 
-    /// Whether of `count` groups so many are due at `t`, in milliseconds since 1970, that it is faster to look at all groups.
+    /// Whether more than one in `FEW` of `count` groups is due at `t`, in milliseconds since 1970, so that it is faster
+    /// to look at all groups.
     pub(crate) fn has_many_due(&self, t: u64, count: usize) -> bool {
         let mut due = 0usize;
         'times: for (_time, groups) in self.by_time.range(..=t) {

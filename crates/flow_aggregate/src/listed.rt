@@ -6,7 +6,7 @@ ghost use Rattle.flow_aggregate.specs.Groups.{Group as OneGroup};
 ghost use Rattle.flow_aggregate.specs.GroupOrder.{same_group};
 ghost use Rattle.flow_aggregate.specs.Sums.{no_sums};
 ghost use Rattle.flow_aggregate.specs.Running.{sums_at, is_due};
-ghost use Rattle.flow_aggregate.specs.Agenda.{AreListed, Closes};
+ghost use Rattle.flow_aggregate.specs.Agenda.{AreListed, ClosesDue};
 
 use crate::agenda::Agenda;
 use crate::group::Group;
@@ -62,7 +62,7 @@ pub(crate) fn truncate(
 /// Drops the groups that are due at `t`, in milliseconds since 1970. It takes no memory.
 pub(crate) fn close(groups: &mut IndexMap<Group, Sums, HashKeys>, agenda: &mut Agenda, t: u64)
     requires { AreListed groups.old.entries agenda.old.by_time.entries }
-    ensures { Closes t groups.old.entries groups.new.entries agenda.new.by_time.entries }
+    ensures { ClosesDue t groups.old.entries groups.new.entries agenda.new.by_time.entries }
 {
     if agenda.has_many_due(t, groups.len()) {
         close_many(groups, agenda, t);
@@ -71,10 +71,10 @@ pub(crate) fn close(groups: &mut IndexMap<Group, Sums, HashKeys>, agenda: &mut A
     }
 }
 
-/// The same, with a look at all groups.
+/// Drops the groups that are due at `t`, in milliseconds since 1970, by a look at all groups. It takes no memory.
 fn close_many(groups: &mut IndexMap<Group, Sums, HashKeys>, agenda: &mut Agenda, t: u64)
     requires { AreListed groups.old.entries agenda.old.by_time.entries }
-    ensures { Closes t groups.old.entries groups.new.entries agenda.new.by_time.entries }
+    ensures { ClosesDue t groups.old.entries groups.new.entries agenda.new.by_time.entries }
 {
     groups.retain(
         |group: &Group, sums: &mut Sums| -> bool
@@ -85,10 +85,11 @@ fn close_many(groups: &mut IndexMap<Group, Sums, HashKeys>, agenda: &mut Agenda,
     agenda.drop_due(t);
 }
 
-/// The same, with a look at those groups alone.
+/// Drops the groups that are due at `t`, in milliseconds since 1970, by a look at those groups alone. It takes no
+/// memory.
 fn close_few(groups: &mut IndexMap<Group, Sums, HashKeys>, agenda: &mut Agenda, t: u64)
     requires { AreListed groups.old.entries agenda.old.by_time.entries }
-    ensures { Closes t groups.old.entries groups.new.entries agenda.new.by_time.entries }
+    ensures { ClosesDue t groups.old.entries groups.new.entries agenda.new.by_time.entries }
 {
     'times: while let Some(due) = agenda.pop_due(t) {
         drop_all(groups, &due);

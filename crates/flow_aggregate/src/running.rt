@@ -2,10 +2,10 @@
 ghost use Rattle.std.specs.Prelude.{◌≡◌, ◌≤◌, ◌+◌, ◌++◌, ◌∷◌, List, [], length, map, slice_get, false, Some, IfOk, OnErr, OnOk};
 ghost use Rattle.flow_aggregate.specs.Groups.{Group as OneGroup, Sample};
 ghost use Rattle.flow_aggregate.specs.GroupOrder.{group_cmp};
-ghost use Rattle.flow_aggregate.specs.Running.{nothing_held, places, SumsStand, staying, due_one, closed_at, closed_among, AreDue};
+ghost use Rattle.flow_aggregate.specs.Running.{nothing_held, group_places, SumsStand, staying, due_one, closed_at, closed_among, AreDue};
 ghost use Rattle.flow_aggregate.specs.Closing.{record_of, closed_by};
 ghost use Rattle.flow_aggregate.specs.Counts.{Count as OneCount, count_of};
-ghost use Rattle.flow_aggregate.specs.Additions.{AreReadyToAdd, MakesAtMost, is_among};
+ghost use Rattle.flow_aggregate.specs.Additions.{AreReadyToAdd, MakesAtMost, is_group_among};
 
 #[cfg(test)]
 mod tests;
@@ -85,7 +85,7 @@ impl Running {
     /// How many groups are kept, with those that were made for what is yet to be added. There are no more than records that
     /// count or are to be added.
     pub fn len(&self) -> usize
-        ensures value { result ≡ length (places self.now) }
+        ensures value { result ≡ length (group_places self.now) }
         ensures few { (counted : List Sample) → SumsStand self.now.groups counted
             → result ≤ length counted + length self.now.ready }
     {
@@ -245,7 +245,7 @@ impl Running {
     /// The place of a group, which is made where it is wanting.
     fn place_of(&mut self, group: &Group) -> Result<usize, AllocError>
         ensures unchanged { self.new.groups ≡ self.old.groups }
-        ensures place { IfOk result (λ place. slice_get (places self.new) place ≡ Some group.now) }
+        ensures place { IfOk result (λ place. slice_get (group_places self.new) place ≡ Some group.now) }
         ensures ready { MakesAtMost group.now self.old.ready self.new.ready }
     {
         match self.groups.get_index_of(group) {
@@ -256,8 +256,8 @@ impl Running {
 
     /// Makes a group that is wanting, and answers its place.
     fn make(&mut self, group: &Group) -> Result<usize, AllocError>
-        requires { is_among (places self.old) group.now ≡ false }
-        ensures ok { IfOk result (λ place. (place ≡ length (places self.old)) × (self.new
+        requires { is_group_among (group_places self.old) group.now ≡ false }
+        ensures ok { IfOk result (λ place. (place ≡ length (group_places self.old)) × (self.new
             ≡ record { groups = self.old.groups; ready = self.old.ready ++ group.now ∷ [] })) }
         ensures err { OnErr result (self.new ≡ self.old) }
     {

@@ -1,6 +1,6 @@
 //! In which interval a record counts.
 ghost use Rattle.std.specs.Prelude.{◌≡◌, ◌≤◌, ◌*◌, ◌/◌};
-ghost use Rattle.flow_aggregate.specs.Placing.{start_of, has_key, timing_of};
+ghost use Rattle.flow_aggregate.specs.Placing.{flow_start, has_key, timing_of};
 
 use crate::values::{FLOW_START_MILLISECONDS, FLOW_START_SECONDS, first_number, first_value};
 use ipfix_element::ElementId;
@@ -62,9 +62,9 @@ pub(crate) fn interval_start(interval: u32, time: u64) -> u64
 }
 
 /// When the record's flow started, in milliseconds since 1970.
-#[tactic(auto, unfolding(crate::specs::Placing::start_of))]
+#[tactic(auto, unfolding(crate::specs::Placing::flow_start))]
 pub(crate) fn start_of(flow_record: &Record) -> Option<u64>
-    ensures { result ≡ start_of flow_record.now }
+    ensures { result ≡ flow_start flow_record.now }
 {
     match first_number(flow_record, FLOW_START_MILLISECONDS) {
         Some(milliseconds) => Some(milliseconds),

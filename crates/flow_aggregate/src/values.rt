@@ -1,6 +1,7 @@
 //! The values of a record that aggregates look at.
 ghost use Rattle.std.specs.Prelude.{◌≡◌, ◌<◌, ◌≤◌, ◌^◌, option_map, IfSome};
-ghost use Rattle.flow_aggregate.specs.Values.{of_iana, is_same_element, first_value, first_number, full_width};
+ghost use Rattle.policy_judge.specs.Match.{is_same_element};
+ghost use Rattle.flow_aggregate.specs.Values.{of_iana, first_value, first_number, full_width};
 ghost use Rattle.flow_aggregate.specs.Widths.{IsWide};
 
 use ipfix_element::ElementId;

@@ -25,7 +25,7 @@ use Rattle.policy_judge.specs.declared.verdict.ElementVerdict.{ElementVerdict}
 use Rattle.policy_judge.specs.Verdicts.{record_verdict_of}
 use Rattle.rule_table.specs.OfPolicy.{AreOfPolicy}
 use Rattle.rule_table.specs.Cuts.{HasCuts, HaveCuts, most_cuts}
-use Rattle.rule_table.specs.Classes.{key_of}
+use Rattle.rule_table.specs.Classes.{class_key}
 use Rattle.rule_table.proofs.ClassLaws.{same_key}
 use Rattle.flow_anonymize.specs.declared.record_classes.RecordClasses.{RecordClasses}
 use Rattle.flow_anonymize.specs.declared.slot.Slot.{Slot}
@@ -34,7 +34,7 @@ use Rattle.flow_anonymize.specs.Disclosed.{disclosure_of}
 use Rattle.flow_anonymize.specs.Secrecy.{AreInsideAlike, AreCoveredAlike}
 use Rattle.flow_anonymize.specs.Classes.{both, classes_of}
 use Rattle.flow_anonymize.specs.Planning.{Plan, planned, IsShowable, IsPlanFrom}
-use Rattle.flow_anonymize.specs.Plans.{PlansFor, is_for, Discloses, IsSlot, ArePlansKept}
+use Rattle.flow_anonymize.specs.Plans.{PlansFor, has_classes, Discloses, IsSlot, ArePlansKept}
 use Rattle.flow_anonymize.specs.PlanCache.{IsPut}
 use Rattle.flow_anonymize.proofs.Bounds.{verdicts_are_judged}
 use Rattle.flow_anonymize.proofs.SecrecyLaws.{record_alike, verdicts_alike}
@@ -43,8 +43,8 @@ use Rattle.flow_anonymize.proofs.Planning.{showable}
 -- ---- records of the same classes are inside the same prefixes
 
 pub record HasKeys (cuts : List ℕ) (r : DataRecord) (classes : RecordClasses) : Type 0 where
-  pub from : key_of cuts (sources r) ≡ Some classes.sources
-  pub to : key_of cuts (destinations r) ≡ Some classes.destinations
+  pub from : class_key cuts (sources r) ≡ Some classes.sources
+  pub to : class_key cuts (destinations r) ≡ Some classes.destinations
 
 keys_by : (from to : Option ℕ) (classes : RecordClasses) → both from to ≡ Some classes → (from ≡ Some classes.sources) × (to ≡ Some classes.destinations)
 keys_by None to classes e = absurd cc
@@ -53,11 +53,11 @@ keys_by (Some from) (Some to) classes e = (cc, cc)
 
 keys_of : (cuts : List ℕ) (r : DataRecord) (classes : RecordClasses) → classes_of cuts r ≡ Some classes → HasKeys cuts r classes
 keys_of cuts r classes e =
-    let parts = keys_by (key_of cuts (sources r)) (key_of cuts (destinations r)) classes e in
+    let parts = keys_by (class_key cuts (sources r)) (class_key cuts (destinations r)) classes e in
     record { from = parts.0; to = parts.1 }
 
 inside_alike : (cuts : List ℕ) (prefix : Option Prefix) (vs ws : List (List ℕ)) (k : ℕ) → length cuts ≤ most_cuts → IfSome prefix IsPrefix → IfSome prefix (HasCuts cuts)
-    → key_of cuts vs ≡ Some k → key_of cuts ws ≡ Some k → AreInsideAlike vs ws prefix
+    → class_key cuts vs ≡ Some k → class_key cuts ws ≡ Some k → AreInsideAlike vs ws prefix
 inside_alike cuts None vs ws k few is has one other = tt
 inside_alike cuts (Some prefix) vs ws k few is has one other = same_key cuts prefix vs ws k few is has one other
 
@@ -146,12 +146,12 @@ got_is [] k a e l = absurd (omega arith)
 got_is (x ∷ xs) zero a e l = cc
 got_is (x ∷ xs) (suc k) a e l = got_is xs k a e (omega arith)
 
-pub slot_at : (for : PlansFor) (slots : List Slot) (classes : RecordClasses) (r : DataRecord) (k : ℕ) (slot : Slot) → All (IsSlot for) slots → Some k ≡ position (is_for classes) slots
+pub slot_at : (for : PlansFor) (slots : List Slot) (classes : RecordClasses) (r : DataRecord) (k : ℕ) (slot : Slot) → All (IsSlot for) slots → Some k ≡ position (has_classes classes) slots
     → slice_get slots k ≡ Some slot → for.template ≡ Some r.template → IsSound r → Some classes ≡ classes_of for.cuts r → Discloses for r slot
 slot_at for slots classes r k slot all place at template sound keys =
-    let there = place_is (is_for classes) slots k slot place in
+    let there = place_is (has_classes classes) slots k slot place in
     let here : slot ≡ get_or slots k slot = sym (got_is slots k slot at there.0) in
-    let test : is_for classes slot ≡ true = ap (is_for classes) here ∙ there.1 in
+    let test : has_classes classes slot ≡ true = ap (has_classes classes) here ∙ there.1 in
     let parts = and_parts (slot.classes.sources == classes.sources) (slot.classes.destinations == classes.destinations) test in
     let same_classes = classes_are slot.classes classes (eqb-true slot.classes.sources classes.sources parts.0) (eqb-true slot.classes.destinations classes.destinations parts.1) in
     let P : Slot → Type 0 = λ s. IsSlot for s in
@@ -174,7 +174,7 @@ kept_put for old slot k new kept is put = elim put.others [
 
 -- the plan that was found, or made anew
 pub found_in_cache : (for value : PlansFor) (slots : List Slot) (classes : RecordClasses) (asked : Option RecordClasses) (r : DataRecord) (k : ℕ) (slot : Slot) → ArePlansKept for slots → for ≡ value
-    → Some k ≡ position (is_for classes) slots → slice_get slots k ≡ Some slot → value.template ≡ Some r.template → IsSound r → asked ≡ Some classes → asked ≡ classes_of value.cuts r → Discloses value r slot
+    → Some k ≡ position (has_classes classes) slots → slice_get slots k ≡ Some slot → value.template ≡ Some r.template → IsSound r → asked ≡ Some classes → asked ≡ classes_of value.cuts r → Discloses value r slot
 found_in_cache for value slots classes asked r k slot kept same place at template sound is keys =
     let P : PlansFor → Type 0 = λ f. All (IsSlot f) slots in
     slot_at value slots classes r k slot (subst P same kept.each) place at template sound (sym is ∙ keys)

@@ -2,7 +2,7 @@
 use Rattle.std.specs.Prelude.{ℕ, List, Option, Some, None}
 use Rattle.ipfix_template.specs.DataRecord.{DataRecord}
 use Rattle.policy_judge.specs.Occurrences.{sources, destinations}
-use Rattle.rule_table.specs.Classes.{key_of}
+use Rattle.rule_table.specs.Classes.{class_key}
 use Rattle.flow_anonymize.specs.declared.record_classes.RecordClasses.{RecordClasses}
 
 abbrev pub both : Option ℕ → Option ℕ → Option RecordClasses
@@ -12,4 +12,4 @@ both (Some from) (Some to) = Some (record { sources = from; destinations = to })
 
 -- none where there are more than three addresses on a side
 abbrev pub classes_of : List ℕ → DataRecord → Option RecordClasses
-classes_of cuts r = both (key_of cuts (sources r)) (key_of cuts (destinations r))
+classes_of cuts r = both (class_key cuts (sources r)) (class_key cuts (destinations r))

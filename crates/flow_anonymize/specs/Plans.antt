@@ -31,8 +31,8 @@ abbrev pub outcome_for : PlansFor → DataRecord → Outcome
 outcome_for for r = disclosure_of for.name for.domain r for.rules
 
 -- a plan for records whose addresses have these classes
-abbrev pub is_for : RecordClasses → Slot → Bool
-is_for classes slot = slot.classes.sources == classes.sources && slot.classes.destinations == classes.destinations
+abbrev pub has_classes : RecordClasses → Slot → Bool
+has_classes classes slot = slot.classes.sources == classes.sources && slot.classes.destinations == classes.destinations
 
 -- what a plan makes of a record is what is disclosed of it
 pub record Discloses (for : PlansFor) (r : DataRecord) (slot : Slot) : Type 0 where

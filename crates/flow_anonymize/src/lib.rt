@@ -19,8 +19,8 @@
 //! their order with truncated and degraded values and the scope count, the places and rules of the
 //! removed ones, or why nothing passes, a lost scope field before an empty rest, with the rule that
 //! is named for it (`exact`). For a record whose verdict isn't pass it takes no memory (`no_memory`).
-//! `disclose_by` answers the same, and `Plans::disclose` gives the same records (`given`) and says
-//! the same of them (`decision`). Laws: `only_permitted_passes` (no field stands in what passes
+//! `disclose_by` answers the same, and `Plans::disclose` gives those records (`given`) and says of
+//! them what `disclose` says (`decision`). Laws: `only_permitted_passes` (no field stands in what passes
 //! that its first rule removes, no bit that it cuts off, and no time that is finer than it
 //! permits), `passed_is_sound`, `denied_is_secret` (two records that differ only in what is removed
 //! or cut off, or within one step of times, with addresses inside the same prefixes, look alike in

@@ -2,7 +2,7 @@
 ghost use Rattle.std.specs.Prelude.{◌≡◌, ◌<◌, ◌++◌, ◌∷◌, [], Some, length, slice_get, position, IfOk, IfSome, OnOk, OnErr};
 ghost use Rattle.flow_anonymize.specs.Outcome.{passed, decision_of};
 ghost use Rattle.flow_anonymize.specs.Planning.{planned, IsShowable};
-ghost use Rattle.flow_anonymize.specs.Plans.{is_for};
+ghost use Rattle.flow_anonymize.specs.Plans.{has_classes};
 ghost use Rattle.flow_anonymize.specs.PlanCache.{IsPut};
 
 use crate::disclosure::Disclosure;
@@ -61,7 +61,7 @@ impl PlanCache {
 
     /// The place of the plan for records whose addresses have these classes.
     pub(crate) fn place_of(&self, classes: RecordClasses) -> Option<usize>
-        ensures place { result ≡ position (is_for classes) self.now.slots }
+        ensures place { result ≡ position (has_classes classes) self.now.slots }
         ensures within { IfSome result (λ place. place < length self.now.slots) }
     {
         self.slots.iter().position(|slot| is_for(slot, classes))

@@ -1,6 +1,6 @@
 //! A plan that is kept.
 ghost use Rattle.std.specs.Prelude.{◌≡◌};
-ghost use Rattle.flow_anonymize.specs.Plans.{is_for};
+ghost use Rattle.flow_anonymize.specs.Plans.{has_classes};
 
 use crate::plan::Plan;
 use crate::record_classes::RecordClasses;
@@ -16,7 +16,7 @@ pub(crate) struct Slot {
 
 /// Whether a plan is for records whose addresses have these classes.
 pub(crate) fn is_for(slot: &Slot, classes: RecordClasses) -> bool
-    ensures { result ≡ is_for classes slot.now }
+    ensures { result ≡ has_classes classes slot.now }
 {
     slot.classes.sources == classes.sources && slot.classes.destinations == classes.destinations
 }

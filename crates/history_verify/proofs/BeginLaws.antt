@@ -22,16 +22,16 @@ use Rattle.mediator_history.specs.Disclosed.{disclosed}
 use Rattle.mediator_history.proofs.ListFilters.{distinct_filter, all_of_filter}
 use Rattle.mediator_history.proofs.EntryLaws.{served-subscribe, served-unsubscribe, given_same}
 use Rattle.mediator_history.proofs.CountingLaws.{counted_same}
-use Rattle.history_verify.specs.declared.count.Count.{Count}
+use Rattle.history_verify.specs.declared.count.SubscriptionCount.{SubscriptionCount}
 use Rattle.history_verify.specs.declared.subscribers.Subscribers.{Subscribers}
 use Rattle.history_verify.specs.Counts.{count_in, counts_of}
-use Rattle.history_verify.specs.Parts.{AreNumbersFrom, number_of, NeverBegan, AreSubscribers}
+use Rattle.history_verify.specs.Parts.{AreNumbersFrom, live_number, NeverBegan, AreSubscribers}
 use Rattle.history_verify.proofs.Stays.{last_stays, list_stays, list_more, count_stays, count_more}
 use Rattle.history_verify.proofs.KeyLaws.{removed_is, inserted_above, numbers_apart, numbers_below, numbers_push}
 use Rattle.history_verify.proofs.SubscriberLaws.{map_alike, counted_alike}
 
 -- the count of a subscription that begins
-abbrev pub fresh : ℕ → List ℕ → Count
+abbrev pub fresh : ℕ → List ℕ → SubscriptionCount
 fresh sub name = record { sub = sub; name = name; disclosed = 0 }
 
 other_name : (name n : List ℕ) → (name ≡ n → ⊥) → bytes_eq name n ≡ false
@@ -44,7 +44,7 @@ other_name name n apart = by (bytes_eq name n) refl
 counted_all : (g h : List Entry) (subs : List ℕ) → AllByRecursion (λ q. name_of q g ≡ name_of q h) subs → ((q : ℕ) → disclosed q g ≡ disclosed q h) → map (count_in g) subs ≡ map (count_in h) subs
 counted_all g h [] names given = refl
 counted_all g h (q ∷ subs) names given =
-    ap (λ (c : Count). c ∷ map (count_in g) subs) (counted_alike g h q names.0 (given q)) ∙ ap (λ (t : List Count). count_in h q ∷ t) (counted_all g h subs names.1 given)
+    ap (λ (c : SubscriptionCount). c ∷ map (count_in g) subs) (counted_alike g h q names.0 (given q)) ∙ ap (λ (t : List SubscriptionCount). count_in h q ∷ t) (counted_all g h subs names.1 given)
 
 all_apart : (n : ℕ) (xs : List ℕ) → AllByRecursion (λ x. x < n) xs → AllByRecursion (λ x. x ≢ n) xs
 all_apart n [] low = tt
@@ -56,15 +56,15 @@ all_map P Q f (x ∷ xs) all = (f x all.0, all_map P Q f xs all.1)
 
 -- ---- a subscription begins
 
-pub subscribers_begin : (t u : Subscribers) (h : List Entry) (sub : ℕ) (name : List ℕ) → AreSubscribers t h → sub ≡ length t.begun.items + 1 → number_of t name ≡ None
-    → u.begun.items ≡ t.begun.items ++ fresh sub name ∷ [] → ((n : List ℕ) → number_of u n ≡ update bytes_eq (number_of t) name (Some sub) n)
+pub subscribers_begin : (t u : Subscribers) (h : List Entry) (sub : ℕ) (name : List ℕ) → AreSubscribers t h → sub ≡ length t.begun.items + 1 → live_number t name ≡ None
+    → u.begun.items ≡ t.begun.items ++ fresh sub name ∷ [] → ((n : List ℕ) → live_number u n ≡ update bytes_eq (live_number t) name (Some sub) n)
     → u.served.keys ≡ insert_key nat_cmp t.served.keys sub → AreSubscribers u (h ++ Subscribe sub name ∷ [])
 subscribers_begin t u h sub name so next free begun numbers inserted = record {
-  begun = begun ∙ ap (λ (cs : List Count). cs ++ fresh sub name ∷ []) so.begun ∙ sym (
+  begun = begun ∙ ap (λ (cs : List SubscriptionCount). cs ++ fresh sub name ∷ []) so.begun ∙ sym (
       ap (map (count_in new)) more
       ∙ map-append (count_in new) subs (sub ∷ [])
-      ∙ ap (λ (cs : List Count). cs ++ count_in new sub ∷ []) (counted_all new h subs (all_map (λ q. q ≢ sub) (λ q. name_of q new ≡ name_of q h) (λ q apart. other_name_of q apart) subs apart_all) same_given)
-      ∙ ap (λ (c : Count). counts_of h ++ c ∷ []) own
+      ∙ ap (λ (cs : List SubscriptionCount). cs ++ count_in new sub ∷ []) (counted_all new h subs (all_map (λ q. q ≢ sub) (λ q. name_of q new ≡ name_of q h) (λ q apart. other_name_of q apart) subs apart_all) same_given)
+      ∙ ap (λ (c : SubscriptionCount). counts_of h ++ c ∷ []) own
       );
   numbers = subst (AreNumbersFrom 1) (sym more) (numbers_push 1 subs sub so.numbers (omega (arith, number)));
   named = λ n q is. taken n q (bytes_eq name n) refl is;
@@ -84,7 +84,7 @@ subscribers_begin t u h sub name so next free begun numbers inserted = record {
   more = list_more subscribed_in h (Subscribe sub name) sub refl
 
   number : sub ≡ 1 + length (flat_map subscribed_in h)
-  number = omega (arith, next, ap (λ (cs : List Count). length cs) so.begun, length-map (flat_map subscribed_in h) (count_in h))
+  number = omega (arith, next, ap (λ (cs : List SubscriptionCount). length cs) so.begun, length-map (flat_map subscribed_in h) (count_in h))
 
   count : subscriptions_begun (h ++ Subscribe sub name ∷ []) ≡ subscriptions_begun h + 1
   count = count_more subscribed_in h (Subscribe sub name) sub refl
@@ -127,26 +127,26 @@ subscribers_begin t u h sub name so next free begun numbers inserted = record {
   different : (q : ℕ) → is_live q h ≡ true → q ≢ sub
   different q on same = let off : is_live q h ≡ false = ap (λ (n : ℕ). is_live n h) same ∙ before.gone in absurd cc
 
-  taken : (n : List ℕ) (q : ℕ) (here : Bool) → bytes_eq name n ≡ here → number_of u n ≡ Some q → (is_live q (h ++ Subscribe sub name ∷ []) ≡ true) × (name_of q (h ++ Subscribe sub name ∷ []) ≡ n)
+  taken : (n : List ℕ) (q : ℕ) (here : Bool) → bytes_eq name n ≡ here → live_number u n ≡ Some q → (is_live q (h ++ Subscribe sub name ∷ []) ≡ true) × (name_of q (h ++ Subscribe sub name ∷ []) ≡ n)
   taken n q true is at =
-      let same : sub ≡ q = same_Some sub q (sym (numbers n ∙ ap (λ (b : Bool). cond b (Some sub) (number_of t n)) is) ∙ at) in
+      let same : sub ≡ q = same_Some sub q (sym (numbers n ∙ ap (λ (b : Bool). cond b (Some sub) (live_number t n)) is) ∙ at) in
       let name_is : name ≡ n = (bytes_eq-Decides name n).0 is in
       (ap (λ (k : ℕ). is_live k (h ++ Subscribe sub name ∷ [])) (sym same) ∙ own_live, ap (λ (k : ℕ). name_of k (h ++ Subscribe sub name ∷ [])) (sym same) ∙ own_name ∙ name_is)
   taken n q false is at =
-      let old = so.named n q (sym (numbers n ∙ ap (λ (b : Bool). cond b (Some sub) (number_of t n)) is) ∙ at) in
+      let old = so.named n q (sym (numbers n ∙ ap (λ (b : Bool). cond b (Some sub) (live_number t n)) is) ∙ at) in
       let apart : q ≢ sub = different q old.0 in
       (other_live q apart ∙ old.0, other_name_of q apart ∙ old.1)
 
-  lives : (q : ℕ) (here : Bool) → (sub == q) ≡ here → is_live q (h ++ Subscribe sub name ∷ []) ≡ true → number_of u (name_of q (h ++ Subscribe sub name ∷ [])) ≡ Some q
+  lives : (q : ℕ) (here : Bool) → (sub == q) ≡ here → is_live q (h ++ Subscribe sub name ∷ []) ≡ true → live_number u (name_of q (h ++ Subscribe sub name ∷ [])) ≡ Some q
   lives q true is on =
       let same : sub ≡ q = eqb-true sub q is in
-      ap (number_of u) (ap (λ (k : ℕ). name_of k (h ++ Subscribe sub name ∷ [])) (sym same) ∙ own_name)
-      ∙ numbers name ∙ ap (λ (b : Bool). cond b (Some sub) (number_of t name)) ((bytes_eq-Decides name name).1 refl) ∙ ap (λ (k : ℕ). Some k) same
+      ap (live_number u) (ap (λ (k : ℕ). name_of k (h ++ Subscribe sub name ∷ [])) (sym same) ∙ own_name)
+      ∙ numbers name ∙ ap (λ (b : Bool). cond b (Some sub) (live_number t name)) ((bytes_eq-Decides name name).1 refl) ∙ ap (λ (k : ℕ). Some k) same
   lives q false is on =
       let apart : q ≢ sub = λ same. eqb-false sub q is (sym same) in
-      let was : number_of t (name_of q h) ≡ Some q = so.live q (sym (other_live q apart) ∙ on) in
-      ap (number_of u) (other_name_of q apart) ∙ numbers (name_of q h)
-      ∙ ap (λ (b : Bool). cond b (Some sub) (number_of t (name_of q h))) (other_name name (name_of q h) (λ same. none-some q (sym free ∙ ap (number_of t) same ∙ was))) ∙ was
+      let was : live_number t (name_of q h) ≡ Some q = so.live q (sym (other_live q apart) ∙ on) in
+      ap (live_number u) (other_name_of q apart) ∙ numbers (name_of q h)
+      ∙ ap (λ (b : Bool). cond b (Some sub) (live_number t (name_of q h))) (other_name name (name_of q h) (λ same. none-some q (sym free ∙ ap (live_number t) same ∙ was))) ∙ was
 
   higher : (q : ℕ) → (q ≡ 0) ⊎ (subscriptions_begun (h ++ Subscribe sub name ∷ []) < q) → ((q ≡ 0) ⊎ (subscriptions_begun h < q)) × (q ≢ sub)
   higher q (inl none) = (inl none, λ same. absurd (omega (arith, none, same, number)))
@@ -166,7 +166,7 @@ subscribers_begin t u h sub name so next free begun numbers inserted = record {
 -- ---- a subscription ends
 
 pub subscribers_end : (t u : Subscribers) (h : List Entry) (sub : ℕ) → AreSubscribers t h → is_live sub h ≡ true → u.begun ≡ t.begun
-    → ((n : List ℕ) → number_of u n ≡ update bytes_eq (number_of t) (name_of sub h) None n)
+    → ((n : List ℕ) → live_number u n ≡ update bytes_eq (live_number t) (name_of sub h) None n)
     → u.served.keys ≡ remove_key (is_at (nat_cmp sub)) t.served.keys → AreSubscribers u (h ++ Unsubscribe sub ∷ [])
 subscribers_end t u h sub so on begun numbers fewer = record {
   begun = ap (λ v. v.items) begun ∙ so.begun ∙ sym (ap (map (count_in new)) same ∙ map_alike (count_in new) (count_in h) (λ q. counted_alike new h q (names q) (given_same q h (Unsubscribe sub) refl)) (flat_map subscribed_in h));
@@ -204,35 +204,35 @@ subscribers_end t u h sub so on begun numbers fewer = record {
   own_live : is_live sub (h ++ Unsubscribe sub ∷ []) ≡ false
   own_live = last_of-push (begins sub) false h (Unsubscribe sub) ∙ (rw (eq-eqb sub sub refl) refl)
 
-  taken : (n : List ℕ) (q : ℕ) (here : Bool) → bytes_eq (name_of sub h) n ≡ here → number_of u n ≡ Some q → (is_live q (h ++ Unsubscribe sub ∷ []) ≡ true) × (name_of q (h ++ Unsubscribe sub ∷ []) ≡ n)
-  taken n q true is at = absurd (none-some q (sym (numbers n ∙ ap (λ (b : Bool). cond b None (number_of t n)) is) ∙ at))
+  taken : (n : List ℕ) (q : ℕ) (here : Bool) → bytes_eq (name_of sub h) n ≡ here → live_number u n ≡ Some q → (is_live q (h ++ Unsubscribe sub ∷ []) ≡ true) × (name_of q (h ++ Unsubscribe sub ∷ []) ≡ n)
+  taken n q true is at = absurd (none-some q (sym (numbers n ∙ ap (λ (b : Bool). cond b None (live_number t n)) is) ∙ at))
   taken n q false is at =
-      let old = so.named n q (sym (numbers n ∙ ap (λ (b : Bool). cond b None (number_of t n)) is) ∙ at) in
+      let old = so.named n q (sym (numbers n ∙ ap (λ (b : Bool). cond b None (live_number t n)) is) ∙ at) in
       let apart : (sub == q) ≡ false = ne_eqb sub q (λ equal. unlike is ((bytes_eq-Decides (name_of sub h) n).1 (ap (λ (k : ℕ). name_of k h) equal ∙ old.1))) in
       (other_live q apart ∙ old.0, names q ∙ old.1)
     where
       unlike : bytes_eq (name_of sub h) n ≡ false → bytes_eq (name_of sub h) n ≡ true → ⊥
       unlike off here = absurd cc
 
-  lives : (q : ℕ) (here : Bool) → (sub == q) ≡ here → is_live q (h ++ Unsubscribe sub ∷ []) ≡ true → number_of u (name_of q (h ++ Unsubscribe sub ∷ [])) ≡ Some q
+  lives : (q : ℕ) (here : Bool) → (sub == q) ≡ here → is_live q (h ++ Unsubscribe sub ∷ []) ≡ true → live_number u (name_of q (h ++ Unsubscribe sub ∷ [])) ≡ Some q
   lives q true is live =
       let off : is_live q (h ++ Unsubscribe sub ∷ []) ≡ false = ap (λ (k : ℕ). is_live k (h ++ Unsubscribe sub ∷ [])) (sym (eqb-true sub q is)) ∙ own_live in
       absurd cc
   lives q false is live =
-      let was : number_of t (name_of q h) ≡ Some q = so.live q (sym (other_live q is) ∙ live) in
-      ap (number_of u) (names q) ∙ numbers (name_of q h)
-      ∙ ap (λ (b : Bool). cond b None (number_of t (name_of q h)))
-      (other_name (name_of sub h) (name_of q h) (λ equal. eqb-false sub q is (same_Some sub q (sym (so.live sub on) ∙ ap (number_of t) equal ∙ was)))) ∙ was
+      let was : live_number t (name_of q h) ≡ Some q = so.live q (sym (other_live q is) ∙ live) in
+      ap (live_number u) (names q) ∙ numbers (name_of q h)
+      ∙ ap (λ (b : Bool). cond b None (live_number t (name_of q h)))
+      (other_name (name_of sub h) (name_of q h) (λ equal. eqb-false sub q is (same_Some sub q (sym (so.live sub on) ∙ ap (live_number t) equal ∙ was)))) ∙ was
 
 -- ---- who is live
 
 -- a subscription is live exactly where its name leads to it
-live_where : (t : Subscribers) (h : List Entry) (sub : ℕ) (name : List ℕ) (o : Option ℕ) (here : Bool) → AreSubscribers t h → name ≡ name_of sub h → o ≡ number_of t name
+live_where : (t : Subscribers) (h : List Entry) (sub : ℕ) (name : List ℕ) (o : Option ℕ) (here : Bool) → AreSubscribers t h → name ≡ name_of sub h → o ≡ live_number t name
     → (here ≡ true → o ≡ Some sub) → (o ≡ Some sub → here ≡ true) → here ≡ is_live sub h
 live_where t h sub name o true so is found there back = sym (so.named name sub (sym found ∙ there refl)).0
 live_where t h sub name o false so is found there back = by (is_live sub h) refl where
   by : (on : Bool) → is_live sub h ≡ on → false ≡ on
-  by true on = back (found ∙ ap (number_of t) is ∙ so.live sub on)
+  by true on = back (found ∙ ap (live_number t) is ∙ so.live sub on)
   by false on = refl
 
 -- a subscription that began has a count
@@ -243,7 +243,7 @@ same_option : (o : Option ℕ) (n : ℕ) → option_eq nat_eq o (Some n) ≡ tru
 same_option None n is = absurd cc
 same_option (Some m) n is = ap (λ (k : ℕ). Some k) (eqb-true m n is)
 
-pub live_by_name : (t : Subscribers) (h : List Entry) (sub : ℕ) (name : List ℕ) (o : Option ℕ) (here : Bool) → AreSubscribers t h → name ≡ name_of sub h → o ≡ number_of t name
+pub live_by_name : (t : Subscribers) (h : List Entry) (sub : ℕ) (name : List ℕ) (o : Option ℕ) (here : Bool) → AreSubscribers t h → name ≡ name_of sub h → o ≡ live_number t name
     → here ≡ option_eq nat_eq o (Some sub) → here ≡ is_live sub h
 live_by_name t h sub name o here so is found test =
     live_where t h sub name o here so is found (λ on. same_option o sub (sym test ∙ on)) (λ same. test ∙ ap (λ (x : Option ℕ). option_eq nat_eq x (Some sub)) same ∙ eq-eqb sub sub refl)

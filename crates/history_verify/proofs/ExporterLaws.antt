@@ -14,7 +14,8 @@ use Rattle.mediator_history.proofs.EntryLaws.{messages_same, messages-any}
 use Rattle.mediator_tables.specs.declared.open_session.OpenSession.{OpenSession}
 use Rattle.mediator_tables.specs.SessionTable.{IsFresh, KeepsOn, SeenSession, seen}
 use Rattle.history_verify.specs.declared.exporters.Exporters.{Exporters}
-use Rattle.history_verify.specs.Parts.{IsSession, IsUnopened, AreExporters, SameExporters}
+use Rattle.mediator_tables.specs.Sessions.{IsSession, IsUnopened}
+use Rattle.history_verify.specs.Parts.{AreExporters, SameExporters}
 use Rattle.history_verify.proofs.Stays.{last_stays, count_stays, count_more}
 
 -- ---- one session

@@ -23,10 +23,10 @@ use Rattle.mediator_history.proofs.EntryLaws.{served_same, given_same}
 use Rattle.mediator_history.proofs.CountingLaws.{counted_same, counted_unserved, running_unserved}
 use Rattle.mediator_tables.specs.SubscriptionTable.{given_to, shown}
 use Rattle.mediator_tables.specs.declared.share.Share.{Share}
-use Rattle.history_verify.specs.declared.count.Count.{Count}
+use Rattle.history_verify.specs.declared.count.SubscriptionCount.{SubscriptionCount}
 use Rattle.history_verify.specs.declared.subscribers.Subscribers.{Subscribers}
 use Rattle.history_verify.specs.Counts.{count_in}
-use Rattle.history_verify.specs.Parts.{AreNumbersFrom, number_of, AreSubscribers, with_more, more_at, with_given, served_shares, MayCount, HasCounted}
+use Rattle.history_verify.specs.Parts.{AreNumbersFrom, live_number, AreSubscribers, with_more, more_at, with_given, served_shares, MayCount, HasCounted}
 use Rattle.history_verify.specs.Sharing.{GiveAll}
 use Rattle.history_verify.specs.Standing.{IsCountable}
 use Rattle.history_verify.proofs.Stays.{last_stays, list_stays, count_stays}
@@ -40,24 +40,24 @@ given_length sub xs ys =
     ap (λ (l : List DataRecord). length l) (flat_map-append (λ (s : ℕ × List DataRecord). cond (s.0 == sub) s.1 []) xs ys)
     ∙ length-append (given_to sub xs) (given_to sub ys)
 
-more_same : (n m : ℕ) (c : Count) → n ≡ m → with_more n c ≡ with_more m c
+more_same : (n m : ℕ) (c : SubscriptionCount) → n ≡ m → with_more n c ≡ with_more m c
 more_same n m c same = ap (λ (k : ℕ). with_more k c) same
 
-more_none : (c : Count) → with_more 0 c ≡ c
+more_none : (c : SubscriptionCount) → with_more 0 c ≡ c
 more_none c = ap (λ (k : ℕ). record { sub = c.sub; name = c.name; disclosed = k }) (omega arith)
 
-more_twice : (n m k : ℕ) (c : Count) → n + m ≡ k → with_more m (with_more n c) ≡ with_more k c
+more_twice : (n m k : ℕ) (c : SubscriptionCount) → n + m ≡ k → with_more m (with_more n c) ≡ with_more k c
 more_twice n m k c sum = ap (λ (d : ℕ). record { sub = c.sub; name = c.name; disclosed = d }) (omega (arith, sum))
 
-nothing_given : (cs : List Count) → map (with_given []) cs ≡ cs
+nothing_given : (cs : List SubscriptionCount) → map (with_given []) cs ≡ cs
 nothing_given [] = refl
-nothing_given (c ∷ cs) = ap (λ (d : Count). d ∷ map (with_given []) cs) (more_none c) ∙ ap (λ (t : List Count). c ∷ t) (nothing_given cs)
+nothing_given (c ∷ cs) = ap (λ (d : SubscriptionCount). d ∷ map (with_given []) cs) (more_none c) ∙ ap (λ (t : List SubscriptionCount). c ∷ t) (nothing_given cs)
 
-given_twice : (xs ys : List (ℕ × List DataRecord)) (cs : List Count) → map (with_given ys) (map (with_given xs) cs) ≡ map (with_given (xs ++ ys)) cs
+given_twice : (xs ys : List (ℕ × List DataRecord)) (cs : List SubscriptionCount) → map (with_given ys) (map (with_given xs) cs) ≡ map (with_given (xs ++ ys)) cs
 given_twice xs ys [] = refl
 given_twice xs ys (c ∷ cs) =
-    ap (λ (d : Count). d ∷ map (with_given ys) (map (with_given xs) cs)) (more_twice (length (given_to c.sub xs)) (length (given_to c.sub ys)) (length (given_to c.sub (xs ++ ys))) c (sym (given_length c.sub xs ys)))
-    ∙ ap (λ (t : List Count). with_given (xs ++ ys) c ∷ t) (given_twice xs ys cs)
+    ap (λ (d : SubscriptionCount). d ∷ map (with_given ys) (map (with_given xs) cs)) (more_twice (length (given_to c.sub xs)) (length (given_to c.sub ys)) (length (given_to c.sub (xs ++ ys))) c (sym (given_length c.sub xs ys)))
+    ∙ ap (λ (t : List SubscriptionCount). with_given (xs ++ ys) c ∷ t) (given_twice xs ys cs)
 
 pub counted_none : (t : Subscribers) → HasCounted [] t t
 counted_none t = record { begun = sym (nothing_given t.begun.items); live = refl; served_are = refl }
@@ -69,20 +69,20 @@ counted_more t u v xs ys first next = record {
   served_are = next.served_are ∙ first.served_are;
 }
 
-numbers_same : (xs : List (ℕ × List DataRecord)) (cs : List Count) → map (λ (c : Count). c.sub) (map (with_given xs) cs) ≡ map (λ (c : Count). c.sub) cs
+numbers_same : (xs : List (ℕ × List DataRecord)) (cs : List SubscriptionCount) → map (λ (c : SubscriptionCount). c.sub) (map (with_given xs) cs) ≡ map (λ (c : SubscriptionCount). c.sub) cs
 numbers_same xs [] = refl
 numbers_same xs (c ∷ cs) = ap (λ (t : List ℕ). c.sub ∷ t) (numbers_same xs cs)
 
-room_left : (xs ys zs : List (ℕ × List DataRecord)) (cs : List Count) → AllByRecursion (λ (c : Count). c.disclosed + length (given_to c.sub (xs ++ (ys ++ zs))) < 2 ^ 64) cs
-    → AllByRecursion (λ (c : Count). c.disclosed + length (given_to c.sub ys) < 2 ^ 64) (map (with_given xs) cs)
+room_left : (xs ys zs : List (ℕ × List DataRecord)) (cs : List SubscriptionCount) → AllByRecursion (λ (c : SubscriptionCount). c.disclosed + length (given_to c.sub (xs ++ (ys ++ zs))) < 2 ^ 64) cs
+    → AllByRecursion (λ (c : SubscriptionCount). c.disclosed + length (given_to c.sub ys) < 2 ^ 64) (map (with_given xs) cs)
 room_left xs ys zs [] room = tt
 room_left xs ys zs (c ∷ cs) room = (omega (arith, room.0, given_length c.sub xs (ys ++ zs), given_length c.sub ys zs), room_left xs ys zs cs room.1)
 
 -- where the first shares are counted, the next ones may be
 may_count_next : (t u : Subscribers) (xs ys zs : List (ℕ × List DataRecord)) → MayCount t (xs ++ (ys ++ zs)) → HasCounted xs t u → MayCount u ys
 may_count_next t u xs ys zs may first = record {
-  numbers = subst (λ (cs : List Count). AreNumbersFrom 1 (map (λ (c : Count). c.sub) cs)) (sym first.begun) (subst (AreNumbersFrom 1) (sym (numbers_same xs t.begun.items)) may.numbers);
-  room = subst (AllByRecursion (λ (c : Count). c.disclosed + length (given_to c.sub ys) < 2 ^ 64)) (sym first.begun) (room_left xs ys zs t.begun.items may.room);
+  numbers = subst (λ (cs : List SubscriptionCount). AreNumbersFrom 1 (map (λ (c : SubscriptionCount). c.sub) cs)) (sym first.begun) (subst (AreNumbersFrom 1) (sym (numbers_same xs t.begun.items)) may.numbers);
+  room = subst (AllByRecursion (λ (c : SubscriptionCount). c.disclosed + length (given_to c.sub ys) < 2 ^ 64)) (sym first.begun) (room_left xs ys zs t.begun.items may.room);
 }
 
 -- ---- one share
@@ -96,33 +96,33 @@ given_own q s same = ap (λ (l : List DataRecord). length l) (given_one q s ∙ 
 given_other : (q : ℕ) (s : ℕ × List DataRecord) → q ≢ s.0 → length (given_to q (s ∷ [])) ≡ 0
 given_other q s apart = ap (λ (l : List DataRecord). length l) (given_one q s ∙ ap (λ (b : Bool). cond b s.1 []) (ne_eqb s.0 q (λ same. apart (sym same))))
 
-own_more : (s : ℕ × List DataRecord) (c : Count) → c.sub ≡ s.0 → with_given (s ∷ []) c ≡ with_more (length s.1) c
+own_more : (s : ℕ × List DataRecord) (c : SubscriptionCount) → c.sub ≡ s.0 → with_given (s ∷ []) c ≡ with_more (length s.1) c
 own_more s c same = more_same (length (given_to c.sub (s ∷ []))) (length s.1) c (given_own c.sub s same)
 
-other_same : (s : ℕ × List DataRecord) (c : Count) → c.sub ≢ s.0 → with_given (s ∷ []) c ≡ c
+other_same : (s : ℕ × List DataRecord) (c : SubscriptionCount) → c.sub ≢ s.0 → with_given (s ∷ []) c ≡ c
 other_same s c apart = more_same (length (given_to c.sub (s ∷ []))) 0 c (given_other c.sub s apart) ∙ more_none c
 
-others_same : (s : ℕ × List DataRecord) (cs : List Count) → AllByRecursion (λ (q : ℕ). q ≢ s.0) (map (λ (c : Count). c.sub) cs) → map (with_given (s ∷ [])) cs ≡ cs
+others_same : (s : ℕ × List DataRecord) (cs : List SubscriptionCount) → AllByRecursion (λ (q : ℕ). q ≢ s.0) (map (λ (c : SubscriptionCount). c.sub) cs) → map (with_given (s ∷ [])) cs ≡ cs
 others_same s [] apart = refl
 others_same s (c ∷ cs) apart =
-    ap (λ (d : Count). d ∷ map (with_given (s ∷ [])) cs) (other_same s c apart.0) ∙ ap (λ (t : List Count). c ∷ t) (others_same s cs apart.1)
+    ap (λ (d : SubscriptionCount). d ∷ map (with_given (s ∷ [])) cs) (other_same s c apart.0) ∙ ap (λ (t : List SubscriptionCount). c ∷ t) (others_same s cs apart.1)
 
-more_later : (c : Count) (cs : List Count) (k m : ℕ) → more_at (suc k) m (c ∷ cs) ≡ c ∷ more_at k m cs
+more_later : (c : SubscriptionCount) (cs : List SubscriptionCount) (k m : ℕ) → more_at (suc k) m (c ∷ cs) ≡ c ∷ more_at k m cs
 more_later c cs k m = by (slice_get cs k) where
-  by : (o : Option Count) → option_map_or (λ (x : Count). slice_set (c ∷ cs) (suc k) (with_more m x)) o (c ∷ cs) ≡ c ∷ option_map_or (λ (x : Count). slice_set cs k (with_more m x)) o cs
+  by : (o : Option SubscriptionCount) → option_map_or (λ (x : SubscriptionCount). slice_set (c ∷ cs) (suc k) (with_more m x)) o (c ∷ cs) ≡ c ∷ option_map_or (λ (x : SubscriptionCount). slice_set cs k (with_more m x)) o cs
   by None = refl
   by (Some x) = refl
 
-one_more : (s : ℕ × List DataRecord) (n : ℕ) (cs : List Count) (k : ℕ) → AreNumbersFrom n (map (λ (c : Count). c.sub) cs) → s.0 ≡ n + k → more_at k (length s.1) cs ≡ map (with_given (s ∷ [])) cs
+one_more : (s : ℕ × List DataRecord) (n : ℕ) (cs : List SubscriptionCount) (k : ℕ) → AreNumbersFrom n (map (λ (c : SubscriptionCount). c.sub) cs) → s.0 ≡ n + k → more_at k (length s.1) cs ≡ map (with_given (s ∷ [])) cs
 one_more s n [] zero numbers at = refl
 one_more s n [] (suc k) numbers at = refl
 one_more s n (c ∷ cs) zero numbers at =
-    ap (λ (d : Count). d ∷ cs) (sym (own_more s c (omega (arith, numbers.0, at))))
-    ∙ ap (λ (t : List Count). with_given (s ∷ []) c ∷ t) (sym (others_same s cs (numbers_above s.0 (n + 1) (map (λ (d : Count). d.sub) cs) (omega (arith, at)) numbers.1)))
+    ap (λ (d : SubscriptionCount). d ∷ cs) (sym (own_more s c (omega (arith, numbers.0, at))))
+    ∙ ap (λ (t : List SubscriptionCount). with_given (s ∷ []) c ∷ t) (sym (others_same s cs (numbers_above s.0 (n + 1) (map (λ (d : SubscriptionCount). d.sub) cs) (omega (arith, at)) numbers.1)))
 one_more s n (c ∷ cs) (suc k) numbers at =
     more_later c cs k (length s.1)
-    ∙ ap (λ (t : List Count). c ∷ t) (one_more s (n + 1) cs k numbers.1 (omega (arith, at)))
-    ∙ ap (λ (d : Count). d ∷ map (with_given (s ∷ [])) cs) (sym (other_same s c (λ same. absurd (omega (arith, numbers.0, at, same)))))
+    ∙ ap (λ (t : List SubscriptionCount). c ∷ t) (one_more s (n + 1) cs k numbers.1 (omega (arith, at)))
+    ∙ ap (λ (d : SubscriptionCount). d ∷ map (with_given (s ∷ [])) cs) (sym (other_same s c (λ same. absurd (omega (arith, numbers.0, at, same)))))
 
 -- the count at the share's place, and no other, has more
 pub counted_one : (t u : Subscribers) (share : Share) (place : ℕ) → MayCount t (shown share ∷ []) → share.sub ≡ place + 1 → u.begun.items ≡ more_at place (length share.given) t.begun.items
@@ -140,19 +140,19 @@ no_less (suc n) none = absurd (none (omega arith))
 -- no subscription has the number 0
 pub counted_nobody : (t u : Subscribers) (share : Share) → MayCount t (shown share ∷ []) → share.sub ≡ 0 → u ≡ t → HasCounted (shown share ∷ []) t u
 counted_nobody t u share may none same = record {
-  begun = ap (λ (s : Subscribers). s.begun.items) same ∙ sym (others_same (shown share) t.begun.items (numbers_above share.sub 1 (map (λ (c : Count). c.sub) t.begun.items) (omega (arith, none)) may.numbers));
+  begun = ap (λ (s : Subscribers). s.begun.items) same ∙ sym (others_same (shown share) t.begun.items (numbers_above share.sub 1 (map (λ (c : SubscriptionCount). c.sub) t.begun.items) (omega (arith, none)) may.numbers));
   live = ap (λ (s : Subscribers). s.live) same;
   served_are = ap (λ (s : Subscribers). s.served) same;
 }
 
-room_from : (s : ℕ × List DataRecord) (n : ℕ) (cs : List Count) (k : ℕ) → AreNumbersFrom n (map (λ (c : Count). c.sub) cs) → AllByRecursion (λ (c : Count). c.disclosed + length (given_to c.sub (s ∷ [])) < 2 ^ 64) cs
-    → s.0 ≡ n + k → IfSome (slice_get cs k) (λ (c : Count). c.disclosed + length s.1 < 2 ^ 64)
+room_from : (s : ℕ × List DataRecord) (n : ℕ) (cs : List SubscriptionCount) (k : ℕ) → AreNumbersFrom n (map (λ (c : SubscriptionCount). c.sub) cs) → AllByRecursion (λ (c : SubscriptionCount). c.disclosed + length (given_to c.sub (s ∷ [])) < 2 ^ 64) cs
+    → s.0 ≡ n + k → IfSome (slice_get cs k) (λ (c : SubscriptionCount). c.disclosed + length s.1 < 2 ^ 64)
 room_from s n [] zero numbers room at = tt
 room_from s n [] (suc k) numbers room at = tt
 room_from s n (c ∷ cs) zero numbers room at = omega (arith, room.0, given_own c.sub s (omega (arith, numbers.0, at)))
 room_from s n (c ∷ cs) (suc k) numbers room at = room_from s (n + 1) cs k numbers.1 room.1 (omega (arith, at))
 
-pub room_at : (t : Subscribers) (share : Share) (place : ℕ) → MayCount t (shown share ∷ []) → share.sub ≡ place + 1 → IfSome (slice_get t.begun.items place) (λ (c : Count). c.disclosed + length share.given < 2 ^ 64)
+pub room_at : (t : Subscribers) (share : Share) (place : ℕ) → MayCount t (shown share ∷ []) → share.sub ≡ place + 1 → IfSome (slice_get t.begun.items place) (λ (c : SubscriptionCount). c.disclosed + length share.given < 2 ^ 64)
 room_at t share place may next = room_from (shown share) 1 t.begun.items place may.numbers may.room (omega (arith, next))
 
 -- ---- a loop over shares
@@ -284,8 +284,8 @@ counts_given : (h : List Entry) (x : Entry) (shares : List (ℕ × List DataReco
     → map (with_given shares) (map (count_in h) subs) ≡ map (count_in (h ++ x ∷ [])) subs
 counts_given h x shares name gives [] = refl
 counts_given h x shares name gives (sub ∷ subs) =
-    ap (λ (c : Count). c ∷ map (with_given shares) (map (count_in h) subs)) one
-    ∙ ap (λ (t : List Count). count_in (h ++ x ∷ []) sub ∷ t) (counts_given h x shares name gives subs) where
+    ap (λ (c : SubscriptionCount). c ∷ map (with_given shares) (map (count_in h) subs)) one
+    ∙ ap (λ (t : List SubscriptionCount). count_in (h ++ x ∷ []) sub ∷ t) (counts_given h x shares name gives subs) where
       size : length (disclosed sub h) + length (given_to sub shares) ≡ length (disclosed sub (h ++ x ∷ []))
       size =
           omega (
@@ -306,7 +306,7 @@ subscribers_given t u h x shares begin switch name none gives has so = record {
   begun = has.begun ∙ ap (map (with_given shares)) so.begun ∙ counts_given h x shares name gives (flat_map subscribed_in h) ∙ ap (map (count_in new)) (sym same);
   numbers = subst (AreNumbersFrom 1) (sym same) so.numbers;
   named = λ n sub is. let old = so.named n sub (sym (number n) ∙ is) in (live sub ∙ old.0, names sub ∙ old.1);
-  live = λ sub is. number (name_of sub new) ∙ subst (λ (n : List ℕ). number_of t n ≡ Some sub) (sym (names sub)) (so.live sub (sym (live sub) ∙ is));
+  live = λ sub is. number (name_of sub new) ∙ subst (λ (n : List ℕ). live_number t n ≡ Some sub) (sym (names sub)) (so.live sub (sym (live sub) ∙ is));
   served_are = ap (λ s. s.keys) has.served_are ∙ so.served_are ∙ sym (served_same h x switch none);
   unbegun = λ sub above.
       let un = so.unbegun sub (subst (λ (n : ℕ). (sub ≡ 0) ⊎ (n < sub)) (count_stays subscribed_in h x none) above) in
@@ -330,17 +330,17 @@ subscribers_given t u h x shares begin switch name none gives has so = record {
   live : (sub : ℕ) → is_live sub (h ++ x ∷ []) ≡ is_live sub h
   live sub = last_stays (begins sub) false h x (begin sub)
 
-  number : (n : List ℕ) → number_of u n ≡ number_of t n
+  number : (n : List ℕ) → live_number u n ≡ live_number t n
   number n = ap (λ m. get_by_text m n) has.live
 
 -- ---- no count comes to its end
 
-own_numbers : (h : List Entry) (subs : List ℕ) → map (λ (c : Count). c.sub) (map (count_in h) subs) ≡ subs
+own_numbers : (h : List Entry) (subs : List ℕ) → map (λ (c : SubscriptionCount). c.sub) (map (count_in h) subs) ≡ subs
 own_numbers h [] = refl
 own_numbers h (sub ∷ subs) = ap (λ (t : List ℕ). sub ∷ t) (own_numbers h subs)
 
 small_counts : (h : List Entry) (x : Entry) (shares : List (ℕ × List DataRecord)) → GiveAll h x shares → IsCountable (h ++ x ∷ []) → length h ≤ MOST_ENTRIES → (subs : List ℕ)
-    → AllByRecursion (λ (c : Count). c.disclosed + length (given_to c.sub shares) < 2 ^ 64) (map (count_in h) subs)
+    → AllByRecursion (λ (c : SubscriptionCount). c.disclosed + length (given_to c.sub shares) < 2 ^ 64) (map (count_in h) subs)
 small_counts h x shares gives small short [] = tt
 small_counts h x shares gives small short (sub ∷ subs) = (
   omega (
@@ -358,6 +358,6 @@ small_counts h x shares gives small short (sub ∷ subs) = (
 -- where the longer history is small, what the entry gives may be counted
 pub may_count : (t : Subscribers) (h : List Entry) (x : Entry) (shares : List (ℕ × List DataRecord)) → AreSubscribers t h → GiveAll h x shares → IsCountable (h ++ x ∷ []) → length h ≤ MOST_ENTRIES → MayCount t shares
 may_count t h x shares so gives small short = record {
-  numbers = subst (λ (cs : List Count). AreNumbersFrom 1 (map (λ (c : Count). c.sub) cs)) (sym so.begun) (subst (AreNumbersFrom 1) (sym (own_numbers h (flat_map subscribed_in h))) so.numbers);
-  room = subst (AllByRecursion (λ (c : Count). c.disclosed + length (given_to c.sub shares) < 2 ^ 64)) (sym so.begun) (small_counts h x shares gives small short (flat_map subscribed_in h));
+  numbers = subst (λ (cs : List SubscriptionCount). AreNumbersFrom 1 (map (λ (c : SubscriptionCount). c.sub) cs)) (sym so.begun) (subst (AreNumbersFrom 1) (sym (own_numbers h (flat_map subscribed_in h))) so.numbers);
+  room = subst (AllByRecursion (λ (c : SubscriptionCount). c.disclosed + length (given_to c.sub shares) < 2 ^ 64)) (sym so.begun) (small_counts h x shares gives small short (flat_map subscribed_in h));
 }

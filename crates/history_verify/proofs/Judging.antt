@@ -42,7 +42,7 @@ use Rattle.mediator_tables.specs.SubscriptionTable.{told, shown, given_to}
 use Rattle.mediator_shares.specs.InForce.{InForce, in_force_with}
 use Rattle.mediator_tables.specs.Adding.{tallied}
 use Rattle.disclosure_audit.specs.declared.entry.Note.{Note}
-use Rattle.mediator_shares.specs.Noting.{KeptNotes, kept_of}
+use Rattle.mediator_shares.specs.Noting.{KeptNotes, kept_notes}
 use Rattle.mediator_shares.specs.Sharing.{share_of, given_by, added_by, kept_by, shares_of, tallies_of, note_of, notes_on, noted_of_each, notes_of}
 use Rattle.history_verify.specs.declared.judged.Judged.{Judged}
 use Rattle.history_verify.specs.declared.replay.Replay.{Replay}
@@ -325,7 +325,7 @@ is_judged wanted r h session number octets reading domain records left false j s
     judged_none wanted r h session number octets domain records left j (asked r h session number octets reading domain records s is in_domain means) (none refl) tells (record { shares_are = shares; tallies_are = tallies; entries_are = entries })
 
 -- all notes of a message are kept, or none
-pub notes_wanted : (wanted : Bool) (position most : ℕ) (all : List Note) (k : KeptNotes) → most ≡ (if wanted then 2 ^ 64 - 1 else 0) → k ≡ kept_of most all → k.count < 2 ^ 63
+pub notes_wanted : (wanted : Bool) (position most : ℕ) (all : List Note) (k : KeptNotes) → most ≡ (if wanted then 2 ^ 64 - 1 else 0) → k ≡ kept_notes most all → k.count < 2 ^ 63
     → map (stamp position) k.notes ≡ (if wanted then map (stamp position) all else [])
 notes_wanted true position most all k many is few =
     ap (λ (n : KeptNotes). map (stamp position) n.notes) is ∙ ap (map (stamp position)) (take_all most all (omega (arith, many, few, ap (λ (n : KeptNotes). n.count) is)))

@@ -13,7 +13,7 @@ use Rattle.event_journal.specs.declared.entry.Entry.TheVariants.{Open, Close, Me
 use Rattle.disclosure_audit.specs.declared.entry.What.TheVariants.{Cut as CutOff}
 use Rattle.std.specs.Prelude.{◌==◌}
 use Rattle.std.specs.List.{flat_map}
-use Rattle.history_verify.specs.declared.count.Count.{Count}
+use Rattle.history_verify.specs.declared.count.SubscriptionCount.{SubscriptionCount}
 use Rattle.history_verify.specs.Counts.{count_in}
 use Rattle.std.proofs.lemmas.Bool.{eqb-true, eqb-false, ltb-true}
 use Rattle.mediator_history.proofs.CutLaws.{after_cuts-push}
@@ -208,7 +208,7 @@ read_accepted h session number octets reading is = record { opened = is.turn.0; 
 -- ---- subscriptions
 
 begun_count : (t : Subscribers) (h : List Entry) → AreSubscribers t h → length t.begun.items ≡ subscriptions_begun h
-begun_count t h so = ap (λ (l : List Count). length l) so.begun ∙ length-map (flat_map subscribed_in h) (count_in h)
+begun_count t h so = ap (λ (l : List SubscriptionCount). length l) so.begun ∙ length-map (flat_map subscribed_in h) (count_in h)
 
 pub next_number : (t : Subscribers) (h : List Entry) (sub : ℕ) → AreSubscribers t h → sub ≡ length t.begun.items + 1 → sub ≡ subscriptions_begun h + 1
 next_number t h sub so is = omega (arith, is, begun_count t h so)

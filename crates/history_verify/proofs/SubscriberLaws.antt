@@ -18,10 +18,10 @@ use Rattle.mediator_history.specs.Counting.{counted_at}
 use Rattle.mediator_history.specs.Disclosed.{given_at, disclosed}
 use Rattle.mediator_history.proofs.EntryLaws.{served_same, served-cut, is_in-served, given_same}
 use Rattle.mediator_history.proofs.CountingLaws.{counted_same}
-use Rattle.history_verify.specs.declared.count.Count.{Count}
+use Rattle.history_verify.specs.declared.count.SubscriptionCount.{SubscriptionCount}
 use Rattle.history_verify.specs.declared.subscribers.Subscribers.{Subscribers}
 use Rattle.history_verify.specs.Counts.{count_in}
-use Rattle.history_verify.specs.Parts.{AreNumbersFrom, number_of, NeverBegan, AreSubscribers, SameSubscribers}
+use Rattle.history_verify.specs.Parts.{AreNumbersFrom, live_number, NeverBegan, AreSubscribers, SameSubscribers}
 use Rattle.history_verify.proofs.Stays.{last_stays, list_stays, count_stays}
 
 pub map_alike : {A B : Type 0} (f g : A → B) → ((x : A) → f x ≡ g x) → (xs : List A) → map f xs ≡ map g xs
@@ -40,7 +40,7 @@ subscribers_stay t h x begin switch name none given counts so = record {
   begun = so.begun ∙ sym (ap (map (count_in new)) same ∙ map_alike (count_in new) (count_in h) (λ sub. counted_alike new h sub (names sub) (given_same sub h x (given sub))) (flat_map subscribed_in h));
   numbers = subst (AreNumbersFrom 1) (sym same) so.numbers;
   named = λ n sub is. let old = so.named n sub is in (live sub ∙ old.0, names sub ∙ old.1);
-  live = λ sub is. subst (λ (n : List ℕ). number_of t n ≡ Some sub) (sym (names sub)) (so.live sub (sym (live sub) ∙ is));
+  live = λ sub is. subst (λ (n : List ℕ). live_number t n ≡ Some sub) (sym (names sub)) (so.live sub (sym (live sub) ∙ is));
   served_are = so.served_are ∙ sym (served_same h x switch none);
   unbegun = λ sub above.
       let un = so.unbegun sub (subst (λ (n : ℕ). (sub ≡ 0) ⊎ (n < sub)) (count_stays subscribed_in h x none) above) in
@@ -83,7 +83,7 @@ subscribers_cut t u h sub so begun live fewer = record {
   begun = ap (λ v. v.items) begun ∙ so.begun ∙ sym (ap (map (count_in new)) same ∙ map_alike (count_in new) (count_in h) (λ q. counted_alike new h q (names q) (given_same q h (Cut sub) refl)) (flat_map subscribed_in h));
   numbers = subst (AreNumbersFrom 1) (sym same) so.numbers;
   named = λ n q is. let old = so.named n q (ap (λ m. get_by_text m n) (sym live) ∙ is) in (lives q ∙ old.0, names q ∙ old.1);
-  live = λ q is. ap (λ m. get_by_text m (name_of q new)) live ∙ subst (λ (n : List ℕ). number_of t n ≡ Some q) (sym (names q)) (so.live q (sym (lives q) ∙ is));
+  live = λ q is. ap (λ m. get_by_text m (name_of q new)) live ∙ subst (λ (n : List ℕ). live_number t n ≡ Some q) (sym (names q)) (so.live q (sym (lives q) ∙ is));
   served_are = fewer ∙ ap (remove_key (is_at (nat_cmp sub))) so.served_are ∙ removed_is sub (served h) (distinct_filter (λ q. is_served q h) (flat_map subscribed_in h) (numbers_apart 1 (flat_map subscribed_in h) so.numbers)) ∙ sym (served-cut h sub);
   unbegun = λ q above.
       let un = so.unbegun q (subst (λ (n : ℕ). (q ≡ 0) ⊎ (n < q)) (count_stays subscribed_in h (Cut sub) refl) above) in
@@ -116,7 +116,7 @@ some_is : {A : Type 0} (x y : A) → Some x ≡ Some y → x ≡ y
 some_is x y e = cc
 
 -- the count at a place is that of the subscription with the next number
-pub count_found : (h : List Entry) (n : ℕ) (subs : List ℕ) (place : ℕ) (count : Count) → AreNumbersFrom n subs → slice_get (map (count_in h) subs) place ≡ Some count → (count ≡ count_in h (n + place)) × (place < length subs)
+pub count_found : (h : List Entry) (n : ℕ) (subs : List ℕ) (place : ℕ) (count : SubscriptionCount) → AreNumbersFrom n subs → slice_get (map (count_in h) subs) place ≡ Some count → (count ≡ count_in h (n + place)) × (place < length subs)
 count_found h n [] place count numbers is = absurd cc
 count_found h n (x ∷ subs) zero count numbers is = (sym (some_is (count_in h x) count is) ∙ ap (count_in h) (omega (arith, numbers.0)), omega arith)
 count_found h n (x ∷ subs) (suc place) count numbers is =
@@ -129,17 +129,17 @@ none_found [] place is = omega arith
 none_found (x ∷ xs) zero is = absurd cc
 none_found (x ∷ xs) (suc place) is = omega (arith, none_found xs place is)
 
-pub named_at : (t : Subscribers) (h : List Entry) (sub place : ℕ) (count : Count) → AreSubscribers t h → sub ≡ place + 1 → slice_get t.begun.items place ≡ Some count → (count.name ≡ name_of sub h) × (sub ≤ subscriptions_begun h) × (0 < sub)
+pub named_at : (t : Subscribers) (h : List Entry) (sub place : ℕ) (count : SubscriptionCount) → AreSubscribers t h → sub ≡ place + 1 → slice_get t.begun.items place ≡ Some count → (count.name ≡ name_of sub h) × (sub ≤ subscriptions_begun h) × (0 < sub)
 named_at t h sub place count so next is =
-    let found = count_found h 1 (flat_map subscribed_in h) place count so.numbers (ap (λ (l : List Count). slice_get l place) (sym so.begun) ∙ is) in
+    let found = count_found h 1 (flat_map subscribed_in h) place count so.numbers (ap (λ (l : List SubscriptionCount). slice_get l place) (sym so.begun) ∙ is) in
     let same : 1 + place ≡ sub = omega (arith, next) in
-    (ap (λ (k : Count). k.name) (found.0 ∙ ap (count_in h) same), omega (arith, next, found.1), omega (arith, next))
+    (ap (λ (k : SubscriptionCount). k.name) (found.0 ∙ ap (count_in h) same), omega (arith, next, found.1), omega (arith, next))
 
 pub none_at : (t : Subscribers) (h : List Entry) (sub : ℕ) → AreSubscribers t h → ((place : ℕ) → sub ≡ place + 1 → slice_get t.begun.items place ≡ None) → NeverBegan h sub
 none_at t h zero so none = so.unbegun zero (inl refl)
 none_at t h (suc place) so none =
     let far = none_found t.begun.items place (none place (omega arith)) in
-    so.unbegun (suc place) (inr (omega (arith, far, ap (λ (l : List Count). length l) so.begun, length-map (flat_map subscribed_in h) (count_in h))))
+    so.unbegun (suc place) (inr (omega (arith, far, ap (λ (l : List SubscriptionCount). length l) so.begun, length-map (flat_map subscribed_in h) (count_in h))))
 
 pub if_none : {A P : Type 0} (o : Option A) → P → IfNone o P
 if_none None p = p
@@ -147,14 +147,14 @@ if_none (Some x) p = tt
 
 -- ---- before any entry a name is taken exactly where a live subscription has it
 
-pub taken_by : (t : Subscribers) (h : List Entry) (name : List ℕ) → AreSubscribers t h → is_some (number_of t name) ≡ true → ((sub : ℕ) → is_live sub h ≡ true → name_of sub h ≢ name) → ⊥
-taken_by t h name so is free = by (number_of t name) refl is where
-  by : (o : Option ℕ) → number_of t name ≡ o → is_some o ≡ true → ⊥
+pub taken_by : (t : Subscribers) (h : List Entry) (name : List ℕ) → AreSubscribers t h → is_some (live_number t name) ≡ true → ((sub : ℕ) → is_live sub h ≡ true → name_of sub h ≢ name) → ⊥
+taken_by t h name so is free = by (live_number t name) refl is where
+  by : (o : Option ℕ) → live_number t name ≡ o → is_some o ≡ true → ⊥
   by None at none = absurd cc
   by (Some sub) at some = let found = so.named name sub at in free sub found.0 found.1
 
-pub free_where : (t : Subscribers) (h : List Entry) (name : List ℕ) → AreSubscribers t h → is_some (number_of t name) ≡ false → (sub : ℕ) → is_live sub h ≡ true → name_of sub h ≢ name
+pub free_where : (t : Subscribers) (h : List Entry) (name : List ℕ) → AreSubscribers t h → is_some (live_number t name) ≡ false → (sub : ℕ) → is_live sub h ≡ true → name_of sub h ≢ name
 free_where t h name so none sub on same =
-    let at : number_of t name ≡ Some sub = ap (number_of t) (sym same) ∙ so.live sub on in
-    let some : is_some (number_of t name) ≡ true = rw at refl in
+    let at : live_number t name ≡ Some sub = ap (live_number t) (sym same) ∙ so.live sub on in
+    let some : is_some (live_number t name) ≡ true = rw at refl in
     absurd cc

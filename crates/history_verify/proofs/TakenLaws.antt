@@ -41,7 +41,8 @@ use Rattle.history_verify.specs.declared.exporters.Exporters.{Exporters}
 use Rattle.history_verify.specs.declared.subscribers.Subscribers.{Subscribers}
 use Rattle.history_verify.specs.declared.sums.Sums.{Sums}
 use Rattle.history_verify.specs.declared.replay.Replay.{Replay}
-use Rattle.history_verify.specs.Parts.{IsSession, HasRoomToKeep, AreExporters, AreSubscribers, AreSums, SameSums, served_shares, MayCount, HasCounted, AreNoted}
+use Rattle.mediator_tables.specs.Sessions.{IsSession}
+use Rattle.history_verify.specs.Parts.{HasRoomToKeep, AreExporters, AreSubscribers, AreSums, SameSums, served_shares, MayCount, HasCounted, AreNoted}
 use Rattle.history_verify.specs.Sharing.{GiveAll, IsJudgedEntry}
 use Rattle.history_verify.specs.Standing.{MayCutAll, IsSettled, IsCountable, StandsOver, StandsShort, HasTaken, IsSameReplay, IsReadOf}
 use Rattle.history_verify.proofs.Stays.{last_stays}

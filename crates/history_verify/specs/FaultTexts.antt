@@ -3,6 +3,6 @@ use Rattle.std.specs.Prelude.{ℕ, List, codes}
 use Rattle.history_verify.specs.declared.fault.Fault.{Fault}
 use Rattle.history_verify.specs.declared.fault.Fault.TheVariants.{BadHistory, OutOfMemory}
 
-abbrev pub text_of_fault : Fault → List ℕ
-text_of_fault (BadHistory position) = codes "BadHistory"
-text_of_fault OutOfMemory = codes "OutOfMemory"
+abbrev pub history_fault_text : Fault → List ℕ
+history_fault_text (BadHistory position) = codes "BadHistory"
+history_fault_text OutOfMemory = codes "OutOfMemory"

@@ -18,9 +18,10 @@ use Rattle.mediator_history.specs.Counting.{counted, running}
 use Rattle.mediator_history.specs.Disclosed.{disclosed}
 use Rattle.mediator_tables.specs.SubscriptionTable.{given_to}
 use Rattle.mediator_tables.specs.declared.open_session.OpenSession.{OpenSession}
+use Rattle.mediator_tables.specs.Sessions.{IsSession, IsUnopened}
 use Rattle.mediator_tables.specs.SessionTable.{seen}
 use Rattle.mediator_tables.specs.GroupTable.{held_at, groups_at}
-use Rattle.history_verify.specs.declared.count.Count.{Count}
+use Rattle.history_verify.specs.declared.count.SubscriptionCount.{SubscriptionCount}
 use Rattle.history_verify.specs.declared.exporters.Exporters.{Exporters}
 use Rattle.history_verify.specs.declared.subscribers.Subscribers.{Subscribers}
 use Rattle.history_verify.specs.declared.sums.Sums.{Sums}
@@ -30,16 +31,6 @@ use Rattle.std.specs.Vec.{vec_capacity}
 use Rattle.history_verify.specs.Counts.{counts_of}
 
 -- ---- sessions
-
--- the session is open, and stands for its messages; or it isn't
-abbrev pub IsSession : List Entry → ℕ → Option OpenSession → Type 0
-IsSession h session None = is_open session h ≡ false
-IsSession h session (Some o) = (is_open session h ≡ true) × (o.accepted ≡ length (messages_of session h)) × StandsFor o.session (messages_of session h)
-
--- a session that was never opened
-pub record IsUnopened (h : List Entry) (session : ℕ) : Type 0 where
-  pub closed : is_open session h ≡ false
-  pub silent : messages_of session h ≡ []
 
 pub record AreExporters (e : Exporters) (h : List Entry) : Type 0 where
   pub opened : e.opened ≡ sessions_opened h
@@ -70,8 +61,8 @@ AreNumbersFrom n [] = Unit {0}
 AreNumbersFrom n (x ∷ xs) = (x ≡ n) × AreNumbersFrom (n + 1) xs
 
 -- the number of the live subscription under a name
-abbrev pub number_of : Subscribers → List ℕ → Option ℕ
-number_of t name = get_by_text t.live name
+abbrev pub live_number : Subscribers → List ℕ → Option ℕ
+live_number t name = get_by_text t.live name
 
 -- a subscription that never began
 pub record NeverBegan (h : List Entry) (sub : ℕ) : Type 0 where
@@ -84,28 +75,28 @@ pub record NeverBegan (h : List Entry) (sub : ℕ) : Type 0 where
 pub record AreSubscribers (t : Subscribers) (h : List Entry) : Type 0 where
   pub begun : t.begun.items ≡ counts_of h
   pub numbers : AreNumbersFrom 1 (flat_map subscribed_in h)
-  pub named : (name : List ℕ) (sub : ℕ) → number_of t name ≡ Some sub → (is_live sub h ≡ true) × (name_of sub h ≡ name)
-  pub live : (sub : ℕ) → is_live sub h ≡ true → number_of t (name_of sub h) ≡ Some sub
+  pub named : (name : List ℕ) (sub : ℕ) → live_number t name ≡ Some sub → (is_live sub h ≡ true) × (name_of sub h ≡ name)
+  pub live : (sub : ℕ) → is_live sub h ≡ true → live_number t (name_of sub h) ≡ Some sub
   pub served_are : t.served.keys ≡ served h
   pub unbegun : (sub : ℕ) → (sub ≡ 0) ⊎ (subscriptions_begun h < sub) → NeverBegan h sub
 
 pub record SameSubscribers (old new : Subscribers) : Type 0 where
   pub begun : new.begun.items ≡ old.begun.items
-  pub names : (name : List ℕ) → number_of new name ≡ number_of old name
+  pub names : (name : List ℕ) → live_number new name ≡ live_number old name
   pub served_are : new.served.keys ≡ old.served.keys
 
 -- ---- what shares give
 
 -- the count, with so many records more
-abbrev pub with_more : ℕ → Count → Count
+abbrev pub with_more : ℕ → SubscriptionCount → SubscriptionCount
 with_more more c = record { sub = c.sub; name = c.name; disclosed = c.disclosed + more }
 
 -- the counts, with so many records more in the one at a place, where there is one
-abbrev pub more_at : ℕ → ℕ → List Count → List Count
+abbrev pub more_at : ℕ → ℕ → List SubscriptionCount → List SubscriptionCount
 more_at place more counts = option_map_or (λ c. slice_set counts place (with_more more c)) (slice_get counts place) counts
 
 -- the count, with what shares give to its subscription
-abbrev pub with_given : List (ℕ × List DataRecord) → Count → Count
+abbrev pub with_given : List (ℕ × List DataRecord) → SubscriptionCount → SubscriptionCount
 with_given shares c = with_more (length (given_to c.sub shares)) c
 
 -- the shares of subscriptions that are served

@@ -4,7 +4,7 @@ use policy_text::Name;
 
 /// How many records a history disclosed to one subscription.
 #[derive(Debug, Drop)]
-pub struct Count {
+pub struct SubscriptionCount {
     /// The number of the subscription.
     pub sub: u64,
     /// Its subscriber's name.

@@ -18,9 +18,9 @@ impl Error for Fault {}
 
 impl Display for Fault {
     ghost use Rattle.std.specs.Prelude.{Some};
-    ghost use Rattle.history_verify.specs.FaultTexts.{text_of_fault};
+    ghost use Rattle.history_verify.specs.FaultTexts.{history_fault_text};
 
-    ghost output = { λ fault. Some (text_of_fault fault) };
+    ghost output = { λ fault. Some (history_fault_text fault) };
 
     fn fmt<W: Write>(&self, f: &mut Formatter<W>) -> fmt::Result {
         f.write_str(match self {

@@ -4,7 +4,7 @@
 //! of its queues.
 //!
 //! - `verified`: [`verify`], of a whole journal, and [`Verified`], what a legal history disclosed and what its audit names;
-//!   `count`: [`Count`], of one subscription.
+//!   `count`: [`SubscriptionCount`], of one subscription.
 //! - `verifier`: [`Verifier`], which is fed entry by entry, so that a file is verified as it is read.
 //! - `fault`: [`Fault`].
 //! - `replay`: what is kept of the entries so far; `exporters`, `subscribers`, `sums` and `noted` are its parts, and `judged` is
@@ -22,7 +22,7 @@ mod sums;
 mod verified;
 mod verifier;
 
-pub use count::Count;
+pub use count::SubscriptionCount;
 pub use exporters::Exporters;
 pub use fault::Fault;
 pub use verified::{Verified, verify};

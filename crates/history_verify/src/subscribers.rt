@@ -7,7 +7,7 @@ ghost use Rattle.mediator_tables.specs.SubscriptionTable.{told, shown, given_to}
 ghost use Rattle.policy_text.specs.Naming.{is_name};
 ghost use Rattle.history_verify.specs.Counts.{counts_of};
 
-use crate::count::Count;
+use crate::count::SubscriptionCount;
 use mediator_tables::{Served, Share};
 use policy_text::Name;
 use std::alloc::{AllocError, Global};
@@ -19,7 +19,7 @@ use std::collections::{BTreeMap, BTreeSet};
 pub(crate) struct Subscribers {
     alloc: Global,
     /// A count for each that began: that of number n stands at place n - 1.
-    begun: Vec<Count>,
+    begun: Vec<SubscriptionCount>,
     /// The numbers of the live ones by their names.
     live: BTreeMap<String, u64>,
     /// The numbers of those that are served.
@@ -27,7 +27,7 @@ pub(crate) struct Subscribers {
 }
 
 impl Subscribers {
-    ghost use Rattle.history_verify.specs.Parts.{AreSubscribers, SameSubscribers, NeverBegan, number_of, served_shares, MayCount, HasCounted};
+    ghost use Rattle.history_verify.specs.Parts.{AreSubscribers, SameSubscribers, NeverBegan, live_number, served_shares, MayCount, HasCounted};
 
     /// The subscriptions of a history without an entry. What comes to be kept is in memory from `alloc`.
     pub(crate) fn new(alloc: Global) -> Subscribers
@@ -50,7 +50,7 @@ impl Subscribers {
 
     /// Whether a live subscription has this `name`.
     pub(crate) fn is_taken(&self, name: &str) -> bool
-        ensures { result ≡ is_some (number_of self.now name.now) }
+        ensures { result ≡ is_some (live_number self.now name.now) }
     {
         self.live.get(name).is_some()
     }
@@ -89,7 +89,7 @@ impl Subscribers {
     /// Want of memory, and then nothing has changed.
     pub(crate) fn begin(&mut self, sub: u64, name: &Name) -> Result<(), AllocError>
         requires next { sub ≡ length self.old.begun.items + 1 }
-        requires free { number_of self.old name.now ≡ None }
+        requires free { live_number self.old name.now ≡ None }
         // It is live and served then.
         ensures ok { OnOk result ((h : List Entry) → AreSubscribers self.old h
             → AreSubscribers self.new (h ++ Subscribe sub name.now ∷ [])) }
@@ -99,7 +99,7 @@ impl Subscribers {
         ensures err { OnErr result (SameSubscribers self.old self.new) }
     {
         self.begun.reserve(1)?;
-        let count = Count {
+        let count = SubscriptionCount {
             sub,
             name: Name::new(self.alloc, name.as_bytes())?,
             disclosed: 0,
@@ -212,7 +212,7 @@ impl Subscribers {
     }
 
     /// The count of each subscription that began, in the order of their numbers.
-    pub(crate) fn into_counts(self) -> Vec<Count>
+    pub(crate) fn into_counts(self) -> Vec<SubscriptionCount>
         ensures { (h : List Entry) → AreSubscribers self h → result.items ≡ counts_of h }
     {
         let Subscribers {
@@ -228,7 +228,7 @@ impl Subscribers {
 ghost use Rattle.history_verify.specs.Parts.{more_at};
 
 /// The one of `counts` that is of the subscription with the number `sub`, or `None`.
-fn count_at(counts: &[Count], sub: u64) -> Option<&Count>
+fn count_at(counts: &[SubscriptionCount], sub: u64) -> Option<&SubscriptionCount>
     ensures some { IfSome result (λ count. (place : ℕ) × (sub ≡ place + 1)
         × (slice_get counts.now place ≡ Some count.now)) }
     ensures none { IfNone result ((place : ℕ) → sub ≡ place + 1
@@ -239,7 +239,7 @@ fn count_at(counts: &[Count], sub: u64) -> Option<&Count>
 }
 
 /// Counts `more` further records in the one of `counts` at `place`, if there is one.
-fn count_more(counts: &mut Vec<Count>, place: usize, more: u64)
+fn count_more(counts: &mut Vec<SubscriptionCount>, place: usize, more: u64)
     requires room { IfSome (slice_get counts.old.items place) (λ c. c.disclosed + more < 2 ^ 64) }
     ensures { counts.new.items ≡ more_at place more counts.old.items }
 {

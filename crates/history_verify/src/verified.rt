@@ -1,7 +1,7 @@
 //! Verifying a whole journal, and what a legal history says.
 ghost use Rattle.std.specs.Prelude.{true, IfOk, IfErr};
 
-use crate::count::Count;
+use crate::count::SubscriptionCount;
 use crate::fault::Fault;
 use crate::verifier::Verifier;
 use disclosure_audit::AuditEntry;
@@ -12,7 +12,7 @@ use std::alloc::Global;
 #[derive(Debug, Drop)]
 pub struct Verified {
     /// A count for each subscription that began, in the order of their numbers.
-    pub subs: Vec<Count>,
+    pub subs: Vec<SubscriptionCount>,
     /// The audit's entries, oldest first; none where they weren't wanted.
     pub audit: Vec<AuditEntry>,
 }

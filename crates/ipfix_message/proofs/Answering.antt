@@ -6,12 +6,12 @@ use Rattle.ipfix_message.specs.declared.header.Header.{Header}
 use Rattle.ipfix_message.specs.declared.fault.Fault.{Fault}
 use Rattle.ipfix_message.specs.declared.item.Item.{Item}
 use Rattle.ipfix_message.specs.Grammar.{IsMessage}
-use Rattle.ipfix_message.specs.Reading.{Gives, items_of}
+use Rattle.ipfix_message.specs.Reading.{GivesDecoded, items_of}
 use Rattle.ipfix_message.proofs.GrammarFound.{message_found}
 
-pub gives_found : (octets : List ℕ) (answer : Result (Vec Item) Fault) → Gives (λ v. v.items) answer (items_of octets) → IfOk answer (λ v. (h : Header) × IsMessage octets h v.items)
+pub gives_found : (octets : List ℕ) (answer : Result (Vec Item) Fault) → GivesDecoded (λ v. v.items) answer (items_of octets) → IfOk answer (λ v. (h : Header) × IsMessage octets h v.items)
 gives_found octets (Ok v) gives = message_found octets v.items gives
 gives_found octets (Err e) gives = tt
 
-pub gives_only : (octets : List ℕ) (answer : Result (Vec Item) Fault) (said : List Item) → items_of octets ≡ Ok said → Gives (λ v. v.items) answer (items_of octets) → Gives (λ v. v.items) answer (Ok said)
-gives_only octets answer said is gives = subst (Gives (λ v. v.items) answer) is gives
+pub gives_only : (octets : List ℕ) (answer : Result (Vec Item) Fault) (said : List Item) → items_of octets ≡ Ok said → GivesDecoded (λ v. v.items) answer (items_of octets) → GivesDecoded (λ v. v.items) answer (Ok said)
+gives_only octets answer said is gives = subst (GivesDecoded (λ v. v.items) answer) is gives

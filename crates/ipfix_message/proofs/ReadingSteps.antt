@@ -6,7 +6,7 @@ use Rattle.ipfix_template.specs.Sequence.{Front, End, Fault, Next, with_front, r
 use Rattle.ipfix_message.specs.declared.header.Header.{Header}
 use Rattle.ipfix_message.specs.declared.fault.Fault.{Fault as DecodeError}
 use Rattle.ipfix_message.specs.declared.item.Item.{Item}
-use Rattle.ipfix_message.specs.Reading.{Fails, is_memory, set_front}
+use Rattle.ipfix_message.specs.Reading.{FailsDecoding, is_memory, set_front}
 use Rattle.std.specs.Borrow.{Bor}
 use Rattle.ipfix_message.specs.Shows.{IsFaultIn, ShowsFront}
 
@@ -36,7 +36,7 @@ fault_is : (front : List ℕ → Front Item DecodeError) → TakesSome front →
 fault_is front takes before rest whole fault at e =
     sym e ∙ ap (with_front before) (read_all-step front takes rest ∙ ap (λ f. read_on f (read_all front)) at)
 
-pub faulty : (front : List ℕ → Front Item DecodeError) → TakesSome front → (before : List Item) (rest : List ℕ) (whole : Reading) (fault : DecodeError) → IsFaultIn fault (front rest) → with_front before (read_all front rest) ≡ whole → Fails fault whole
+pub faulty : (front : List ℕ → Front Item DecodeError) → TakesSome front → (before : List Item) (rest : List ℕ) (whole : Reading) (fault : DecodeError) → IsFaultIn fault (front rest) → with_front before (read_all front rest) ≡ whole → FailsDecoding fault whole
 faulty front takes before rest whole fault at e = by_test (is_memory fault) at
   where
     by_test : (b : Bool) → MatchBool b (Unit {0}) (front rest ≡ Fault fault) → MatchBool b (Unit {0}) (whole ≡ Err fault)

@@ -108,12 +108,12 @@ is_memory BadSetLength = false
 is_memory TemplateOverrun = false
 
 -- a fault is the first one
-abbrev pub Fails : {Y : Type 0} → DecodeError → Result Y DecodeError → Type 0
-Fails e read = FailsBut is_memory e read
+abbrev pub FailsDecoding : {Y : Type 0} → DecodeError → Result Y DecodeError → Type 0
+FailsDecoding e read = FailsBut is_memory e read
 
 -- what was read is the answer
-abbrev pub Gives : {X Y : Type 0} → (X → Y) → Result X DecodeError → Result Y DecodeError → Type 0
-Gives view answer read = GivesBut is_memory view answer read
+abbrev pub GivesDecoded : {X Y : Type 0} → (X → Y) → Result X DecodeError → Result Y DecodeError → Type 0
+GivesDecoded view answer read = GivesBut is_memory view answer read
 
 abbrev pub or_overrun : {Y : Type 0} → Option Y → Result Y DecodeError
 or_overrun (Some y) = Ok y

@@ -5,7 +5,7 @@ ghost use Rattle.ipfix_template.specs.Sequence.{read_all, with_front};
 ghost use Rattle.ipfix_message.specs.declared.item.Item.{Item};
 ghost use Rattle.ipfix_message.specs.declared.header.Header.{Header};
 ghost use Rattle.ipfix_message.specs.Grammar.{IsMessage};
-ghost use Rattle.ipfix_message.specs.Reading.{Gives, template_front, set_items, set_front, read_header, items_of};
+ghost use Rattle.ipfix_message.specs.Reading.{GivesDecoded, template_front, set_items, set_front, read_header, items_of};
 ghost use Rattle.ipfix_message.specs.Shows.{AddsFront};
 
 use crate::fault::Fault;
@@ -29,9 +29,9 @@ pub fn items(alloc: Global, octets: &[u8]) -> Result<Vec<Item>, Fault>
     ensures found { IfOk result (λ v. (h : Header) × IsMessage octets.now h v.items) }
     // What is a message of the grammar is read, unless memory runs out.
     ensures only { (h : Header) (said : List Item) → IsMessage octets.now h said
-        → Gives (λ v. v.items) result (Ok said) }
+        → GivesDecoded (λ v. v.items) result (Ok said) }
     // Which fault it is.
-    ensures exact { Gives (λ v. v.items) result (items_of octets.now) }
+    ensures exact { GivesDecoded (λ v. v.items) result (items_of octets.now) }
     // A fault of the header, and a message without sets, are answered without memory.
     ensures header { IfErr (read_header octets.now) (λ e. result ≡ Err e) }
     ensures bare { IfOk (read_header octets.now) (λ _. length octets.now ≡ header_octets
@@ -42,7 +42,7 @@ pub fn items(alloc: Global, octets: &[u8]) -> Result<Vec<Item>, Fault>
 
 #[tactic(auto, unfolding(crate::specs::Reading::items_of))]
 fn read_items(alloc: Global, octets: &[u8]) -> Result<Vec<Item>, Fault>
-    ensures exact { Gives (λ v. v.items) result (items_of octets.now) }
+    ensures exact { GivesDecoded (λ v. v.items) result (items_of octets.now) }
     ensures header { IfErr (read_header octets.now) (λ e. result ≡ Err e) }
     ensures bare { IfOk (read_header octets.now) (λ _. length octets.now ≡ header_octets
         → IsOk result) }
@@ -61,7 +61,7 @@ fn read_items(alloc: Global, octets: &[u8]) -> Result<Vec<Item>, Fault>
 /// Adds what the sets say that are left of a message of `total` octets.
 fn put_sets(alloc: Global, total: usize, octets: &[u8], items: &mut Vec<Item>) -> Result<(), Fault>
     requires { length octets.now ≤ total }
-    ensures read { Gives (λ _. items.new.items) result
+    ensures read { GivesDecoded (λ _. items.new.items) result
         (with_front items.old.items (read_all (set_front total) octets.now)) }
     ensures bare { length octets.now ≡ 0 → IsOk result }
 {
@@ -107,7 +107,7 @@ fn put_content(
     content: &[u8],
     items: &mut Vec<Item>,
 ) -> Result<(), Fault>
-    ensures { Gives (λ _. items.new.items) result
+    ensures { GivesDecoded (λ _. items.new.items) result
         (with_front items.old.items (set_items id place content.now)) }
 {
     if id == TEMPLATE_SET {
@@ -135,7 +135,7 @@ fn put_templates(
     content: &[u8],
     items: &mut Vec<Item>,
 ) -> Result<(), Fault>
-    ensures { Gives (λ _. items.new.items) result
+    ensures { GivesDecoded (λ _. items.new.items) result
         (with_front items.old.items (read_all (template_front options) content.now)) }
 {
     let mut rest = content;

@@ -1,7 +1,7 @@
 //! The records of a Template Set or an Options Template Set.
 ghost use Rattle.std.specs.Prelude.{◌≡◌, ◌≤◌, length, vec_len, IfOk, Ok};
 ghost use Rattle.ipfix_message.specs.Records.{bare_item, template_item};
-ghost use Rattle.ipfix_message.specs.Reading.{Gives, or_overrun, field_at, fields_at, scoped_at, template_at, template_front};
+ghost use Rattle.ipfix_message.specs.Reading.{GivesDecoded, or_overrun, field_at, fields_at, scoped_at, template_at, template_front};
 ghost use Rattle.ipfix_message.specs.Shows.{ShowsField, ShowsFront, fields_seen, template_seen};
 ghost use Rattle.ipfix_template.specs.Sequence.{read_all};
 
@@ -47,7 +47,7 @@ fn first_field(octets: &[u8]) -> Option<(FieldSpec, &[u8])>
 
 /// The first `count` Field Specifiers, and the octets after them.
 fn first_fields(alloc: Global, count: u16, octets: &[u8]) -> Result<(Vec<FieldSpec>, &[u8]), Fault>
-    ensures read { Gives fields_seen result (or_overrun (fields_at count octets.now)) }
+    ensures read { GivesDecoded fields_seen result (or_overrun (fields_at count octets.now)) }
     ensures count { IfOk result (λ found. vec_len found.0 ≡ count) }
 {
     let mut fields = Vec::new(alloc);
@@ -70,7 +70,7 @@ fn first_template(
     count: u16,
     octets: &[u8],
 ) -> Result<(Template, &[u8]), Fault>
-    ensures { Gives template_seen result (or_overrun (template_at options count octets.now)) }
+    ensures { GivesDecoded template_seen result (or_overrun (template_at options count octets.now)) }
 {
     if !options {
         return with_scope(alloc, 0, count, octets);
@@ -90,7 +90,7 @@ fn with_scope(
     count: u16,
     octets: &[u8],
 ) -> Result<(Template, &[u8]), Fault>
-    ensures { Gives template_seen result (or_overrun (scoped_at scope count octets.now)) }
+    ensures { GivesDecoded template_seen result (or_overrun (scoped_at scope count octets.now)) }
 {
     let (specs, rest) = first_fields(alloc, count, octets)?;
     match Fields::from_vec(specs) {

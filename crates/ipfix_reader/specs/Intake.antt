@@ -1,6 +1,6 @@
 -- What an intake is seen as, and what a call does to it. That a stream is read in pieces, and by so many reads at most, is this
 -- project's own rule; how its octets are cut into messages is the standard's (RFC 7011, sections 3.1 and 10.4).
-use Rattle.std.specs.Prelude.{◌≡◌, ◌⊎◌, ℕ, ◌+◌, ◌<◌, ◌≤◌, Bool, true, List, [], length, Option, Some, None}
+use Rattle.std.specs.Prelude.{◌≡◌, ◌⊎◌, ℕ, ◌+◌, ◌*◌, ◌<◌, ◌≤◌, Bool, true, List, [], length, Option, Some, None}
 use Rattle.std.specs.Io.KnownBytes.{Consumes, IsAtEnd}
 use Rattle.ipfix_message.specs.declared.fault.Fault.{Fault as DecodeError}
 use Rattle.ipfix_message.specs.declared.fault.Fault.TheVariants as frame
@@ -24,6 +24,14 @@ pub record IsPiece (given left : Option (List ℕ)) (piece : List ℕ) : Type 0 
   pub read : Consumes given left piece
   pub some : 0 < length piece
   pub few : length piece ≤ 65536
+
+-- this many reads, each of at most 65,536 octets, may have given these octets
+abbrev pub AreRead : ℕ → List ℕ → Type 0
+AreRead reads octets = length octets ≤ 65536 * reads
+
+-- this many reads, of which one gave none, may have given these octets
+abbrev pub AreReadBut : ℕ → List ℕ → Type 0
+AreReadBut reads octets = length octets + 65536 ≤ 65536 * reads
 
 -- a read more was made
 abbrev pub UsesTurn : IntakeState → IntakeState → Type 0

@@ -7,30 +7,30 @@ use Rattle.sequences.proofs.ListLaws.{AllByRecursion-append}
 use Rattle.ipfix_template.specs.declared.template.Template.{Template}
 use Rattle.ipfix_template.specs.Values.{record_text}
 use Rattle.ipfix_template.specs.DataRecord.{DataRecord, IsSound, IsKept, kept_record}
-use Rattle.ipfix_records.specs.Runs.{RunOf, IsKeptRun, records_of, records_in}
+use Rattle.ipfix_records.specs.Runs.{RunOf, IsKeptRun, run_records, records_of_runs}
 
 -- a record for each text
-pub length_records_of : (run : RunOf) → length (records_of run) ≡ length run.texts
+pub length_records_of : (run : RunOf) → length (run_records run) ≡ length run.texts
 length_records_of run = length-map run.texts (kept_record run.template)
 
-pub records_in_append : (runs others : List RunOf) → records_in (runs ++ others) ≡ records_in runs ++ records_in others
-records_in_append runs others = flat_map-append records_of runs others
+pub records_in_append : (runs others : List RunOf) → records_of_runs (runs ++ others) ≡ records_of_runs runs ++ records_of_runs others
+records_in_append runs others = flat_map-append run_records runs others
 
 -- one run more
-pub records_in_push : (runs : List RunOf) (run : RunOf) → records_in (runs ++ run ∷ []) ≡ records_in runs ++ records_of run
-records_in_push runs run = records_in_append runs (run ∷ []) ∙ ap (λ (rs : List DataRecord). records_in runs ++ rs) (append-nil (records_of run))
+pub records_in_push : (runs : List RunOf) (run : RunOf) → records_of_runs (runs ++ run ∷ []) ≡ records_of_runs runs ++ run_records run
+records_in_push runs run = records_in_append runs (run ∷ []) ∙ ap (λ (rs : List DataRecord). records_of_runs runs ++ rs) (append-nil (run_records run))
 
 -- records that are kept are sound
 pub kept_texts_sound : (t : Template) (texts : List (List ℕ)) → AllByRecursion (IsKept t) texts → AllByRecursion IsSound (map (kept_record t) texts)
 kept_texts_sound t [] kept = tt
 kept_texts_sound t (text ∷ texts) kept = (kept.0.sound, kept_texts_sound t texts kept.1)
 
-pub kept_run_sound : (run : RunOf) → IsKeptRun run → AllByRecursion IsSound (records_of run)
+pub kept_run_sound : (run : RunOf) → IsKeptRun run → AllByRecursion IsSound (run_records run)
 kept_run_sound run kept = kept_texts_sound run.template run.texts kept
 
-pub kept_runs_sound : (runs : List RunOf) → AllByRecursion IsKeptRun runs → AllByRecursion IsSound (records_in runs)
+pub kept_runs_sound : (runs : List RunOf) → AllByRecursion IsKeptRun runs → AllByRecursion IsSound (records_of_runs runs)
 kept_runs_sound [] kept = tt
-kept_runs_sound (run ∷ runs) kept = AllByRecursion-append IsSound (records_of run) (records_in runs) (kept_run_sound run kept.0) (kept_runs_sound runs kept.1)
+kept_runs_sound (run ∷ runs) kept = AllByRecursion-append IsSound (run_records run) (records_of_runs runs) (kept_run_sound run kept.0) (kept_runs_sound runs kept.1)
 
 -- the text of a record, as `encode_record` appends it
 abbrev pub text_of : DataRecord → List ℕ
@@ -42,7 +42,7 @@ texts_are_written t [] kept = refl
 texts_are_written t (text ∷ texts) kept =
     ap (λ (o : List ℕ). o ++ flat_map text_of (map (kept_record t) texts)) (sym kept.0.shortest) ∙ ap (λ (o : List ℕ). text ++ o) (texts_are_written t texts kept.1)
 
-pub run_is_written : (run : RunOf) → IsKeptRun run → flat_map text_of (records_of run) ≡ concat run.texts
+pub run_is_written : (run : RunOf) → IsKeptRun run → flat_map text_of (run_records run) ≡ concat run.texts
 run_is_written run kept = texts_are_written run.template run.texts kept
 
 -- what holds of all texts holds of the text at a place

@@ -14,9 +14,9 @@ abbrev pub IsKeptRun : RunOf → Type 0
 IsKeptRun run = AllByRecursion (IsKept run.template) run.texts
 
 -- its records
-abbrev pub records_of : RunOf → List DataRecord
-records_of run = map (kept_record run.template) run.texts
+abbrev pub run_records : RunOf → List DataRecord
+run_records run = map (kept_record run.template) run.texts
 
 -- the records of runs, one run after another
-abbrev pub records_in : List RunOf → List DataRecord
-records_in runs = flat_map records_of runs
+abbrev pub records_of_runs : List RunOf → List DataRecord
+records_of_runs runs = flat_map run_records runs

@@ -28,19 +28,19 @@ impl Model for Records {
     ghost use Rattle.std.specs.Prelude.{◌≡◌, ◌<◌, ◌^◌, List, length};
     ghost use Rattle.std.specs.List.{AllByRecursion};
     ghost use Rattle.ipfix_template.specs.DataRecord.{DataRecord};
-    ghost use Rattle.ipfix_records.specs.Runs.{records_in, IsKeptRun};
+    ghost use Rattle.ipfix_records.specs.Runs.{records_of_runs, IsKeptRun};
 
     ghost Value = { List DataRecord };
 
-    ghost view = { λ r. records_in r.runs.items };
+    ghost view = { λ r. records_of_runs r.runs.items };
 
-    ghost invariant = { λ r. (r.count ≡ length (records_in r.runs.items))
+    ghost invariant = { λ r. (r.count ≡ length (records_of_runs r.runs.items))
         × (r.count < 2 ^ 63) × AllByRecursion IsKeptRun r.runs.items };
 }
 
 impl Records {
     ghost use Rattle.ipfix_template.specs.DataRecord.{IsSound};
-    ghost use Rattle.ipfix_records.specs.Runs.{records_of, records_in, IsKeptRun};
+    ghost use Rattle.ipfix_records.specs.Runs.{run_records, records_of_runs, IsKeptRun};
 
     /// No record. What it comes to keep is taken from `alloc`.
     pub fn new(alloc: Global) -> Records
@@ -72,7 +72,7 @@ impl Records {
     /// The runs, one after another.
     #[tactic(auto, using(crate::proofs::RunLaws::kept_runs_sound))]
     pub fn runs(&self) -> &[Run]
-        ensures value { records_in result.now ≡ self.now }
+        ensures value { records_of_runs result.now ≡ self.now }
         ensures kept { AllByRecursion IsKeptRun result.now }
         ensures sound { AllByRecursion IsSound self.now }
     {
@@ -82,7 +82,7 @@ impl Records {
     /// The runs, one after another. Nothing is copied.
     #[tactic(auto, using(crate::proofs::RunLaws::kept_runs_sound))]
     pub fn into_runs(self) -> Vec<Run>
-        ensures value { records_in result.items ≡ self }
+        ensures value { records_of_runs result.items ≡ self }
         ensures kept { AllByRecursion IsKeptRun result.items }
         ensures sound { AllByRecursion IsSound self }
     {
@@ -95,7 +95,7 @@ impl Records {
     /// # Errors
     /// Want of memory, and then nothing has changed.
     pub fn push_run(&mut self, run: Run) -> Result<(), AllocError>
-        ensures ok { OnOk result (self.new ≡ self.old ++ records_of run) }
+        ensures ok { OnOk result (self.new ≡ self.old ++ run_records run) }
         ensures err { OnErr result (self.new ≡ self.old) }
     {
         let more = run.len();

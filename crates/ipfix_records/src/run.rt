@@ -39,7 +39,7 @@ impl Model for Run {
 impl Run {
     ghost use Rattle.ipfix_template.specs.DataRecord.{IsKept, kept_record};
     ghost use Rattle.ipfix_template.specs.Values.{record_text};
-    ghost use Rattle.ipfix_records.specs.Runs.{IsKeptRun, records_of};
+    ghost use Rattle.ipfix_records.specs.Runs.{IsKeptRun, run_records};
 
     /// The records of `template` that stand in `octets`, one after another. `ends` says for each
     /// where it ends, counted from the first octet of all. Nothing is copied, and it takes no
@@ -67,7 +67,7 @@ impl Run {
           template = single.template;
           texts = record_text single.template.fields single.values ∷ [];
         }) }
-        ensures records { IfOk result (λ run. records_of run ≡ single ∷ []) }
+        ensures records { IfOk result (λ run. run_records run ≡ single ∷ []) }
     {
         let end = single.octets() as u32;
         let mut ends = Vec::with_capacity(alloc, 1)?;
@@ -165,7 +165,7 @@ impl Run {
     /// # Errors
     /// Want of memory, and then some of the records may stand in the list.
     pub fn append_to(&self, list: &mut Vec<Record>) -> Result<(), AllocError>
-        ensures { OnOk result (list.new.items ≡ list.old.items ++ records_of self.now) }
+        ensures { OnOk result (list.new.items ≡ list.old.items ++ run_records self.now) }
     {
         for index in 0..self.len() {
             list.push(self.record(index)?)?;

@@ -17,7 +17,7 @@ use Rattle.ipfix_session.specs.Places.{Places, HasPlaces, Tabled, shown_of}
 use Rattle.ipfix_session.specs.Standing.{templates_of}
 use Rattle.ipfix_session.specs.Domains.{some_of, templates_in, some_templates, shown_tables, place_of, held_templates}
 use Rattle.ipfix_session.specs.Sharing.{tables_in}
-use Rattle.ipfix_session.specs.Expecting.{itself, shown_numbers, number_of}
+use Rattle.ipfix_session.specs.Expecting.{itself, shown_numbers, domain_number}
 use Rattle.ipfix_session.proofs.PlaceSteps.{shown-at}
 
 -- ---- what is kept
@@ -40,7 +40,7 @@ ordered_in (Shared shared) = (arc_value shared).ordered
 pub kept-tables : (t : Tables) (q : ℕ) → templates_of q (shown_tables (tables_in t)) ≡ held_templates (tables_in t) q
 kept-tables t q = kept-templates (tables_in t) q (ordered_in t)
 
-pub kept-number : (n : Numbers) (q : ℕ) → at_key q (shown_numbers n) ≡ number_of n q
+pub kept-number : (n : Numbers) (q : ℕ) → at_key q (shown_numbers n) ≡ domain_number n q
 kept-number n q = shown-at itself q n.by_domain.entries (IsDistinct-from_sorted nat_cmp (keys_of n.by_domain.entries) n.ordered)
 
 -- ---- the room that is made

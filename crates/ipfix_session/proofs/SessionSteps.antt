@@ -35,12 +35,12 @@ use Rattle.ipfix_session.specs.declared.numbers.Numbers.{Numbers}
 use Rattle.ipfix_session.specs.declared.tables.Tables.{Tables}
 use Rattle.ipfix_session.specs.Domains.{held_templates, Settles}
 use Rattle.ipfix_session.specs.Sharing.{tables_in, own_places, known_to}
-use Rattle.ipfix_session.specs.Expecting.{shown_numbers, number_of, has_number}
+use Rattle.ipfix_session.specs.Expecting.{shown_numbers, domain_number, has_number}
 use Rattle.ipfix_session.specs.Session.{standing_of, session_of}
 use Rattle.ipfix_session.specs.Unchanging.{BringsNoTemplate, BringNoTemplates, HasNoTemplates}
 use Rattle.ipfix_session.proofs.PlaceSteps.{among-keys}
 use Rattle.ipfix_session.proofs.DomainSteps.{kept-templates, kept-tables, kept-number}
-use Rattle.ipfix_session.specs.Answers.{is_memory, Fails, Gives, read_fault}
+use Rattle.ipfix_session.specs.Answers.{is_memory, FailsMeaning, GivesMeant, read_fault}
 use Rattle.ipfix_session.specs.Settling.{contents_read, afterwards}
 
 -- ---- octets that are no message
@@ -49,7 +49,7 @@ means_fault : (older : List (List ℕ)) (message : List ℕ) (d : DecodeError) �
 unfolding meaning_of contents_of
 means_fault older message d is = rw is refl
 
-no_items_fault : (older : List (List ℕ)) (message : List ℕ) (d : DecodeError) → items_of message ≡ Err d → Fails (read_fault d) (meaning_of older message)
+no_items_fault : (older : List (List ℕ)) (message : List ℕ) (d : DecodeError) → items_of message ≡ Err d → FailsMeaning (read_fault d) (meaning_of older message)
 no_items_fault older message decode.OutOfMemory is = tt
 no_items_fault older message decode.ShortHeader is = means_fault older message decode.ShortHeader is
 no_items_fault older message decode.BadVersion is = means_fault older message decode.BadVersion is
@@ -63,11 +63,11 @@ no_items d = Err d
 header_items : (message : List ℕ) (d : DecodeError) (header : Result Header DecodeError) → Err d ≡ header → after_header message header ≡ no_items d
 header_items message d header is = ap (after_header message) (sym is)
 
-pub header_fault : (older : List (List ℕ)) (message : List ℕ) (d : DecodeError) → Err d ≡ read_header message → Fails (read_fault d) (meaning_of older message)
+pub header_fault : (older : List (List ℕ)) (message : List ℕ) (d : DecodeError) → Err d ≡ read_header message → FailsMeaning (read_fault d) (meaning_of older message)
 unfolding items_of
 header_fault older message d is = no_items_fault older message d (header_items message d (read_header message) is)
 
-pub items_fault : (older : List (List ℕ)) (message : List ℕ) (d : DecodeError) → reading.Fails d (items_of message) → Fails (read_fault d) (meaning_of older message)
+pub items_fault : (older : List (List ℕ)) (message : List ℕ) (d : DecodeError) → reading.FailsDecoding d (items_of message) → FailsMeaning (read_fault d) (meaning_of older message)
 items_fault older message decode.OutOfMemory fails = tt
 items_fault older message decode.ShortHeader fails = no_items_fault older message decode.ShortHeader fails
 items_fault older message decode.BadVersion fails = no_items_fault older message decode.BadVersion fails
@@ -114,7 +114,7 @@ means_overrun : (older : List (List ℕ)) (message : List ℕ) (said : List Item
 unfolding meaning_of
 means_overrun older message said e is fails = rw (contents_are older message said is, fails) refl
 
-pub found_fault : (held : SessionStanding) (older : List (List ℕ)) (message : List ℕ) (h : Header) (said : List Item) (e : Fault) → Found held older message h said → ((done : List Item) → Keeps (kept_of h.domain held).templates done → Fails e (contents_after done message said)) → Fails e (meaning_of older message)
+pub found_fault : (held : SessionStanding) (older : List (List ℕ)) (message : List ℕ) (h : Header) (said : List Item) (e : Fault) → Found held older message h said → ((done : List Item) → Keeps (kept_of h.domain held).templates done → FailsMeaning e (contents_after done message said)) → FailsMeaning e (meaning_of older message)
 found_fault held older message h said e found fails = fails_along is_memory e (contents_after (before older message) message said) (meaning_of older message) (λ is. means_overrun older message said e found.items is) (fails (before older message) (keeps_before held older message h said found))
 
 abbrev pub meaning : Header → List DataRecord → Skips → Option Gap → Meaning
@@ -198,13 +198,13 @@ found_reading held older message h said r found reads keeps same gap_is next_is 
 
 -- the answer is the meaning, or the first fault
 pub read_means : (held : SessionStanding) (older : List (List ℕ)) (message : List ℕ) (h : Header) (said : List Item) (r : Result Ahead Fault) → Found held older message h said
-    → ((done : List Item) → Keeps (kept_of h.domain held).templates done → Gives contents_read r (contents_after done message said))
-    → IfOk r (λ x. x.meaning.header ≡ h) → IfOk r (λ x. x.meaning.gap ≡ gap_between (kept_of h.domain held).expected h.sequence) → Gives (λ x. x.meaning) r (meaning_of older message)
+    → ((done : List Item) → Keeps (kept_of h.domain held).templates done → GivesMeant contents_read r (contents_after done message said))
+    → IfOk r (λ x. x.meaning.header ≡ h) → IfOk r (λ x. x.meaning.gap ≡ gap_between (kept_of h.domain held).expected h.sequence) → GivesMeant (λ x. x.meaning) r (meaning_of older message)
 read_means held older message h said (Ok x) found reads same gap_is = found_meaning held older message h x.meaning.header said (contents_read x) x.meaning.gap found reads same gap_is
 read_means held older message h said (Err e) found reads same gap_is = found_fault held older message h said e found reads
 
 pub read_follows : (held : SessionStanding) (older : List (List ℕ)) (message : List ℕ) (h : Header) (said : List Item) (r : Result Ahead Fault) → Found held older message h said
-    → ((done : List Item) → Keeps (kept_of h.domain held).templates done → Gives contents_read r (contents_after done message said))
+    → ((done : List Item) → Keeps (kept_of h.domain held).templates done → GivesMeant contents_read r (contents_after done message said))
     → ((done : List Item) → Keeps (kept_of h.domain held).templates done → IfOk r (λ x. AreInForce (afterwards x (kept_of h.domain held).templates) (reverse said ++ done)))
     → IfOk r (λ x. x.meaning.header ≡ h) → IfOk r (λ x. x.meaning.gap ≡ gap_between (kept_of h.domain held).expected h.sequence) → IfOk r (λ x. x.next ≡ number_after h (contents_read x)) → IfOk r (IsReadingOf older message)
 read_follows held older message h said (Ok x) found reads keeps same gap_is next_is = found_reading held older message h said x found reads keeps same gap_is next_is
@@ -225,7 +225,7 @@ settled_by true q d here there target same h t = h ∙ ap target (sym (same refl
 settled_by false q d here there target same h t = t refl
 
 pub kept_stands : (old_numbers new_numbers : Numbers) (old new : Tables) (older : List (List ℕ)) (message : List ℕ) (r : Ahead)
-    → ((q : ℕ) → number_of new_numbers q ≡ cond (eqb q r.meaning.header.domain) r.next (number_of old_numbers q))
+    → ((q : ℕ) → domain_number new_numbers q ≡ cond (eqb q r.meaning.header.domain) r.next (domain_number old_numbers q))
     → Settles (tables_in old) (tables_in new) r.meaning.header.domain (afterwards r (held_templates (tables_in old) r.meaning.header.domain))
     → SessionStands (standing_of old_numbers old) older → IsReadingOf older message r → SessionStands (standing_of new_numbers new) (message ∷ older)
 kept_stands old_numbers new_numbers old new older message r numbers settles stands reading =
@@ -243,7 +243,7 @@ kept_stands old_numbers new_numbers old new older message r numbers settles stan
           (λ other. before_it q id ∙ ap (template_in_force id) (sym (other_items q message older (ap (eqb q) (sym own) ∙ other))));
       expected = λ q. kept-number new_numbers q
           ∙ numbers q
-          ∙ settled_by (eqb q d) q d r.next (number_of old_numbers q) (λ (n : ℕ). expected_number n (message ∷ older)) (eqb-true q d)
+          ∙ settled_by (eqb q d) q d r.next (domain_number old_numbers q) (λ (n : ℕ). expected_number n (message ∷ older)) (eqb-true q d)
           (reading.next ∙ ap (λ (n : ℕ). expected_number n (message ∷ older)) (sym own))
           (λ other. sym (kept-number old_numbers q) ∙ stands.expected q ∙ sym (other_number q message older (ap (eqb q) (sym own) ∙ other)));
     }
@@ -253,7 +253,7 @@ kept_stands old_numbers new_numbers old new older message r numbers settles stan
 pub templates_now : (n : Numbers) (t : Tables) (now : KeptSession) → session_of n t ≡ now → (domain : ℕ) → held_templates (tables_in t) domain ≡ templates_of domain now.standing.templates
 templates_now n t now is domain = sym (kept-tables t domain) ∙ ap (λ (s : KeptSession). templates_of domain s.standing.templates) is
 
-pub number_now : (n : Numbers) (t : Tables) (now : KeptSession) → session_of n t ≡ now → (domain : ℕ) → number_of n domain ≡ (kept_of domain now.standing).expected
+pub number_now : (n : Numbers) (t : Tables) (now : KeptSession) → session_of n t ≡ now → (domain : ℕ) → domain_number n domain ≡ (kept_of domain now.standing).expected
 number_now n t now is domain = sym (kept-number n domain) ∙ ap (λ (s : KeptSession). at_key domain s.standing.expected) is
 
 pub template_is : (n : Numbers) (t : Tables) (now : KeptSession) → session_of n t ≡ now → (domain id : ℕ) (messages : List (List ℕ)) → SessionStands now.standing messages → at_key id (held_templates (tables_in t) domain) ≡ template_in_force id (items_of_domain domain messages)
@@ -324,7 +324,7 @@ next_expected h c older message header contents =
     ∙ sym (own_number message older)
 
 -- one number that is set, as contracts see it
-pub numbers_noted : (old new : Numbers) (d : ℕ) (next past : Option ℕ) → next ≡ past → ((q : ℕ) → number_of new q ≡ cond (eqb q d) next (number_of old q)) → (q : ℕ) → at_key q (shown_numbers new) ≡ cond (eqb q d) past (at_key q (shown_numbers old))
+pub numbers_noted : (old new : Numbers) (d : ℕ) (next past : Option ℕ) → next ≡ past → ((q : ℕ) → domain_number new q ≡ cond (eqb q d) next (domain_number old q)) → (q : ℕ) → at_key q (shown_numbers new) ≡ cond (eqb q d) past (at_key q (shown_numbers old))
 numbers_noted old new d next past is numbers q = kept-number new q ∙ numbers q ∙ (λ i. cond (eqb q d) (is i) (sym (kept-number old q) i))
 
 -- what a session stands for where such a message is noted

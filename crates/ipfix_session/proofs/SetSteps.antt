@@ -14,7 +14,7 @@ use Rattle.ipfix_template.specs.Shown.{Measures, IsMeasuredBy}
 use Rattle.ipfix_template.specs.DataRecord.{DataRecord, IsSound, IsKept, kept_record}
 use Rattle.ipfix_template.proofs.TextLaws.{kept_is, kept_from}
 use Rattle.ipfix_records.specs.Pieces.{pieces, AreEnds}
-use Rattle.ipfix_records.specs.Runs.{RunOf, records_of}
+use Rattle.ipfix_records.specs.Runs.{RunOf, run_records}
 use Rattle.ipfix_records.proofs.PieceLaws.{length_pieces, ends_push, pieces_push, pieces_written, pieces_longer, place_within, place_shows, next_end}
 use Rattle.ipfix_records.proofs.RunLaws.{all_at}
 use Rattle.ipfix_session.specs.declared.fault.Fault.{Fault as ReadError}
@@ -131,7 +131,7 @@ rows_recorded : (t : Template) (texts : List (List ℕ)) → map (kept_record t)
 rows_recorded t [] = refl
 rows_recorded t (text ∷ texts) = ap (λ (rs : List DataRecord). kept_record t text ∷ rs) (rows_recorded t texts)
 
-pub run_added : (t : Template) (content : List ℕ) (found : RecordEnds) (old new : List DataRecord) (run : RunOf) → FindsEnds t content (Ok found) → records_of run ≡ map (kept_record t) (pieces content 0 found.ends.items) → new ≡ old ++ records_of run → AddsRecords t content old new (Ok tt)
+pub run_added : (t : Template) (content : List ℕ) (found : RecordEnds) (old new : List DataRecord) (run : RunOf) → FindsEnds t content (Ok found) → run_records run ≡ map (kept_record t) (pieces content 0 found.ends.items) → new ≡ old ++ run_records run → AddsRecords t content old new (Ok tt)
 run_added t content found old new run finds is added =
     (rows_of_texts t (pieces content 0 found.ends.items), finds.1, added ∙ ap (λ (rs : List DataRecord). old ++ rs) (is ∙ rows_recorded t (pieces content 0 found.ends.items)))
 
@@ -226,19 +226,19 @@ rewrites_more t content ends text octets written more new_octets new_written i s
           ∙ ap (map (kept_record t)) (sym (take_more texts i [] some));
     }
 
-pub rewrites_all : (t d : Template) (content ends octets bytes written : List ℕ) (i start : ℕ) (run : RunOf) → run ≡ record { template = d; texts = pieces bytes 0 written } → d ≡ t → bytes ≡ octets → length ends ≤ i → Rewrites t content ends octets written i start → records_of run ≡ map (kept_record t) (pieces content 0 ends)
+pub rewrites_all : (t d : Template) (content ends octets bytes written : List ℕ) (i start : ℕ) (run : RunOf) → run ≡ record { template = d; texts = pieces bytes 0 written } → d ≡ t → bytes ≡ octets → length ends ≤ i → Rewrites t content ends octets written i start → run_records run ≡ map (kept_record t) (pieces content 0 ends)
 rewrites_all t d content ends octets bytes written i start run is same is-bytes le done =
     let texts = pieces content 0 ends in
-    ap records_of is
+    ap run_records is
     ∙ ap (λ (x : Template). map (kept_record x) (pieces bytes 0 written)) same
     ∙ ap (λ (o : List ℕ). map (kept_record t) (pieces o 0 written)) is-bytes
     ∙ done.same
     ∙ ap (map (kept_record t)) (take_all i texts (omega (arith, le, length_pieces content 0 ends)))
 
 -- cut from the content
-pub run_cut : (t d : Template) (content octets ends : List ℕ) (run : RunOf) → run ≡ record { template = d; texts = pieces octets 0 ends } → d ≡ t → pieces octets 0 ends ≡ pieces content 0 ends → records_of run ≡ map (kept_record t) (pieces content 0 ends)
+pub run_cut : (t d : Template) (content octets ends : List ℕ) (run : RunOf) → run ≡ record { template = d; texts = pieces octets 0 ends } → d ≡ t → pieces octets 0 ends ≡ pieces content 0 ends → run_records run ≡ map (kept_record t) (pieces content 0 ends)
 run_cut t d content octets ends run is same cut =
-    ap records_of is ∙ ap (λ (x : Template). map (kept_record x) (pieces octets 0 ends)) same ∙ ap (map (kept_record t)) cut
+    ap run_records is ∙ ap (λ (x : Template). map (kept_record x) (pieces octets 0 ends)) same ∙ ap (map (kept_record t)) cut
 
 -- ---- along what a call was handed
 

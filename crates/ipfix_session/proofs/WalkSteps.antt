@@ -19,7 +19,7 @@ use Rattle.ipfix_session.specs.Contents.{Contents, nothing, skips_of, both, only
 use Rattle.ipfix_session.specs.Keeping.{AreInForce}
 use Rattle.ipfix_session.specs.declared.changes.Changes.{Changes}
 use Rattle.ipfix_session.specs.Changing.{after}
-use Rattle.ipfix_session.specs.Answers.{is_memory, Fails}
+use Rattle.ipfix_session.specs.Answers.{is_memory, FailsMeaning}
 use Rattle.ipfix_session.specs.Walking.{AddsContents, SkipsAtMost}
 use Rattle.ipfix_session.specs.DataSets.{AddsRecords}
 
@@ -175,7 +175,7 @@ unfolding contents_after
 fault_is message found item rest so_far older said e walks is =
     sym walks.read ∙ ap (λ (r : Result Contents Fault). with_contents so_far (r >>= λ f. contents_after (item ∷ walks.done) message rest >>= λ o. Ok (both f o))) is
 
-pub walks_fault : (message : List ℕ) (found : ℕ → Option Template) (item : Item) (rest : List Item) (so_far : Contents) (older said : List Item) (e : Fault) → ((done : List Item) → AreInForce found done → Fails e (item_contents done message item)) → Walks message found (item ∷ rest) so_far older said → Fails e (contents_after older message said)
+pub walks_fault : (message : List ℕ) (found : ℕ → Option Template) (item : Item) (rest : List Item) (so_far : Contents) (older said : List Item) (e : Fault) → ((done : List Item) → AreInForce found done → FailsMeaning e (item_contents done message item)) → Walks message found (item ∷ rest) so_far older said → FailsMeaning e (contents_after older message said)
 walks_fault message found item rest so_far older said e fails walks = fails_along is_memory e (item_contents walks.done message item) (contents_after older message said) (λ is. fault_is message found item rest so_far older said e walks is) (fails walks.done walks.keeps)
 
 pub walks_read : (message : List ℕ) (found : ℕ → Option Template) (so_far : Contents) (older said : List Item) → Walks message found [] so_far older said → contents_after older message said ≡ Ok so_far

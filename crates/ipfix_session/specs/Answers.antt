@@ -34,8 +34,8 @@ is_memory (Malformed why) = false
 is_memory RecordOverrun = false
 
 -- a fault is the one that is read
-abbrev pub Fails : {Y : Type 0} → Fault → Result Y Fault → Type 0
-Fails e read = FailsBut is_memory e read
+abbrev pub FailsMeaning : {Y : Type 0} → Fault → Result Y Fault → Type 0
+FailsMeaning e read = FailsBut is_memory e read
 
 -- a header that is refused is answered by its fault, and by no other
 abbrev pub NamesFault : {X Y : Type 0} → Result X DecodeError → Result Y Fault → Type 0
@@ -43,5 +43,5 @@ NamesFault (Ok header) answer = Unit {0}
 NamesFault (Err fault) answer = answer ≡ Err (read_fault fault)
 
 -- what is read is answered
-abbrev pub Gives : {X Y : Type 0} → (X → Y) → Result X Fault → Result Y Fault → Type 0
-Gives view answer read = GivesBut is_memory view answer read
+abbrev pub GivesMeant : {X Y : Type 0} → (X → Y) → Result X Fault → Result Y Fault → Type 0
+GivesMeant view answer read = GivesBut is_memory view answer read

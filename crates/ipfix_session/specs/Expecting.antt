@@ -14,8 +14,8 @@ abbrev pub shown_numbers : Numbers → List (ℕ × ℕ)
 shown_numbers n = shown_in itself n.by_domain.entries
 
 -- the number of a domain
-abbrev pub number_of : Numbers → ℕ → Option ℕ
-number_of n domain = shown_of itself (at_key domain n.by_domain.entries)
+abbrev pub domain_number : Numbers → ℕ → Option ℕ
+domain_number n domain = shown_of itself (at_key domain n.by_domain.entries)
 
 -- whether a domain has a place for its number
 abbrev pub has_number : Numbers → ℕ → Bool

@@ -3,7 +3,7 @@ ghost use Rattle.std.specs.Prelude.{◌≡◌, true, map, IfOk};
 ghost use Rattle.std.specs.Arc.{arc_value};
 ghost use Rattle.ipfix_template.specs.DataRecord.{FitsOneMessage, kept_record};
 ghost use Rattle.ipfix_records.specs.Pieces.{pieces};
-ghost use Rattle.ipfix_records.specs.Runs.{records_of};
+ghost use Rattle.ipfix_records.specs.Runs.{run_records};
 ghost use Rattle.ipfix_session.specs.Keeping.{IsKeepable};
 ghost use Rattle.ipfix_session.specs.DataSets.{AddsRecords, AreFound, FindsEnds};
 
@@ -90,7 +90,7 @@ fn run_of(
 ) -> Result<Run, AllocError>
     requires fits { FitsOneMessage content.now }
     requires found { AreFound (arc_value template.now) content.now found }
-    ensures { IfOk result (λ run. records_of run
+    ensures { IfOk result (λ run. run_records run
         ≡ map (kept_record (arc_value template.now)) (pieces content.now 0 found.ends.items)) }
 {
     if found.is_shortest {
@@ -109,7 +109,7 @@ fn written_anew(
 ) -> Result<Run, AllocError>
     requires fits { FitsOneMessage content.now }
     requires found { AreFound (arc_value template.now) content.now found.now }
-    ensures { IfOk result (λ run. records_of run
+    ensures { IfOk result (λ run. run_records run
         ≡ map (kept_record (arc_value template.now)) (pieces content.now 0 found.now.ends.items)) }
 {
     let mut octets = Vec::with_capacity(alloc, content.len())?;

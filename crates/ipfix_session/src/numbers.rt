@@ -16,7 +16,7 @@ pub(crate) struct Numbers {
 }
 
 impl Numbers {
-    ghost use Rattle.ipfix_session.specs.Expecting.{shown_numbers, number_of, has_number};
+    ghost use Rattle.ipfix_session.specs.Expecting.{shown_numbers, domain_number, has_number};
 
     /// No number.
     pub(crate) fn new(alloc: Global) -> Numbers
@@ -29,7 +29,7 @@ impl Numbers {
 
     /// The number expected of a domain.
     pub(crate) fn get(&self, domain: u32) -> Option<u32>
-        ensures { result ≡ number_of self.now domain }
+        ensures { result ≡ domain_number self.now domain }
     {
         match self.by_domain.get(&domain) {
             Some(number) => *number,
@@ -57,7 +57,7 @@ impl Numbers {
     /// Want of memory, and then no number is changed.
     pub(crate) fn set(&mut self, domain: u32, number: Option<u32>) -> Result<(), AllocError>
         ensures ok { OnOk result ((q : ℕ)
-            → number_of self.new q ≡ (if q == domain then number else number_of self.old q)) }
+            → domain_number self.new q ≡ (if q == domain then number else domain_number self.old q)) }
         ensures err { OnErr result (shown_numbers self.new ≡ shown_numbers self.old) }
     {
         self.by_domain.insert(domain, number)?;
@@ -68,7 +68,7 @@ impl Numbers {
     pub(crate) fn fill(&mut self, domain: u32, number: Option<u32>)
         requires { has_number self.old domain ≡ true }
         ensures { (q : ℕ)
-            → number_of self.new q ≡ (if q == domain then number else number_of self.old q) }
+            → domain_number self.new q ≡ (if q == domain then number else domain_number self.old q) }
     {
         if let Some(place) = self.by_domain.get_mut(&domain) {
             *place = number;

@@ -12,7 +12,7 @@ ghost use Rattle.ipfix_session.specs.Standing.{kept_of, templates_of, StandsFor,
 ghost use Rattle.ipfix_session.specs.Unchanging.{HasNoTemplates};
 ghost use Rattle.ipfix_session.specs.ReadAhead.{IsReadingOf, HasRoomFor};
 ghost use Rattle.ipfix_message.specs.Reading as decoding;
-ghost use Rattle.ipfix_session.specs.Answers.{Gives, NamesFault, as_meaning};
+ghost use Rattle.ipfix_session.specs.Answers.{GivesMeant, NamesFault, as_meaning};
 ghost use Rattle.ipfix_session.specs.Settling.{contents_read, afterwards};
 
 use crate::changes::Changes;
@@ -114,7 +114,7 @@ impl Session {
     pub fn apply(&mut self, message: &[u8]) -> Result<Read, Fault>
         // The answer is what the message means after those before it, or its first fault.
         ensures meaning { (older : List (List ℕ)) → StandsFor self.old older
-            → Gives as_meaning result (meaning_of older message.now) }
+            → GivesMeant as_meaning result (meaning_of older message.now) }
         // After it the session stands for those messages and this one.
         ensures stands { (older : List (List ℕ)) → StandsFor self.old older
             → OnOk result (StandsFor self.new (message.now ∷ older)) }
@@ -140,7 +140,7 @@ impl Session {
     pub fn read(&self, message: &Bytes) -> Result<Reading, Fault>
         // The answer is what the message means after those before it, or its first fault.
         ensures meaning { (older : List (List ℕ)) → StandsFor self.now older
-            → Gives (λ r. r.meaning) result (meaning_of older message.now) }
+            → GivesMeant (λ r. r.meaning) result (meaning_of older message.now) }
         ensures reading { (older : List (List ℕ)) → StandsFor self.now older
             → IfOk result (IsReadingOf older message.now) }
         // No memory is taken for a header, so that one that is refused is named by its fault alone.
@@ -315,7 +315,7 @@ impl Session {
         // templates in force.
         ensures reads { (older : List Item)
             → Keeps (kept_of header.domain self.now.standing).templates older
-            → Gives contents_read result (contents_after older message.now said.items) }
+            → GivesMeant contents_read result (contents_after older message.now said.items) }
         ensures keeps { (older : List Item)
             → Keeps (kept_of header.domain self.now.standing).templates older
             → IfOk result (λ r. AreInForce

@@ -10,7 +10,7 @@ ghost use Rattle.ipfix_session.specs.Meaning.{domain_of, contents_of};
 ghost use Rattle.ipfix_session.specs.Keeping.{at_key, Keeps, StandIn};
 ghost use Rattle.ipfix_session.specs.Standing.{templates_of, Knows};
 ghost use Rattle.ipfix_session.specs.Domains.{shown_tables};
-ghost use Rattle.ipfix_session.specs.Answers.{Gives, as_contents};
+ghost use Rattle.ipfix_session.specs.Answers.{GivesMeant, as_contents};
 
 use crate::by_domain::ByDomain;
 use crate::contents::Contents;
@@ -93,11 +93,11 @@ impl Templates {
         requires said { items_of message.now ≡ Ok said.items }
         // The answer is what the message holds after those messages, or its first fault.
         ensures messages { (older : List (List ℕ)) → Knows self.now older
-            → Gives as_contents result (contents_of older message.now) }
+            → GivesMeant as_contents result (contents_of older message.now) }
         // So it is after any items that leave these templates in force.
         ensures items { (older : List Item)
             → Keeps (templates_of (domain_of message.now) self.now) older
-            → Gives as_contents result (contents_after older message.now said.items) }
+            → GivesMeant as_contents result (contents_after older message.now said.items) }
     {
         let octets: &[u8] = message;
         let header = read_header(octets)?;
@@ -109,7 +109,7 @@ impl Templates {
         requires few { length message.now ≤ longest_message }
         requires stand { StandIn (length message.now) said.items }
         ensures { (older : List Item) → Keeps (templates_of domain self.now) older
-            → Gives as_contents result (contents_after older message.now said.items) }
+            → GivesMeant as_contents result (contents_after older message.now said.items) }
     {
         let empty = Table::new(self.alloc);
         let base = self.tables.table(domain, &empty);

@@ -4,7 +4,7 @@ ghost use Rattle.ipfix_octets.specs.MessageFormat.{longest_message, header_octet
 ghost use Rattle.ipfix_message.specs.declared.item.Item.{Item};
 ghost use Rattle.ipfix_session.specs.Contents.{set_contents, item_contents, contents_after};
 ghost use Rattle.ipfix_session.specs.Keeping.{Keeps, AreInForce, MayStandIn, StandIn};
-ghost use Rattle.ipfix_session.specs.Answers.{Gives};
+ghost use Rattle.ipfix_session.specs.Answers.{GivesMeant};
 ghost use Rattle.ipfix_session.specs.Walking.{contents_in, AddsContents, SkipsAtMost};
 ghost use Rattle.ipfix_session.specs.Changing.{after};
 
@@ -41,7 +41,7 @@ pub(crate) fn walk_items(
     requires few { length message.now ≤ longest_message }
     requires stand { StandIn (length message.now) said.items }
     ensures reads { (older : List Item) → Keeps base.now.templates older
-        → Gives contents_in result (contents_after older message.now said.items) }
+        → GivesMeant contents_in result (contents_after older message.now said.items) }
     ensures keeps { (older : List Item) → Keeps base.now.templates older
         → IfOk result
         (λ w. AreInForce (after w.changes base.now.templates) (reverse said.items ++ older)) }

@@ -12,7 +12,7 @@ use Rattle.mediator_state.specs.declared.fault.Fault.{Fault}
 use Rattle.mediator_state.specs.declared.fault.Fault.TheVariants as fault
 use Rattle.mediator_calls.specs.Limited.{RefusesLimits}
 use Rattle.replay_text.specs.declared.call_list.CallList.{CallList}
-use Rattle.replay_text.specs.Lists.{asked_calls, list_of}
+use Rattle.replay_text.specs.Lists.{asked_calls, calls_of_text}
 use Rattle.replay_text.specs.Answers.{answers_text}
 use Rattle.mediator_core.specs.declared.transcript.Transcript.{Transcript}
 use Rattle.ipmd_commands.specs.Status.{mediator_fault_of}
@@ -20,7 +20,7 @@ use Rattle.ipmd_commands.specs.HexText.{WritesSomeOf}
 use Rattle.ipmd.specs.Replays.{BeginsToAnswer, RefusesText, RefusesToReplay, Replays, RunsText}
 
 -- its limits are at fault, or memory ran out
-pub no_run : (text : List ℕ) (list : CallList) (why : Fault) → list_of text ≡ Ok (asked_calls list) → RefusesLimits why list.limits → RefusesText (mediator_fault_of why) text
+pub no_run : (text : List ℕ) (list : CallList) (why : Fault) → calls_of_text text ≡ Ok (asked_calls list) → RefusesLimits why list.limits → RefusesText (mediator_fault_of why) text
 no_run text list fault.BadLimits read refused = record { list = list; read = read; bad = refused }
 no_run text list fault.OutOfMemory read refused = tt
 no_run text list _ read refused = absurd refused

@@ -4,7 +4,7 @@ use Rattle.std.specs.Io.KnownBytes.{Appends, Keeps}
 use Rattle.mediator_state.specs.declared.fault.Fault.TheVariants as fault
 use Rattle.mediator_calls.specs.Limited.{AreAllowed}
 use Rattle.replay_text.specs.declared.call_list.CallList.{CallList}
-use Rattle.replay_text.specs.Lists.{asked_calls, list_of}
+use Rattle.replay_text.specs.Lists.{asked_calls, calls_of_text}
 use Rattle.replay_text.specs.Answers.{answers_text}
 use Rattle.mediator_core.specs.declared.transcript.Transcript.{Transcript}
 use Rattle.mediator_core.specs.Headline.{IsRunOf, HistoryIsTheCalls, HandedIsDisclosed, HandedIsFront, DrainedIsAudited, AnsweredIsFromDisclosed}
@@ -19,7 +19,7 @@ use Rattle.ipmd_commands.specs.HexText.{WritesSomeOf}
 -- run holds of it.
 pub record RunsText (text : List ℕ) (t : Transcript) : Type 0 where
   pub list : CallList
-  pub read : list_of text ≡ Ok (asked_calls list)
+  pub read : calls_of_text text ≡ Ok (asked_calls list)
   pub steps : IsRunOf list.limits list.calls.items t
   pub history : HistoryIsTheCalls list.calls.items t
   pub disclosed : HandedIsDisclosed list.calls.items t
@@ -30,12 +30,12 @@ pub record RunsText (text : List ℕ) (t : Transcript) : Type 0 where
 -- the text lists calls whose limits no mediator may have
 pub record HasBadLimits (text : List ℕ) : Type 0 where
   pub list : CallList
-  pub read : list_of text ≡ Ok (asked_calls list)
+  pub read : calls_of_text text ≡ Ok (asked_calls list)
   pub bad : AreAllowed list.limits → ⊥
 
 -- why no call of a text is made: its first line that asks for nothing, its limits, or want of memory
 abbrev pub RefusesText : ProgramFault → List ℕ → Type 0
-RefusesText (Calls n) text = list_of text ≡ Err n
+RefusesText (Calls n) text = calls_of_text text ≡ Err n
 RefusesText (Mediator fault.BadLimits) text = HasBadLimits text
 RefusesText OutOfMemory text = Unit {0}
 RefusesText (CommandLine e) text = ⊥

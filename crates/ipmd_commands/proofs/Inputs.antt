@@ -15,15 +15,15 @@ use Rattle.mediator_offline.specs.declared.job.OfflineReport.{OfflineReport}
 use Rattle.std.specs.Borrow.{Bor}
 use Rattle.ipmd_command_line.specs.declared.task.OfflineOptions.{OfflineOptions}
 use Rattle.ipmd_commands.specs.declared.fault.Fault.{Fault}
-use Rattle.ipmd_commands.specs.HexText.{SpelledBy, lines_of, WritesLines, WritesSomeLines}
+use Rattle.ipmd_commands.specs.HexText.{SpelledBy, hex_lines, WritesLines, WritesSomeLines}
 use Rattle.ipmd_commands.proofs.Lines.{all_written, kept}
 use Rattle.ipmd_commands.specs.Runs.{AskedJob, FinishesInput, FinishesLines, FinishesOn, IsSourceText, EndsOn, EndsOver, FailsLines, FailsOn, RefusesInput, StopsHexLines, StopsOnFault}
 
 -- a stream over memory, which was empty, is the messages that were written, and so its lines are theirs
 due_lines : (job : OfflineJob) (report : OfflineReport) (octets stream : List ℕ) (held holds audit_held audit_holds : Option (List ℕ))
-    (done : FinishesOn job report (Some octets) (writer_of (Some []) (Some stream)) (writer_of audit_held audit_holds)) → WritesLines stream held holds → Appends held holds (lines_of done.filters.done.written)
+    (done : FinishesOn job report (Some octets) (writer_of (Some []) (Some stream)) (writer_of audit_held audit_holds)) → WritesLines stream held holds → Appends held holds (hex_lines done.filters.done.written)
 due_lines job report octets stream held holds audit_held audit_holds done lines =
-    subst (λ ms. Appends held holds (lines_of ms))
+    subst (λ ms. Appends held holds (hex_lines ms))
     (meant_are_cut done.filters.done.written lines.messages (disclosed_by job done.filters.messages) lines.cut.0 lines.cut.1 done.filters.done.filters.means
     (subst (λ s. IsFramed s lines.messages lines.cut.0 lines.cut.1) (joined done.after.outputs.written done.filters.done.writes.stream done.flushed) lines.cut.2))
     lines.written
@@ -77,7 +77,7 @@ ends_over job octets stream (Err e) before after audit_held audit_holds empty fi
     inr (e, subst₂ (λ b a. FailsOn e job (Some octets) (writer_of b a) (writer_of audit_held audit_holds)) empty filled fails)
 
 pub whole_lines : (stream : List ℕ) (held holds : Option (List ℕ)) → WritesLines stream held holds → WritesSomeLines stream held holds
-whole_lines stream held holds lines = inr (record { messages = lines.messages; cut = lines.cut; written = all_written held holds holds (lines_of lines.messages) lines.written (kept holds) })
+whole_lines stream held holds lines = inr (record { messages = lines.messages; cut = lines.cut; written = all_written held holds holds (hex_lines lines.messages) lines.written (kept holds) })
 
 pub fails_lines : (job : OfflineJob) (e : Fault) (octets stream : List ℕ) (before after held holds audit_held audit_holds : Option (List ℕ)) → before ≡ Some [] → after ≡ Some stream
     → EndsOver job octets stream (writer_of audit_held audit_holds) → WritesLines stream held holds → FailsOn e job (Some octets) (writer_of before after) (writer_of audit_held audit_holds)

@@ -11,14 +11,14 @@ use Rattle.ipfix_message.specs.declared.fault.Fault.{Fault as DecodeError}
 use Rattle.ipfix_message.specs.Framing.{IsWhole, IsFramed}
 use Rattle.ipfix_message.specs.FramerState.{FramerState, nothing_fed, FeedGoesOn, HasFault}
 use Rattle.ipfix_message.proofs.FramerLaws.{all_framed}
-use Rattle.ipmd_commands.specs.HexText.{AreMessagesOf, line_of, lines_of, WritesSomeOf}
+use Rattle.ipmd_commands.specs.HexText.{AreMessagesOf, hex_line, hex_lines, WritesSomeOf}
 
 lines_turn : (messages : List (List ℕ)) (i : ℕ) (message : List ℕ) → i < length messages → message ≡ get_or messages i message
-    → lines_of (take (i + 1) messages) ≡ lines_of (take i messages) ++ line_of message
+    → hex_lines (take (i + 1) messages) ≡ hex_lines (take i messages) ++ hex_line message
 lines_turn messages i message low is =
-    ap lines_of (take_more messages i message low ∙ ap (λ m. take i messages ++ m ∷ []) (sym is))
-    ∙ flat_map-append line_of (take i messages) (message ∷ [])
-    ∙ ap (λ t. lines_of (take i messages) ++ t) (append-nil (line_of message))
+    ap hex_lines (take_more messages i message low ∙ ap (λ m. take i messages ++ m ∷ []) (sym is))
+    ∙ flat_map-append hex_line (take i messages) (message ∷ [])
+    ∙ ap (λ t. hex_lines (take i messages) ++ t) (append-nil (hex_line message))
 
 -- nothing is no message, and no fault
 nothing_is_framed : IsFramed [] [] None []
@@ -44,25 +44,25 @@ pub front_written : (held holds : Option (List ℕ)) (due : List ℕ) (n : ℕ) 
 front_written held holds due n failed front = (n, front.written)
 
 -- some lines, and then nothing more, or a front of the next one
-lines_of-take : (messages : List (List ℕ)) (i : ℕ) → lines_of messages ≡ lines_of (take i messages) ++ lines_of (drop i messages)
-lines_of-take messages i = ap lines_of (sym (take-append-drop i messages)) ∙ flat_map-append line_of (take i messages) (drop i messages)
+lines_of-take : (messages : List (List ℕ)) (i : ℕ) → hex_lines messages ≡ hex_lines (take i messages) ++ hex_lines (drop i messages)
+lines_of-take messages i = ap hex_lines (sym (take-append-drop i messages)) ∙ flat_map-append hex_line (take i messages) (drop i messages)
 
 -- whole lines
-pub some_lines : (held holds : Option (List ℕ)) (messages : List (List ℕ)) (i : ℕ) → Appends held holds (lines_of (take i messages)) → WritesSomeOf (lines_of messages) held holds
+pub some_lines : (held holds : Option (List ℕ)) (messages : List (List ℕ)) (i : ℕ) → Appends held holds (hex_lines (take i messages)) → WritesSomeOf (hex_lines messages) held holds
 some_lines held holds messages i written =
-    let front = lines_of (take i messages) in
-    let rest = lines_of (drop i messages) in
+    let front = hex_lines (take i messages) in
+    let rest = hex_lines (drop i messages) in
     (length front, subst (Appends held holds) (sym (ap (take (length front)) (lines_of-take messages i) ∙ take-append_seam front rest)) written)
 
 -- whole lines, and a front of the next one
 pub line_begun : (held now after : Option (List ℕ)) (messages : List (List ℕ)) (i : ℕ) (message line : List ℕ) → i < length messages → message ≡ get_or messages i message
-    → line ≡ line_of message → Appends held now (lines_of (take i messages)) → WritesSomeOf line now after → WritesSomeOf (lines_of messages) held after
+    → line ≡ hex_line message → Appends held now (hex_lines (take i messages)) → WritesSomeOf line now after → WritesSomeOf (hex_lines messages) held after
 line_begun held now after messages i message line low is same before (n, begun) =
     let sent = min n (length line) in
-    let front = lines_of (take i messages) in
-    let rest = lines_of (drop (i + 1) messages) in
-    let whole : lines_of messages ≡ front ++ (line ++ rest) =
+    let front = hex_lines (take i messages) in
+    let rest = hex_lines (drop (i + 1) messages) in
+    let whole : hex_lines messages ≡ front ++ (line ++ rest) =
     lines_of-take messages (i + 1) ∙ ap (λ t. t ++ rest) (lines_turn messages i message low is ∙ ap (λ l. front ++ l) (sym same)) ∙ append_assoc front line rest in
-    let begins : take (length front + sent) (lines_of messages) ≡ front ++ take n line =
+    let begins : take (length front + sent) (hex_lines messages) ≡ front ++ take n line =
     ap (take (length front + sent)) whole ∙ take-append-add front (line ++ rest) sent ∙ ap (λ t. front ++ t) (take-append-le sent line rest (omega arith)) ∙ ap (λ t. front ++ t) (take_min n line) in
     (length front + sent, subst (Appends held after) (sym begins) (Appends-trans held now after front (take n line) before begun))

@@ -5,7 +5,7 @@ use Rattle.std.specs.Io.KnownBytes.{Appends}
 use Rattle.std.proofs.KnownBytes.{Appends-trans}
 use Rattle.octet_io.specs.Failing.{FailsOnErr}
 use Rattle.ipmd_commands.specs.declared.fault.Fault.{Fault}
-use Rattle.ipmd_commands.specs.Failures.{line_of, plain}
+use Rattle.ipmd_commands.specs.Failures.{failure_line, plain}
 use Rattle.ipmd_commands.specs.Status.{Blames, NamesDevice, TellsLine, line_of_fault}
 
 pub told : {X E : Type 0} (result : Result X E) (had_failed has_failed : Bool) (held holds : Option (List ℕ)) (text line : List ℕ)
@@ -25,6 +25,6 @@ blames e failed has_failed held now holds names stays tells = λ sound.
     joined note noted (Some line) told = Appends-trans held now holds note line noted told
 
 -- a line is made of a name and of what is said of it
-pub made_of : (name why shown said : List ℕ) → shown ≡ plain name → said ≡ plain why → codes "ipmd: " ++ (shown ++ (codes ": " ++ (said ++ 10 ∷ []))) ≡ line_of name why
+pub made_of : (name why shown said : List ℕ) → shown ≡ plain name → said ≡ plain why → codes "ipmd: " ++ (shown ++ (codes ": " ++ (said ++ 10 ∷ []))) ≡ failure_line name why
 made_of name why shown said shows says =
     subst₂ (λ n w. codes "ipmd: " ++ (shown ++ (codes ": " ++ (said ++ 10 ∷ []))) ≡ codes "ipmd: " ++ n ++ codes ": " ++ w ++ 10 ∷ []) shows says (simp append_assoc)

@@ -11,13 +11,13 @@ use Rattle.ipmd_commands.specs.declared.fault.Fault.{Fault}
 use Rattle.ipmd_commands.specs.declared.fault.Fault.TheVariants as fault
 
 -- what the program calls it
-abbrev pub name_of : Place → List ℕ
-name_of CommandLine = codes "command line"
-name_of Input = codes "standard input"
-name_of Output = codes "standard output"
-name_of (File path) = string_bytes path
-name_of RandomNumbers = codes "random numbers"
-name_of Threads = codes "threads"
+abbrev pub place_name : Place → List ℕ
+place_name CommandLine = codes "command line"
+place_name Input = codes "standard input"
+place_name Output = codes "standard output"
+place_name (File path) = string_bytes path
+place_name RandomNumbers = codes "random numbers"
+place_name Threads = codes "threads"
 
 -- a character, but for one that could end the line: a question mark (63) stands for that
 abbrev pub plain_char : ℕ → ℕ
@@ -27,12 +27,12 @@ abbrev pub plain : List ℕ → List ℕ
 plain text = encode_utf8_all (map plain_char (chars text))
 
 -- a name and what is said of it, and a line feed (10)
-abbrev pub line_of : List ℕ → List ℕ → List ℕ
-line_of name why = codes "ipmd: " ++ plain name ++ codes ": " ++ plain why ++ 10 ∷ []
+abbrev pub failure_line : List ℕ → List ℕ → List ℕ
+failure_line name why = codes "ipmd: " ++ plain name ++ codes ": " ++ plain why ++ 10 ∷ []
 
 -- which it was, and some text of why: that is the system's, which isn't told here
 abbrev pub IsFailureLine : Failure → List ℕ → Type 0
-IsFailureLine failure line = (why : List ℕ) × (line ≡ line_of (name_of failure.place) why)
+IsFailureLine failure line = (why : List ℕ) × (line ≡ failure_line (place_name failure.place) why)
 
 -- ---- which it was
 

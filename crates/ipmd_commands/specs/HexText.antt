@@ -19,11 +19,11 @@ abbrev pub SpellsNothing : List ℕ → Type 0
 SpellsNothing text = IsErr (decode_of (filter is_no_white_space text))
 
 -- a message as a line: its digits in lower case, and a line feed (10)
-abbrev pub line_of : List ℕ → List ℕ
-line_of message = encode_lower message ++ 10 ∷ []
+abbrev pub hex_line : List ℕ → List ℕ
+hex_line message = encode_lower message ++ 10 ∷ []
 
-abbrev pub lines_of : List (List ℕ) → List ℕ
-lines_of messages = flat_map line_of messages
+abbrev pub hex_lines : List (List ℕ) → List ℕ
+hex_lines messages = flat_map hex_line messages
 
 -- the whole messages of a stream, one directly after another (RFC 7011, section 3.1)
 abbrev pub AreMessagesOf : List ℕ → List (List ℕ) → Type 0
@@ -37,7 +37,7 @@ WritesSomeOf due held holds = (n : ℕ) × Appends held holds (take n due)
 pub record BeginsLines (stream : List ℕ) (held holds : Option (List ℕ)) : Type 0 where
   pub messages : List (List ℕ)
   pub cut : AreMessagesOf stream messages
-  pub written : WritesSomeOf (lines_of messages) held holds
+  pub written : WritesSomeOf (hex_lines messages) held holds
 
 -- the same, or nothing
 abbrev pub WritesSomeLines : List ℕ → Option (List ℕ) → Option (List ℕ) → Type 0
@@ -47,4 +47,4 @@ WritesSomeLines stream held holds = Keeps held holds ⊎ BeginsLines stream held
 pub record WritesLines (stream : List ℕ) (held holds : Option (List ℕ)) : Type 0 where
   pub messages : List (List ℕ)
   pub cut : AreMessagesOf stream messages
-  pub written : Appends held holds (lines_of messages)
+  pub written : Appends held holds (hex_lines messages)

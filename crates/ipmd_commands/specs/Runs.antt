@@ -22,7 +22,7 @@ use Rattle.ipmd_commands.specs.declared.fault.Fault.{Fault}
 use Rattle.ipmd_commands.specs.declared.fault.Fault.TheVariants.{CommandLine, Settings, Policy, Hex, Framing, Mediator, Cut, Calls, Journal, History, Absent, Close, OutOfMemory, Device}
 use Rattle.ipmd_commands.specs.declared.failure.Place.TheVariants as placed
 use Rattle.ipmd_commands.specs.Failures.{FailedAt, IsFileFault, NamesFile}
-use Rattle.ipmd_commands.specs.HexText.{SpelledBy, SpellsNothing, lines_of, WritesLines, WritesSomeOf, WritesSomeLines}
+use Rattle.ipmd_commands.specs.HexText.{SpelledBy, SpellsNothing, hex_lines, WritesLines, WritesSomeOf, WritesSomeLines}
 use Rattle.replay_text.specs.LineEnds.{with_line_ends}
 use Rattle.ipmd_commands.specs.Status.{offline_fault_of}
 
@@ -131,7 +131,7 @@ pub record FinishesOn (job : OfflineJob) (report : OfflineReport) (given : Optio
 pub record FinishesLines (job : OfflineJob) (report : OfflineReport) (octets : List ℕ) (writer audit : Writer) : Type 0 where
   pub stream : List ℕ
   pub finishes : FinishesOn job report (Some octets) (writer_of (Some []) (Some stream)) audit
-  pub lines : Appends writer.held writer.holds (lines_of finishes.filters.done.written)
+  pub lines : Appends writer.held writer.holds (hex_lines finishes.filters.done.written)
 
 -- the same of the octets that a text spells
 abbrev pub FinishesText : OfflineJob → OfflineReport → List ℕ → Writer → Writer → Type 0

@@ -17,10 +17,10 @@ use Rattle.mediator_offline.specs.declared.job.Fault.{Fault as OfflineFault}
 use Rattle.mediator_offline.specs.declared.job.Fault.TheVariants as offline
 use Rattle.replay_text.specs.declared.fault.Fault.{Fault as CallsFault}
 use Rattle.replay_text.specs.declared.fault.Fault.TheVariants as calls
-use Rattle.ipmd_settings.specs.Names.{text_of_fault as text_of_settings}
+use Rattle.ipmd_settings.specs.Names.{settings_fault_text as text_of_settings}
 use Rattle.ipmd_settings.specs.declared.fault.Fault.{Fault as SettingsFault}
 use Rattle.ipmd_settings.specs.declared.fault.Fault.TheVariants as settings
-use Rattle.journal_files.specs.FaultTexts.{text_of_fault as text_of_journal}
+use Rattle.journal_files.specs.FaultTexts.{journal_fault_text as text_of_journal}
 use Rattle.journal_files.specs.declared.fault.Fault.{Fault as JournalFault}
 use Rattle.journal_files.specs.declared.fault.Fault.TheVariants as journal
 use Rattle.ipmd_commands.specs.Absent.{text_of_absent}

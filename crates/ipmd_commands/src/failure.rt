@@ -1,6 +1,6 @@
 //! What failed of a run's files and streams, and why.
 ghost use Rattle.std.specs.Prelude.{◌≡◌, IfOk, string_bytes};
-ghost use Rattle.ipmd_commands.specs.Failures.{IsFailureLine, line_of, plain};
+ghost use Rattle.ipmd_commands.specs.Failures.{IsFailureLine, failure_line, plain};
 
 use std::alloc::{AllocError, Global};
 use std::fmt::{self, Display, Formatter};
@@ -25,9 +25,9 @@ pub enum Place {
 
 impl Display for Place {
     ghost use Rattle.std.specs.Prelude.{Some};
-    ghost use Rattle.ipmd_commands.specs.Failures.{name_of};
+    ghost use Rattle.ipmd_commands.specs.Failures.{place_name};
 
-    ghost output = { λ place. Some (name_of place) };
+    ghost output = { λ place. Some (place_name place) };
 
     fn fmt<W: fmt::Write>(&self, f: &mut Formatter<W>) -> fmt::Result {
         match self {
@@ -67,7 +67,7 @@ impl Failure {
 
 /// The line of a name and of what is said of it.
 fn line_of(alloc: Global, name: &str, why: &str) -> Result<String, AllocError>
-    ensures { IfOk result (λ line. string_bytes line ≡ line_of name.now why.now) }
+    ensures { IfOk result (λ line. string_bytes line ≡ failure_line name.now why.now) }
 {
     let name = plain(alloc, name)?;
     let why = plain(alloc, why)?;

@@ -3,7 +3,7 @@
 ghost use Rattle.std.specs.Prelude.{◌≡◌, ◌⊎◌, OnOk, IfOk, IfErr, string_bytes};
 ghost use Rattle.std.specs.Io.KnownBytes.{Appends, Keeps};
 ghost use Rattle.octet_io.specs.Device.{device_inner};
-ghost use Rattle.ipmd_commands.specs.HexText.{AreMessagesOf, line_of, lines_of, WritesLines, WritesSomeOf, WritesSomeLines};
+ghost use Rattle.ipmd_commands.specs.HexText.{AreMessagesOf, hex_line, hex_lines, WritesLines, WritesSomeOf, WritesSomeLines};
 ghost use Rattle.ipmd_commands.specs.declared.failure.Place.TheVariants.{Output};
 ghost use Rattle.ipmd_commands.specs.declared.fault.Fault.TheVariants.{OutOfMemory};
 ghost use Rattle.ipmd_commands.specs.Failures.{FailedAt};
@@ -104,9 +104,9 @@ fn write_each<O: Write>(
 ) -> Result<(), Fault>
     ensures ok { OnOk result (Appends
         (O.contents (device_inner output.old)) (O.contents (device_inner output.new))
-        (lines_of messages.now)) }
+        (hex_lines messages.now)) }
     ensures err { IfErr result (λ e. ((e ≡ OutOfMemory) ⊎ FailedAt Output e)
-        × WritesSomeOf (lines_of messages.now)
+        × WritesSomeOf (hex_lines messages.now)
         (O.contents (device_inner output.old)) (O.contents (device_inner output.new))) }
 {
     'messages: for message in messages {
@@ -118,7 +118,7 @@ fn write_each<O: Write>(
 
 /// A message in lower-case hexadecimal digits, and a line feed.
 fn hex_line(alloc: Global, message: &[u8]) -> Result<String, AllocError>
-    ensures { IfOk result (λ line. string_bytes line ≡ line_of message.now) }
+    ensures { IfOk result (λ line. string_bytes line ≡ hex_line message.now) }
 {
     let mut line = hex::encode(alloc, message)?;
     line.push('\n')?;

@@ -37,7 +37,7 @@ use Rattle.history_verify.specs.Standing.{IsReadOf}
 use Rattle.ipmd_explain.specs.declared.question.Question.{Question}
 use Rattle.ipmd_explain.specs.declared.explainer.Explainer.{Explainer}
 use Rattle.ipmd_explain.specs.Explaining.{asked_at, asked_messages, explained_at, explained_of, has_begun, has_message, has_record, is_asked, is_within, line_by, subscribes}
-use Rattle.ipmd_explain.specs.Standing.{IsTaken, MayCome, Tracks, Takes, past_entry, line_for, lines_of, past_message, said_of}
+use Rattle.ipmd_explain.specs.Standing.{IsTaken, MayCome, Tracks, Takes, past_entry, explained_line_for, explained_lines, past_message, said_of}
 
 pub or_none : (b : Bool) → (b || false) ≡ b
 or_none true = refl
@@ -192,13 +192,13 @@ said_is x h session number octets reading so read =
     domain = ap (λ (k : Header). k.domain) (header_meant (messages_of session h) octets reading.meaning read.read.means)
 
 -- one record more
-pub lines_turn : (x : Explainer) (domain : ℕ) (rs : List DataRecord) (i : ℕ) (r : DataRecord) (before text after : List ℕ) → i < length rs → before ≡ lines_of x domain (take i rs) → text ≡ line_for x domain (i, get_or rs i r) → after ≡ before ++ text
-    → after ≡ lines_of x domain (take (i + 1) rs)
+pub lines_turn : (x : Explainer) (domain : ℕ) (rs : List DataRecord) (i : ℕ) (r : DataRecord) (before text after : List ℕ) → i < length rs → before ≡ explained_lines x domain (take i rs) → text ≡ explained_line_for x domain (i, get_or rs i r) → after ≡ before ++ text
+    → after ≡ explained_lines x domain (take (i + 1) rs)
 lines_turn x domain rs i r before text after low so said joined =
-    joined ∙ ap (λ t. t ++ text) so ∙ ap (λ t. lines_of x domain (take i rs) ++ t) (said ∙ sym (append-nil (line_for x domain (i, get_or rs i r))))
-    ∙ sym (ap (lines_of x domain) (take_more rs i r low)
-    ∙ ap (flat_map (line_for x domain)) (enumerate-append 0 (take i rs) (get_or rs i r ∷ []) ∙ ap (λ n. enumerate_from 0 (take i rs) ++ (n, get_or rs i r) ∷ []) counts)
-    ∙ flat_map-append (line_for x domain) (enumerate_from 0 (take i rs)) ((i, get_or rs i r) ∷ []))
+    joined ∙ ap (λ t. t ++ text) so ∙ ap (λ t. explained_lines x domain (take i rs) ++ t) (said ∙ sym (append-nil (explained_line_for x domain (i, get_or rs i r))))
+    ∙ sym (ap (explained_lines x domain) (take_more rs i r low)
+    ∙ ap (flat_map (explained_line_for x domain)) (enumerate-append 0 (take i rs) (get_or rs i r ∷ []) ∙ ap (λ n. enumerate_from 0 (take i rs) ++ (n, get_or rs i r) ∷ []) counts)
+    ∙ flat_map-append (explained_line_for x domain) (enumerate_from 0 (take i rs)) ((i, get_or rs i r) ∷ []))
   where
     counts : 0 + length (take i rs) ≡ i
     counts = omega (arith, length-take i rs, low)

@@ -25,8 +25,8 @@ line_by policy name domain clock position index r =
     codes "position " ++ (decimal position ++ (codes " index " ++ (decimal index ++ (codes ": " ++ (flow_words r ++ (explanation policy name domain clock r ++ 10 ∷ []))))))
 
 -- by what was in force when the record was accepted
-abbrev pub line_of : ℕ → List Entry → AcceptedRecord → List ℕ
-line_of sub before a = line_by (policy_in_force before) (name_of sub before) a.domain (clock_of before) a.position a.index a.flow
+abbrev pub explained_line : ℕ → List Entry → AcceptedRecord → List ℕ
+explained_line sub before a = line_by (policy_in_force before) (name_of sub before) a.domain (clock_of before) a.position a.index a.flow
 
 -- the number is the one that is asked for, or each is
 abbrev pub is_asked : Option ℕ → ℕ → Bool
@@ -36,7 +36,7 @@ is_asked (Some m) n = m == n
 -- the line of an accepted record, if it is asked for and the subscription is served
 abbrev pub explained_of : Question → List Entry → AcceptedRecord → List ℕ
 explained_of q before a =
-    if (is_asked q.position a.position && is_served q.sub before) && is_asked q.index a.index then line_of q.sub before a else []
+    if (is_asked q.position a.position && is_served q.sub before) && is_asked q.index a.index then explained_line q.sub before a else []
 
 -- of each record of an entry, by what stands before it
 abbrev pub explained_at : Question → List Entry → Entry → List ℕ

@@ -13,13 +13,13 @@ abbrev pub is_one_of : ℕ → ℕ → Element → Bool
 is_one_of number other e = is_none e.pen && (e.number == number || e.number == other)
 
 -- the value at a place; no octets where there is none
-abbrev pub value_at : DataRecord → Option ℕ → List ℕ
-value_at r None = []
-value_at r (Some place) = slice_index_or r.values place []
+abbrev pub octets_at : DataRecord → Option ℕ → List ℕ
+octets_at r None = []
+octets_at r (Some place) = slice_index_or r.values place []
 
 -- the value of the first field whose element passes
-abbrev pub first_value : (Element → Bool) → DataRecord → List ℕ
-first_value passes r = value_at r (position (λ f. passes f.element) r.template.fields)
+abbrev pub first_passing_value : (Element → Bool) → DataRecord → List ℕ
+first_passing_value passes r = octets_at r (position (λ f. passes f.element) r.template.fields)
 
 -- an address has 4 or 16 octets, and a port has one or two
 abbrev pub is_address : List ℕ → Bool
@@ -45,4 +45,4 @@ between_words source from destination to =
     if is_end source from && is_end destination to then end_words source from ++ (codes " -> " ++ (end_words destination to ++ codes "; ")) else []
 
 abbrev pub flow_words : DataRecord → List ℕ
-flow_words r = between_words (first_value (is_one_of 8 27) r) (first_value (is_one_of 7 7) r) (first_value (is_one_of 12 28) r) (first_value (is_one_of 11 11) r)
+flow_words r = between_words (first_passing_value (is_one_of 8 27) r) (first_passing_value (is_one_of 7 7) r) (first_passing_value (is_one_of 12 28) r) (first_passing_value (is_one_of 11 11) r)

@@ -41,15 +41,15 @@ abbrev pub past_entry : Explainer → Explainer
 past_entry x = record x { position = x.position + 1 }
 
 -- the line of a record of a message at this position, with its place, if it is asked for
-abbrev pub line_for : Explainer → ℕ → (ℕ × DataRecord) → List ℕ
-line_for x domain r = if is_asked x.question.index r.0 then line_by x.policy (string_bytes x.name) domain x.clock x.position r.0 r.1 else []
+abbrev pub explained_line_for : Explainer → ℕ → (ℕ × DataRecord) → List ℕ
+explained_line_for x domain r = if is_asked x.question.index r.0 then line_by x.policy (string_bytes x.name) domain x.clock x.position r.0 r.1 else []
 
-abbrev pub lines_of : Explainer → ℕ → List DataRecord → List ℕ
-lines_of x domain records = flat_map (line_for x domain) (enumerate_from 0 records)
+abbrev pub explained_lines : Explainer → ℕ → List DataRecord → List ℕ
+explained_lines x domain records = flat_map (explained_line_for x domain) (enumerate_from 0 records)
 
 -- of the records of a message at this position, if it is asked for and the subscription is served
 abbrev pub said_of : Explainer → ℕ → List DataRecord → List ℕ
-said_of x domain records = if is_asked x.question.position x.position && x.is_served then lines_of x domain records else []
+said_of x domain records = if is_asked x.question.position x.position && x.is_served then explained_lines x domain records else []
 
 -- it met a message of so many records at its position
 abbrev pub past_message : Explainer → ℕ → Explainer

@@ -78,12 +78,12 @@ aggregate_name (Some a) = a.name
 abbrev pub aggregate_words_in : Option Aggregate → ℕ → ℕ → DataRecord → List ℕ
 aggregate_words_in a rule clock r = timing_words (aggregate_name a) (by_rule rule) (timing_in a r clock)
 
-abbrev pub aggregate_words : List Aggregate → ℕ → ℕ → ℕ → DataRecord → List ℕ
-aggregate_words aggregates rule place clock r = aggregate_words_in (slice_get aggregates place) rule clock r
+abbrev pub explained_aggregate : List Aggregate → ℕ → ℕ → ℕ → DataRecord → List ℕ
+explained_aggregate aggregates rule place clock r = aggregate_words_in (slice_get aggregates place) rule clock r
 
 abbrev pub outcome_words : List ℕ → List Aggregate → ℕ → DataRecord → Outcome → List ℕ
 outcome_words passing aggregates clock r (Passed kept removed) = passing
-outcome_words passing aggregates clock r (Aggregated rule place) = aggregate_words aggregates rule place clock r
+outcome_words passing aggregates clock r (Aggregated rule place) = explained_aggregate aggregates rule place clock r
 outcome_words passing aggregates clock r (Withheld rule reason) = withheld_words passing (by_rule rule) reason
 
 -- what the subscriber of a name sees of a record of an observation domain by a policy, where the clock stands so

@@ -12,7 +12,7 @@ ghost use Rattle.mediator_history.specs.Subscriptions.{policy_or_none};
 ghost use Rattle.event_journal.specs.declared.limits.TheConstants.{MOST_ENTRIES};
 ghost use Rattle.ipfix_session.specs.Keeping.{at_key};
 ghost use Rattle.ipmd_explain.specs.Explaining.{absent_of, line_by};
-ghost use Rattle.ipmd_explain.specs.Standing.{Tracks, Takes, past_entry, line_for, lines_of, past_message, said_of};
+ghost use Rattle.ipmd_explain.specs.Standing.{Tracks, Takes, past_entry, explained_line_for, explained_lines, past_message, said_of};
 
 use crate::flow_words::flow_words;
 use crate::question::Question;
@@ -268,7 +268,7 @@ impl Explainer {
 
     /// The lines of these records of a message of an observation domain.
     fn lines(&self, domain: u32, records: &[Record]) -> Result<String, AllocError>
-        ensures { IfOk result (λ text. string_bytes text ≡ lines_of self.now domain records.now) }
+        ensures { IfOk result (λ text. string_bytes text ≡ explained_lines self.now domain records.now) }
     {
         let mut text = String::new(self.alloc);
         'records: for (place, flow_record) in records.iter().enumerate() {
@@ -286,7 +286,7 @@ impl Explainer {
         flow_record: &Record,
     ) -> Result<String, AllocError>
         ensures { IfOk result (λ text. string_bytes text
-            ≡ line_for self.now domain (place, flow_record.now)) }
+            ≡ explained_line_for self.now domain (place, flow_record.now)) }
     {
         if !self.question.asks_record(place) {
             return Ok(String::new(self.alloc));

@@ -3,7 +3,7 @@ ghost use Rattle.std.specs.Prelude.{◌≡◌, ◌≤◌, ◌<◌, ◌/◌, ◌%
 ghost use Rattle.sequences.specs.Octets.{be_value};
 ghost use Rattle.flow_prefix.specs.declared.family.Family.TheVariants.{Ipv4, Ipv6};
 ghost use Rattle.flow_prefix.specs.Printing.{address_text};
-ghost use Rattle.ipmd_explain.specs.FlowWords.{address_words, end_words, first_value, flow_words, is_address, is_end, is_one_of, is_port};
+ghost use Rattle.ipmd_explain.specs.FlowWords.{address_words, end_words, first_passing_value, flow_words, is_address, is_end, is_one_of, is_port};
 
 use flow_prefix::{GROUP_VALUES, IPV4_OCTETS, IPV6_OCTETS, number};
 use ipfix_element::ElementId;
@@ -51,7 +51,7 @@ pub(crate) fn flow_words(alloc: Global, flow_record: &Record) -> Result<String, 
 
 /// The first value of a field with one of these elements; no octets where there is none.
 fn first_value(flow_record: &Record, number: u16, other: u16) -> &[u8]
-    ensures { result.now ≡ first_value (is_one_of number other) flow_record.now }
+    ensures { result.now ≡ first_passing_value (is_one_of number other) flow_record.now }
 {
     match first_place(flow_record.template().fields.as_slice(), number, other) {
         Some(place) => flow_record.value(place),

@@ -3,7 +3,7 @@ ghost use Rattle.std.specs.Prelude.{◌≡◌, ◌<◌, length, IfOk, string_byt
 ghost use Rattle.ipfix_element.specs.Names.{element_name};
 ghost use Rattle.mediator_history.specs.Counting.{timing_at};
 ghost use Rattle.disclosure_audit.specs.declared.reason.Reason.{Reason};
-ghost use Rattle.ipmd_explain.specs.Wording.{aggregate_words, by_rule, change_words, explanation, field_words, fields_words, passing_words, timing_words, withheld_words};
+ghost use Rattle.ipmd_explain.specs.Wording.{explained_aggregate, by_rule, change_words, explanation, field_words, fields_words, passing_words, timing_words, withheld_words};
 
 use flow_aggregate::{Timing, judge_time};
 use flow_anonymize::{Disclosure, Reason, disclose};
@@ -174,7 +174,7 @@ fn aggregate_words(
     flow_record: &Record,
 ) -> Result<String, AllocError>
     ensures { IfOk result (λ text. string_bytes text
-        ≡ aggregate_words policy.now.aggregates rule place clock flow_record.now) }
+        ≡ explained_aggregate policy.now.aggregates rule place clock flow_record.now) }
 {
     let by = by_rule(alloc, rule)?;
     match policy.aggregates().get(place) {

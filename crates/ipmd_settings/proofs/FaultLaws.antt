@@ -11,8 +11,8 @@ use Rattle.ipmd_settings.specs.declared.reading.TheConstants.{LONGEST_TEXT}
 use Rattle.ipmd_settings.specs.Asked.{AskedService}
 use Rattle.ipmd_settings.specs.Faults.{has, keys, lacking, IsSettingsFault}
 use Rattle.ipmd_settings.specs.Reading.{limits_in, settings_in}
-use Rattle.ipmd_settings.specs.Results.{Gives, value_at_key}
-use Rattle.ipmd_settings.specs.Values.{text_in, text_or_none_in, number_in, number_or_in, number_or_none_in, flag_or_false_in, collectors_in}
+use Rattle.ipmd_settings.specs.Results.{GivesSet, value_at_key}
+use Rattle.ipmd_settings.specs.Values.{text_in, text_or_none_in, setting_number, number_or_in, number_or_none_in, flag_or_false_in, collectors_in}
 use Rattle.subscriber_stream.specs.declared.limits.TheConstants.{MOST_QUEUE, MOST_SHAPES}
 use Rattle.disclosure_audit.specs.declared.audit.TheConstants.{MOST_ENTRIES as MOST_AUDITED}
 use Rattle.event_journal.specs.declared.limits.TheConstants.{MOST_ENTRIES, MOST_OCTETS}
@@ -54,15 +54,15 @@ settings_in-judges table =
     step table Exporters _ (text_in Exporters table) _ refl (λ exporters.
     step table Admin _ (text_in Admin table) _ refl (λ admin.
     step table Policy _ (text_in Policy table) _ refl (λ policy.
-    step table Connections _ (number_in Connections 1 1000 table) _ refl (λ connections.
-    step table Target _ (number_in Target header_octets longest_message table) _ refl (λ target.
-    step table Workers _ (number_in Workers 1 64 table) _ refl (λ workers.
-    step-within table Queue _ (number_in Queue 1 MOST_QUEUE table) _ _ refl (λ queue.
-    step-within table Shapes _ (number_in Shapes 1 MOST_SHAPES table) _ _ refl (λ shapes.
-    step-within table Audit _ (number_in Audit 1 MOST_AUDITED table) _ _ refl (λ audit.
-    step-within table JournalEntries _ (number_in JournalEntries 1 MOST_ENTRIES table) _ _ refl (λ entries.
-    step-within table JournalOctets _ (number_in JournalOctets 1 MOST_OCTETS table) _ _ refl (λ octets.
-    step table Turns _ (number_in Turns 1 1000000000 table) _ refl (λ turns.
+    step table Connections _ (setting_number Connections 1 1000 table) _ refl (λ connections.
+    step table Target _ (setting_number Target header_octets longest_message table) _ refl (λ target.
+    step table Workers _ (setting_number Workers 1 64 table) _ refl (λ workers.
+    step-within table Queue _ (setting_number Queue 1 MOST_QUEUE table) _ _ refl (λ queue.
+    step-within table Shapes _ (setting_number Shapes 1 MOST_SHAPES table) _ _ refl (λ shapes.
+    step-within table Audit _ (setting_number Audit 1 MOST_AUDITED table) _ _ refl (λ audit.
+    step-within table JournalEntries _ (setting_number JournalEntries 1 MOST_ENTRIES table) _ _ refl (λ entries.
+    step-within table JournalOctets _ (setting_number JournalOctets 1 MOST_OCTETS table) _ _ refl (λ octets.
+    step table Turns _ (setting_number Turns 1 1000000000 table) _ refl (λ turns.
     step table Deliver _ (collectors_in Deliver table) _ refl (λ collectors.
     step table Journal _ (text_or_none_in Journal table) _ refl (λ journal.
     step table Runs _ (number_or_in Runs 1 1 1000 table) _ refl (λ runs.
@@ -82,7 +82,7 @@ of_table text table f short parsed fails = by_first f (subst (λ (r : Result Ask
     by_first f first = subst (λ (f : Fault). IsSettingsFault f text) (sym first.fault_is) (by_key first.key first.first)
 
 -- what was returned at a fault, of a text that is not too long and is this table
-pub returned-first : {X : Type 0} (view : X → AskedService) (text : List ℕ) (table : Members) (answer : Result X Fault) → length text ≤ LONGEST_TEXT → parse_document text ≡ Some table → Gives view answer (settings_in table) → IfErr answer (λ f. IsSettingsFault f text)
+pub returned-first : {X : Type 0} (view : X → AskedService) (text : List ℕ) (table : Members) (answer : Result X Fault) → length text ≤ LONGEST_TEXT → parse_document text ≡ Some table → GivesSet view answer (settings_in table) → IfErr answer (λ f. IsSettingsFault f text)
 returned-first view text table (Ok x) short parsed gives = tt
 returned-first view text table (Err fault.TooLong) short parsed gives = of_table text table fault.TooLong short parsed gives
 returned-first view text table (Err fault.Toml) short parsed gives = of_table text table fault.Toml short parsed gives

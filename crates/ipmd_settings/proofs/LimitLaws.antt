@@ -7,10 +7,10 @@ use Rattle.ipmd_settings.specs.declared.key.Key.{Key}
 use Rattle.ipmd_settings.specs.declared.fault.Fault.{Fault}
 use Rattle.ipmd_settings.specs.declared.key.Key.TheVariants.{Queue, Shapes, Audit, JournalEntries, JournalOctets}
 use Rattle.ipmd_settings.specs.Laws.{AllowedLimitsAreRead}
-use Rattle.ipmd_settings.specs.Names.{name_of}
+use Rattle.ipmd_settings.specs.Names.{key_name}
 use Rattle.ipmd_settings.specs.Reading.{limits_in}
 use Rattle.ipmd_settings.specs.Results.{value_at_key}
-use Rattle.ipmd_settings.specs.Values.{within, number_at}
+use Rattle.ipmd_settings.specs.Values.{within, integer_at}
 use Rattle.subscriber_stream.specs.declared.limits.TheConstants.{MOST_QUEUE, MOST_SHAPES}
 use Rattle.disclosure_audit.specs.declared.audit.TheConstants.{MOST_ENTRIES as MOST_AUDITED}
 use Rattle.event_journal.specs.declared.limits.TheConstants.{MOST_ENTRIES, MOST_OCTETS}
@@ -22,7 +22,7 @@ abbrev read : Key → ℕ → ℕ → Option Data → Result ℕ Fault
 read k least most value = value_at_key k (option_and_then (within least most) (option_and_then as_integer value))
 
 -- a number in its range is read
-number_at-stands : (k : Key) (least most n : ℕ) (table : Members) → get_member (name_of k) table ≡ Some (integer (pos n)) → least ≤ n → n ≤ most → number_at k least most table ≡ Ok n
+number_at-stands : (k : Key) (least most n : ℕ) (table : Members) → get_member (key_name k) table ≡ Some (integer (pos n)) → least ≤ n → n ≤ most → integer_at k least most table ≡ Ok n
 number_at-stands k least most n table stands low high = ap (read k least most) stands ∙ ap (value_at_key k) (within-stands least most n low high)
 
 pub allowed_limits_are_read : AllowedLimitsAreRead

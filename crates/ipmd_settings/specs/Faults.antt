@@ -11,22 +11,22 @@ use Rattle.ipmd_settings.specs.declared.key.Key.TheVariants.{Exporters, Admin, P
 use Rattle.ipmd_settings.specs.declared.fault.Fault.{Fault}
 use Rattle.ipmd_settings.specs.declared.fault.Fault.TheVariants as fault
 use Rattle.ipmd_settings.specs.declared.reading.TheConstants.{LONGEST_TEXT}
-use Rattle.ipmd_settings.specs.Values.{text_in, text_or_none_in, number_in, number_or_in, number_or_none_in, flag_or_false_in, collectors_in}
+use Rattle.ipmd_settings.specs.Values.{text_in, text_or_none_in, setting_number, number_or_in, number_or_none_in, flag_or_false_in, collectors_in}
 
 -- whether a table has a value at a key that the key may have; those from Journal on may be absent too
 abbrev pub has : Members → Key → Bool
 has table Exporters = is_some (text_in Exporters table)
 has table Admin = is_some (text_in Admin table)
 has table Policy = is_some (text_in Policy table)
-has table Connections = is_some (number_in Connections 1 1000 table)
-has table Target = is_some (number_in Target header_octets longest_message table)
-has table Workers = is_some (number_in Workers 1 64 table)
-has table Queue = is_some (number_in Queue 1 MOST_QUEUE table)
-has table Shapes = is_some (number_in Shapes 1 MOST_SHAPES table)
-has table Audit = is_some (number_in Audit 1 MOST_AUDITED table)
-has table JournalEntries = is_some (number_in JournalEntries 1 MOST_ENTRIES table)
-has table JournalOctets = is_some (number_in JournalOctets 1 MOST_OCTETS table)
-has table Turns = is_some (number_in Turns 1 1000000000 table)
+has table Connections = is_some (setting_number Connections 1 1000 table)
+has table Target = is_some (setting_number Target header_octets longest_message table)
+has table Workers = is_some (setting_number Workers 1 64 table)
+has table Queue = is_some (setting_number Queue 1 MOST_QUEUE table)
+has table Shapes = is_some (setting_number Shapes 1 MOST_SHAPES table)
+has table Audit = is_some (setting_number Audit 1 MOST_AUDITED table)
+has table JournalEntries = is_some (setting_number JournalEntries 1 MOST_ENTRIES table)
+has table JournalOctets = is_some (setting_number JournalOctets 1 MOST_OCTETS table)
+has table Turns = is_some (setting_number Turns 1 1000000000 table)
 has table Deliver = is_some (collectors_in Deliver table)
 has table Journal = is_some (text_or_none_in Journal table)
 has table Runs = is_some (number_or_in Runs 1 1 1000 table)

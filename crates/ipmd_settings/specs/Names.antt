@@ -5,30 +5,30 @@ use Rattle.ipmd_settings.specs.declared.key.Key.TheVariants as key
 use Rattle.ipmd_settings.specs.declared.fault.Fault.{Fault}
 use Rattle.ipmd_settings.specs.declared.fault.Fault.TheVariants as fault
 
-abbrev pub name_of : Key → List ℕ
-name_of key.Exporters = codes "exporters"
-name_of key.Admin = codes "admin"
-name_of key.Policy = codes "policy"
-name_of key.Connections = codes "connections"
-name_of key.Target = codes "target"
-name_of key.Workers = codes "workers"
-name_of key.Queue = codes "queue"
-name_of key.Shapes = codes "shapes"
-name_of key.Audit = codes "audit"
-name_of key.JournalEntries = codes "journal_entries"
-name_of key.JournalOctets = codes "journal_octets"
-name_of key.Turns = codes "turns"
-name_of key.Deliver = codes "deliver"
-name_of key.Journal = codes "journal"
-name_of key.Runs = codes "runs"
-name_of key.Idle = codes "idle"
-name_of key.Reconnect = codes "reconnect"
-name_of key.Hold = codes "hold"
-name_of key.Drain = codes "drain"
-name_of key.Endless = codes "endless"
+abbrev pub key_name : Key → List ℕ
+key_name key.Exporters = codes "exporters"
+key_name key.Admin = codes "admin"
+key_name key.Policy = codes "policy"
+key_name key.Connections = codes "connections"
+key_name key.Target = codes "target"
+key_name key.Workers = codes "workers"
+key_name key.Queue = codes "queue"
+key_name key.Shapes = codes "shapes"
+key_name key.Audit = codes "audit"
+key_name key.JournalEntries = codes "journal_entries"
+key_name key.JournalOctets = codes "journal_octets"
+key_name key.Turns = codes "turns"
+key_name key.Deliver = codes "deliver"
+key_name key.Journal = codes "journal"
+key_name key.Runs = codes "runs"
+key_name key.Idle = codes "idle"
+key_name key.Reconnect = codes "reconnect"
+key_name key.Hold = codes "hold"
+key_name key.Drain = codes "drain"
+key_name key.Endless = codes "endless"
 
-abbrev pub text_of_fault : Fault → List ℕ
-text_of_fault fault.TooLong = codes "length"
-text_of_fault fault.Toml = codes "toml"
-text_of_fault (fault.Key k) = name_of k
-text_of_fault fault.OutOfMemory = codes "OutOfMemory"
+abbrev pub settings_fault_text : Fault → List ℕ
+settings_fault_text fault.TooLong = codes "length"
+settings_fault_text fault.Toml = codes "toml"
+settings_fault_text (fault.Key k) = key_name k
+settings_fault_text fault.OutOfMemory = codes "OutOfMemory"

@@ -13,16 +13,16 @@ use Rattle.ipmd_settings.specs.declared.fault.Fault.{Fault}
 use Rattle.ipmd_settings.specs.declared.fault.Fault.TheVariants.{TooLong, Toml}
 use Rattle.ipmd_settings.specs.declared.reading.TheConstants.{LONGEST_TEXT}
 use Rattle.ipmd_settings.specs.Asked.{AskedService}
-use Rattle.ipmd_settings.specs.Values.{text_at, text_or_none, number_at, number_or, number_or_none, flag_or_false, collectors_at}
+use Rattle.ipmd_settings.specs.Values.{text_at, text_or_none, integer_at, number_or, number_or_none, flag_or_false, collectors_at}
 
 -- the limits of the mediator
 unfoldable pub limits_in : Members → Result Limits Fault
 limits_in table = do
-  queue ← number_at Queue 1 MOST_QUEUE table
-  shapes ← number_at Shapes 1 MOST_SHAPES table
-  audit ← number_at Audit 1 MOST_AUDITED table
-  entries ← number_at JournalEntries 1 MOST_ENTRIES table
-  octets ← number_at JournalOctets 1 MOST_OCTETS table
+  queue ← integer_at Queue 1 MOST_QUEUE table
+  shapes ← integer_at Shapes 1 MOST_SHAPES table
+  audit ← integer_at Audit 1 MOST_AUDITED table
+  entries ← integer_at JournalEntries 1 MOST_ENTRIES table
+  octets ← integer_at JournalOctets 1 MOST_OCTETS table
   Ok (record { queue = queue; shapes = shapes; audit = audit; entries = entries; octets = octets })
 
 -- the settings in a table, or the first key at fault; other keys are ignored
@@ -31,11 +31,11 @@ settings_in table = do
   exporters ← text_at Exporters table
   admin ← text_at Admin table
   policy ← text_at Policy table
-  connections ← number_at Connections 1 1000 table
-  target ← number_at Target header_octets longest_message table
-  workers ← number_at Workers 1 64 table
+  connections ← integer_at Connections 1 1000 table
+  target ← integer_at Target header_octets longest_message table
+  workers ← integer_at Workers 1 64 table
   limits ← limits_in table
-  turns ← number_at Turns 1 1000000000 table
+  turns ← integer_at Turns 1 1000000000 table
   collectors ← collectors_at table
   journal ← text_or_none Journal table
   runs ← number_or Runs 1 1 1000 table

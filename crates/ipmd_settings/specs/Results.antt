@@ -17,5 +17,5 @@ is_memory (fault.Key k) = false
 is_memory fault.OutOfMemory = true
 
 -- what a function returned, seen by view, is what reading gives, unless memory ran out
-abbrev pub Gives : {X Y : Type 0} → (X → Y) → Result X Fault → Result Y Fault → Type 0
-Gives view answer read = GivesBut is_memory view answer read
+abbrev pub GivesSet : {X Y : Type 0} → (X → Y) → Result X Fault → Result Y Fault → Type 0
+GivesSet view answer read = GivesBut is_memory view answer read

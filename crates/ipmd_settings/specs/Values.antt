@@ -9,12 +9,12 @@ use Rattle.ipmd_settings.specs.declared.key.Key.{Key}
 use Rattle.ipmd_settings.specs.declared.key.Key.TheVariants as key
 use Rattle.ipmd_settings.specs.declared.fault.Fault.{Fault}
 use Rattle.ipmd_settings.specs.Asked.{Pair}
-use Rattle.ipmd_settings.specs.Names.{name_of}
+use Rattle.ipmd_settings.specs.Names.{key_name}
 use Rattle.ipmd_settings.specs.Results.{value_at_key}
 
 -- the text at a key
 abbrev pub text_in : Key → Members → Option (List ℕ)
-text_in k table = option_and_then as_str (get_member (name_of k) table)
+text_in k table = option_and_then as_str (get_member (key_name k) table)
 
 abbrev pub text_at : Key → Members → Result (List ℕ) Fault
 text_at k table = value_at_key k (text_in k table)
@@ -26,7 +26,7 @@ read_or absent read (Some value) = read value
 
 -- the text at a key, or none where the key is absent
 abbrev pub text_or_none_in : Key → Members → Option (Option (List ℕ))
-text_or_none_in k table = read_or None (λ value. option_map Some (as_str value)) (get_member (name_of k) table)
+text_or_none_in k table = read_or None (λ value. option_map Some (as_str value)) (get_member (key_name k) table)
 
 abbrev pub text_or_none : Key → Members → Result (Option (List ℕ)) Fault
 text_or_none k table = value_at_key k (text_or_none_in k table)
@@ -37,29 +37,29 @@ within least most (pos n) = if nat_le least n && nat_le n most then Some n else 
 within least most (negsuc n) = None
 
 -- the number at a key, where it is from least to most
-abbrev pub number_in : Key → ℕ → ℕ → Members → Option ℕ
-number_in k least most table = option_and_then (within least most) (option_and_then as_integer (get_member (name_of k) table))
+abbrev pub setting_number : Key → ℕ → ℕ → Members → Option ℕ
+setting_number k least most table = option_and_then (within least most) (option_and_then as_integer (get_member (key_name k) table))
 
-abbrev pub number_at : Key → ℕ → ℕ → Members → Result ℕ Fault
-number_at k least most table = value_at_key k (number_in k least most table)
+abbrev pub integer_at : Key → ℕ → ℕ → Members → Result ℕ Fault
+integer_at k least most table = value_at_key k (setting_number k least most table)
 
 -- the number at a key, where it is from least to most, or another where the key is absent
 abbrev pub number_or_in : Key → ℕ → ℕ → ℕ → Members → Option ℕ
-number_or_in k absent least most table = read_or absent (λ value. option_and_then (within least most) (as_integer value)) (get_member (name_of k) table)
+number_or_in k absent least most table = read_or absent (λ value. option_and_then (within least most) (as_integer value)) (get_member (key_name k) table)
 
 abbrev pub number_or : Key → ℕ → ℕ → ℕ → Members → Result ℕ Fault
 number_or k absent least most table = value_at_key k (number_or_in k absent least most table)
 
 -- the number at a key, where it is from least to most, or none where the key is absent
 abbrev pub number_or_none_in : Key → ℕ → ℕ → Members → Option (Option ℕ)
-number_or_none_in k least most table = read_or None (λ value. option_map Some (option_and_then (within least most) (as_integer value))) (get_member (name_of k) table)
+number_or_none_in k least most table = read_or None (λ value. option_map Some (option_and_then (within least most) (as_integer value))) (get_member (key_name k) table)
 
 abbrev pub number_or_none : Key → ℕ → ℕ → Members → Result (Option ℕ) Fault
 number_or_none k least most table = value_at_key k (number_or_none_in k least most table)
 
 -- whether a key says yes; where it is absent it says no
 abbrev pub flag_or_false_in : Key → Members → Option Bool
-flag_or_false_in k table = read_or false as_bool (get_member (name_of k) table)
+flag_or_false_in k table = read_or false as_bool (get_member (key_name k) table)
 
 abbrev pub flag_or_false : Key → Members → Result Bool Fault
 flag_or_false k table = value_at_key k (flag_or_false_in k table)
@@ -73,7 +73,7 @@ collectors_of (member name value others) = do
   Some ((name, address) ∷ more)
 
 abbrev pub collectors_in : Key → Members → Option (List Pair)
-collectors_in k table = option_and_then collectors_of (option_and_then as_table (get_member (name_of k) table))
+collectors_in k table = option_and_then collectors_of (option_and_then as_table (get_member (key_name k) table))
 
 abbrev pub collectors_at : Members → Result (List Pair) Fault
 collectors_at table = value_at_key key.Deliver (collectors_in key.Deliver table)

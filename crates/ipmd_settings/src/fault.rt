@@ -22,9 +22,9 @@ impl Error for Fault {}
 
 impl Display for Fault {
     ghost use Rattle.std.specs.Prelude.{Option, Some};
-    ghost use Rattle.ipmd_settings.specs.Names.{text_of_fault};
+    ghost use Rattle.ipmd_settings.specs.Names.{settings_fault_text};
 
-    ghost output = { λ fault. Some (text_of_fault fault) };
+    ghost output = { λ fault. Some (settings_fault_text fault) };
 
     fn fmt<W: Write>(&self, f: &mut Formatter<W>) -> fmt::Result {
         f.write_str(match self {

@@ -50,11 +50,11 @@ pub enum Key {
 
 impl Key {
     ghost use Rattle.std.specs.Prelude.{◌≡◌};
-    ghost use Rattle.ipmd_settings.specs.Names.{name_of};
+    ghost use Rattle.ipmd_settings.specs.Names.{key_name};
 
     /// The key as the settings have it.
     pub fn name(self) -> &'static str
-        ensures { result.now ≡ name_of self }
+        ensures { result.now ≡ key_name self }
     {
         match self {
             Key::Exporters => "exporters",
@@ -83,9 +83,9 @@ impl Key {
 
 impl Display for Key {
     ghost use Rattle.std.specs.Prelude.{Option, Some};
-    ghost use Rattle.ipmd_settings.specs.Names.{name_of};
+    ghost use Rattle.ipmd_settings.specs.Names.{key_name};
 
-    ghost output = { λ key. Some (name_of key) };
+    ghost output = { λ key. Some (key_name key) };
 
     fn fmt<W: Write>(&self, f: &mut Formatter<W>) -> fmt::Result {
         f.write_str(self.name())

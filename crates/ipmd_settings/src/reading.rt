@@ -5,7 +5,7 @@ ghost use Rattle.mediator_calls.specs.Limited.{AreAllowed};
 ghost use Rattle.ipmd_settings.specs.Asked.{asked_service, pairs};
 ghost use Rattle.ipmd_settings.specs.Faults.{IsSettingsFault};
 ghost use Rattle.ipmd_settings.specs.Reading.{limits_in, settings_in, settings_of};
-ghost use Rattle.ipmd_settings.specs.Results.{Gives};
+ghost use Rattle.ipmd_settings.specs.Results.{GivesSet};
 ghost use Rattle.ipmd_settings.specs.Values.{AscendByOctets};
 
 use crate::fault::Fault;
@@ -68,7 +68,7 @@ const MOST_DRAIN: u64 = 86_400;
 /// out of its range; or `OutOfMemory`.
 pub fn read_settings(alloc: Global, text: &str) -> Result<Settings, Fault>
     // What the text gives, or its first fault.
-    ensures exact { Gives asked_service result (settings_of text.now) }
+    ensures exact { GivesSet asked_service result (settings_of text.now) }
     // Which key is at fault: the first that must be there and isn't, or has a value that it may not have. A text that is too long
     // has no other fault, nor want of memory.
     ensures first { IfErr result (λ fault. IsSettingsFault fault text.now) }
@@ -92,7 +92,7 @@ pub fn read_settings(alloc: Global, text: &str) -> Result<Settings, Fault>
 /// Those of [`read_settings`] but for `TooLong` and `Toml`.
 #[tactic(auto, unfolding(crate::specs::Reading::settings_in))]
 fn settings_in(alloc: Global, table: &Table) -> Result<Settings, Fault>
-    ensures exact { Gives asked_service result (settings_in (table_view table.now)) }
+    ensures exact { GivesSet asked_service result (settings_in (table_view table.now)) }
     ensures allowed { IfOk result (λ settings. AreAllowed settings.limits) }
     ensures sorted { IfOk result (λ settings. AscendByOctets (pairs settings.collectors)) }
     ensures some_run { IfOk result (λ settings. 1 ≤ settings.runs) }

@@ -4,9 +4,9 @@ ghost use Rattle.toml.specs.Data.{as_integer, as_str, get_member};
 ghost use Rattle.toml.specs.View.{view, table_view};
 ghost use Rattle.ipmd_settings.specs.declared.key.Key.TheVariants as key;
 ghost use Rattle.ipmd_settings.specs.Asked.{pair, pairs};
-ghost use Rattle.ipmd_settings.specs.Names.{name_of};
-ghost use Rattle.ipmd_settings.specs.Results.{Gives, value_at_key};
-ghost use Rattle.ipmd_settings.specs.Values.{text_in, text_at, text_or_none, within, number_in, number_at, number_or_in, number_or, number_or_none_in, number_or_none, flag_or_false_in, flag_or_false, collectors_of, collectors_at, AscendByOctets};
+ghost use Rattle.ipmd_settings.specs.Names.{key_name};
+ghost use Rattle.ipmd_settings.specs.Results.{GivesSet, value_at_key};
+ghost use Rattle.ipmd_settings.specs.Values.{text_in, text_at, text_or_none, within, setting_number, integer_at, number_or_in, number_or, number_or_none_in, number_or_none, flag_or_false_in, flag_or_false, collectors_of, collectors_at, AscendByOctets};
 
 use crate::fault::Fault;
 use crate::key::Key;
@@ -19,7 +19,7 @@ use toml::{Table, Value};
 /// # Errors
 /// `Key` where it is missing or no text, or `OutOfMemory`.
 pub(crate) fn text_at(alloc: Global, table: &Table, key: Key) -> Result<String, Fault>
-    ensures { Gives string_bytes result (text_at key (table_view table.now)) }
+    ensures { GivesSet string_bytes result (text_at key (table_view table.now)) }
 {
     match text_in(table, key) {
         Some(text) => Ok(String::from_str(alloc, text)?),
@@ -39,7 +39,7 @@ fn text_in<'a>(table: &'a Table, key: Key) -> Option<&'a str>
 /// # Errors
 /// `Key` where a value stands there that is no text, or `OutOfMemory`.
 pub(crate) fn text_or_none(alloc: Global, table: &Table, key: Key) -> Result<Option<String>, Fault>
-    ensures { Gives (option_map string_bytes) result (text_or_none key (table_view table.now)) }
+    ensures { GivesSet (option_map string_bytes) result (text_or_none key (table_view table.now)) }
 {
     match value_at(table, key) {
         Some(value) => text_of(alloc, value, key),
@@ -52,7 +52,7 @@ pub(crate) fn text_or_none(alloc: Global, table: &Table, key: Key) -> Result<Opt
 /// # Errors
 /// `Key` where the value is no text, or `OutOfMemory`.
 fn text_of(alloc: Global, value: &Value, key: Key) -> Result<Option<String>, Fault>
-    ensures { Gives (option_map string_bytes) result
+    ensures { GivesSet (option_map string_bytes) result
         (value_at_key key (option_map Some (as_str (view value.now)))) }
 {
     match value.as_str() {
@@ -64,7 +64,7 @@ fn text_of(alloc: Global, value: &Value, key: Key) -> Result<Option<String>, Fau
 /// The value at a key, if there is one.
 fn value_at<'a>(table: &'a Table, key: Key) -> Option<&'a Value>
     ensures { option_map (λ value. view value.now) result
-        ≡ get_member (name_of key) (table_view table.now) }
+        ≡ get_member (key_name key) (table_view table.now) }
 {
     table.get(key.name())
 }
@@ -74,7 +74,7 @@ fn value_at<'a>(table: &'a Table, key: Key) -> Option<&'a Value>
 /// # Errors
 /// `Key` where it is missing, no number, or out of this range.
 pub(crate) fn number_at(table: &Table, key: Key, least: u64, most: u64) -> Result<u64, Fault>
-    ensures exact { result ≡ number_at key least most (table_view table.now) }
+    ensures exact { result ≡ integer_at key least most (table_view table.now) }
     ensures least { IfOk result (λ number. least ≤ number) }
     ensures most { IfOk result (λ number. number ≤ most) }
 {
@@ -83,7 +83,7 @@ pub(crate) fn number_at(table: &Table, key: Key, least: u64, most: u64) -> Resul
 
 /// The number at a key; `None` where it is missing, no number, or not from `least` to `most`.
 fn number_in(table: &Table, key: Key, least: u64, most: u64) -> Option<u64>
-    ensures exact { result ≡ number_in key least most (table_view table.now) }
+    ensures exact { result ≡ setting_number key least most (table_view table.now) }
     ensures least { IfSome result (λ number. least ≤ number) }
     ensures most { IfSome result (λ number. number ≤ most) }
 {
@@ -195,7 +195,7 @@ fn number_within(integer: i64, least: u64, most: u64) -> Option<u64>
 /// # Errors
 /// `Key` where there is no such table, or an address in it is no text; or `OutOfMemory`.
 pub(crate) fn collectors_at(alloc: Global, table: &Table) -> Result<Vec<Collector>, Fault>
-    ensures exact { Gives pairs result (collectors_at (table_view table.now)) }
+    ensures exact { GivesSet pairs result (collectors_at (table_view table.now)) }
     ensures sorted { IfOk result (λ collectors. AscendByOctets (pairs collectors)) }
 {
     match value_at(table, Key::Deliver) {
@@ -209,7 +209,7 @@ pub(crate) fn collectors_at(alloc: Global, table: &Table) -> Result<Vec<Collecto
 /// # Errors
 /// `Key` where an address is no text, or `OutOfMemory`.
 fn collectors_in(alloc: Global, addresses: &Table) -> Result<Vec<Collector>, Fault>
-    ensures exact { Gives pairs result
+    ensures exact { GivesSet pairs result
         (value_at_key key.Deliver (collectors_of (table_view addresses.now))) }
     ensures sorted { IfOk result (λ collectors. AscendByOctets (pairs collectors)) }
 {
@@ -226,7 +226,7 @@ fn collectors_in(alloc: Global, addresses: &Table) -> Result<Vec<Collector>, Fau
 /// # Errors
 /// `Key` where the value is no text, or `OutOfMemory`.
 fn collector_of(alloc: Global, subscriber: &str, value: &Value) -> Result<Collector, Fault>
-    ensures { Gives pair result (value_at_key key.Deliver
+    ensures { GivesSet pair result (value_at_key key.Deliver
         (option_map (λ address. (subscriber.now, address)) (as_str (view value.now)))) }
 {
     match value.as_str() {

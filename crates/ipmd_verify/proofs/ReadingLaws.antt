@@ -13,7 +13,7 @@ use Rattle.journal_files.specs.declared.fault.Fault.{Fault}
 use Rattle.journal_files.specs.declared.fault.Fault.TheVariants.{BadMagic, BadVersion, Truncated, BadEntry, Read, Write, OutOfMemory}
 use Rattle.journal_files.specs.Format.{head_octets, octets_of}
 use Rattle.journal_files.specs.Reading.{head_of, entry_of, is_past, pushed_of, entries_behind, file_of}
-use Rattle.journal_files.specs.Streaming.{FilePlace, TakesEntry, EndsFile, StopsReadingFile, ShowsFault, after_step, behind, place_behind, step_of}
+use Rattle.journal_files.specs.Streaming.{FilePlace, TakesEntry, EndsFile, StopsReadingFile, ShowsFault, after_step, behind, place_behind, entry_step}
 use Rattle.journal_files.proofs.FileLaws.{head_read}
 use Rattle.journal_files.proofs.ReadingSteps.{all_read, entry_more}
 use Rattle.journal_files.proofs.Stays.{fault_stays, head_stays}
@@ -126,15 +126,15 @@ all_said given now after place new h to ends = ended_rest given now after h plac
 -- ---- a fault
 
 -- a step's fault is that of the whole file
-stopped_rest : (given now after : Option (List ℕ)) (h : List Entry) (left : ℕ) (why : Fault) → ShowsFault why (Option (Entry × List ℕ)) (step_of (place_behind h left)) now after → IsRest given now h left → IsNoFile given why
+stopped_rest : (given now after : Option (List ℕ)) (h : List Entry) (left : ℕ) (why : Fault) → ShowsFault why (Option (Entry × List ℕ)) (entry_step (place_behind h left)) now after → IsRest given now h left → IsNoFile given why
 stopped_rest None now after h left why shows rest = tt
 stopped_rest (Some octets) None after h left why shows rest = absurd rest
 stopped_rest (Some octets) (Some this) None h left why shows rest = absurd shows.consumed
 stopped_rest (Some octets) (Some this) (Some then) h left why shows rest =
-    rest ∙ step_by_step h left this ∙ ap (after_step h left) (ap (step_of (place_behind h left)) shows.consumed ∙ shown_by (is_truncated why) refl)
+    rest ∙ step_by_step h left this ∙ ap (after_step h left) (ap (entry_step (place_behind h left)) shows.consumed ∙ shown_by (is_truncated why) refl)
   where
-    shown_by : (b : Bool) → is_truncated why ≡ b → step_of (place_behind h left) (shows.piece ++ then) ≡ Err why
-    shown_by true is = ap (λ t. step_of (place_behind h left) (shows.piece ++ t)) (shows.end (truncated_is why is)) ∙ ap (step_of (place_behind h left)) (append-nil shows.piece) ∙ shows.shown
+    shown_by : (b : Bool) → is_truncated why ≡ b → entry_step (place_behind h left) (shows.piece ++ then) ≡ Err why
+    shown_by true is = ap (λ t. entry_step (place_behind h left) (shows.piece ++ t)) (shows.end (truncated_is why is)) ∙ ap (entry_step (place_behind h left)) (append-nil shows.piece) ∙ shows.shown
     shown_by false is = fault_stays (place_behind h left) shows.piece then why (not_truncated why is) shows.shown
 
 begun_stopped : (given after : Option (List ℕ)) (why : Fault) → ShowsFault why (ℕ × List ℕ) head_of given after → IsNoFile given why
@@ -162,10 +162,10 @@ refuses_by A BadEntry read given now after was has shows stops = (tt, shows BadE
 pub head_refuses : (e : Fault) (given after : Option (List ℕ)) (was has : Bool) → StopsReadingFile e head_of given after was has → RefusesFile (read_fault_of e) given
 head_refuses e given after was has stops = refuses_by (ℕ × List ℕ) e head_of given given after was has (λ why shows. begun_stopped given after why shows) stops
 
-pub step_refuses : (e : Fault) (given now after : Option (List ℕ)) (place : FilePlace) (h : List Entry) (was has : Bool) → IsReadTo given now place h → StopsReadingFile e (step_of place) now after was has → RefusesFile (read_fault_of e) given
+pub step_refuses : (e : Fault) (given now after : Option (List ℕ)) (place : FilePlace) (h : List Entry) (was has : Bool) → IsReadTo given now place h → StopsReadingFile e (entry_step place) now after was has → RefusesFile (read_fault_of e) given
 step_refuses e given now after place h was has to stops =
-    refuses_by (Option (Entry × List ℕ)) e (step_of place) given now after was has
-    (λ why shows. stopped_rest given now after h place.left why (subst (λ p. ShowsFault why (Option (Entry × List ℕ)) (step_of p) now after) to.there shows) to.rest) stops
+    refuses_by (Option (Entry × List ℕ)) e (entry_step place) given now after was has
+    (λ why shows. stopped_rest given now after h place.left why (subst (λ p. ShowsFault why (Option (Entry × List ℕ)) (entry_step p) now after) to.there shows) to.rest) stops
 
 -- a history that is refused at its end
 pub end_refuses : (fault : VerifyFault) (given : Option (List ℕ)) (h : List Entry) → Says given h → NamesFirst fault h → RefusesFile (verify_fault_of fault) given

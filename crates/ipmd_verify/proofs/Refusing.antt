@@ -13,7 +13,7 @@ use Rattle.history_verify.specs.declared.verified.Verified.{Verified}
 use Rattle.history_verify.specs.Answers.{IsVerified}
 use Rattle.history_verify.specs.Counts.{counts_of}
 use Rattle.ipmd_verify.specs.Found.{IsFoundIn, RefusesFile}
-use Rattle.ipmd_verify.specs.Verifying.{BeginsToTell, RefusesToVerify, RefusesToVerifyFile, text_of, told_of}
+use Rattle.ipmd_verify.specs.Verifying.{BeginsToTell, RefusesToVerify, RefusesToVerifyFile, verified_text, told_of}
 
 -- an error that is handed on
 pub err_gives : {X E : Type 0} {P Q : E → Type 0} (r : Result X E) → IsErr r × IsErrAnd r P → ((e : E) → P e → Q e) → IfErr r Q
@@ -33,12 +33,12 @@ pub no_room : (quiet : Bool) (path : List ℕ) (e : ProgramFault) (given held ho
 no_room quiet path e given held holds is kept = inl ((OutOfMemory, tt, is), kept)
 
 -- what was found is what is told: without the audit where that isn't wanted
-found_is_told : (quiet : Bool) (h : List Entry) (v : Verified) → IsVerified (not quiet) h v → text_of quiet v.subs.items v.audit.items ≡ told_of quiet h
-found_is_told true h v is = ap (λ counts. text_of true counts []) is.subs
-found_is_told false h v is = ap (λ counts. text_of false counts v.audit.items) is.subs ∙ ap (λ audit. text_of false (counts_of h) audit) is.audit
+found_is_told : (quiet : Bool) (h : List Entry) (v : Verified) → IsVerified (not quiet) h v → verified_text quiet v.subs.items v.audit.items ≡ told_of quiet h
+found_is_told true h v is = ap (λ counts. verified_text true counts []) is.subs
+found_is_told false h v is = ap (λ counts. verified_text false counts v.audit.items) is.subs ∙ ap (λ audit. verified_text false (counts_of h) audit) is.audit
 
 -- a front of it was written
-pub begun : (quiet : Bool) (given held holds : Option (List ℕ)) (v : Verified) (text : List ℕ) → IsFoundIn (not quiet) given v → text ≡ text_of quiet v.subs.items v.audit.items
+pub begun : (quiet : Bool) (given held holds : Option (List ℕ)) (v : Verified) (text : List ℕ) → IsFoundIn (not quiet) given v → text ≡ verified_text quiet v.subs.items v.audit.items
     → WritesSomeOf text held holds → BeginsToTell quiet given held holds
 begun quiet given held holds v text found is written = record {
   history = found.history;

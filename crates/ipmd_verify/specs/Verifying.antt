@@ -4,10 +4,10 @@ use Rattle.std.specs.Fmt.{decimal}
 use Rattle.std.specs.List.{flat_map}
 use Rattle.std.specs.Io.KnownBytes.{Appends, Keeps}
 use Rattle.disclosure_audit.specs.declared.entry.AuditEntry.{AuditEntry}
-use Rattle.disclosure_audit.specs.Lines.{line_of}
+use Rattle.disclosure_audit.specs.Lines.{audit_line}
 use Rattle.event_journal.specs.declared.entry.Entry.{Entry}
 use Rattle.mediator_history.specs.Auditing.{audit_list}
-use Rattle.history_verify.specs.declared.count.Count.{Count}
+use Rattle.history_verify.specs.declared.count.SubscriptionCount.{SubscriptionCount}
 use Rattle.history_verify.specs.Counts.{counts_of}
 use Rattle.history_verify.specs.Legal.{IsLegal}
 use Rattle.ipmd_command_line.specs.declared.task.VerifyOptions.{VerifyOptions}
@@ -20,22 +20,22 @@ use Rattle.ipmd_verify.specs.Found.{Says, RefusesFile}
 -- ---- the text
 
 -- how much was disclosed to a subscription
-abbrev pub count_line : Count → List ℕ
+abbrev pub count_line : SubscriptionCount → List ℕ
 count_line count = codes "sub " ++ decimal count.sub ++ codes " " ++ count.name ++ codes " disclosed " ++ decimal count.disclosed ++ 10 ∷ []
 
-abbrev pub count_lines : List Count → List ℕ
+abbrev pub count_lines : List SubscriptionCount → List ℕ
 count_lines counts = flat_map count_line counts
 
 abbrev pub audit_lines : List AuditEntry → List ℕ
-audit_lines entries = flat_map line_of entries
+audit_lines entries = flat_map audit_line entries
 
 -- a line for each subscription, and unless it is to be quiet the audit's lines
-abbrev pub text_of : Bool → List Count → List AuditEntry → List ℕ
-text_of quiet counts entries = count_lines counts ++ (if quiet then [] else audit_lines entries)
+abbrev pub verified_text : Bool → List SubscriptionCount → List AuditEntry → List ℕ
+verified_text quiet counts entries = count_lines counts ++ (if quiet then [] else audit_lines entries)
 
 -- what a history discloses, and what its audit names
 abbrev pub told_of : Bool → List Entry → List ℕ
-told_of quiet h = text_of quiet (counts_of h) (audit_list h)
+told_of quiet h = verified_text quiet (counts_of h) (audit_list h)
 
 -- ---- what is written
 

@@ -1,9 +1,9 @@
 //! The text that is written of a legal history.
 ghost use Rattle.std.specs.Prelude.{◌≡◌, ◌++◌, IfOk, OnOk, string_bytes};
-ghost use Rattle.ipmd_verify.specs.Verifying.{audit_lines, count_line, count_lines, text_of};
+ghost use Rattle.ipmd_verify.specs.Verifying.{audit_lines, count_line, count_lines, verified_text};
 
 use disclosure_audit::{AuditEntry, put_line};
-use history_verify::{Count, Verified};
+use history_verify::{SubscriptionCount, Verified};
 use std::alloc::{AllocError, Global};
 
 /// A line for each subscription, and unless it is to be quiet the audit's lines behind them.
@@ -12,7 +12,7 @@ use std::alloc::{AllocError, Global};
 /// Want of memory.
 pub(crate) fn text_of(alloc: Global, quiet: bool, verified: &Verified) -> Result<String, AllocError>
     ensures { IfOk result (λ text. string_bytes text
-        ≡ text_of quiet verified.now.subs.items verified.now.audit.items) }
+        ≡ verified_text quiet verified.now.subs.items verified.now.audit.items) }
 {
     let mut text = counts_text(alloc, verified.subs.as_slice())?;
     if !quiet {
@@ -22,7 +22,7 @@ pub(crate) fn text_of(alloc: Global, quiet: bool, verified: &Verified) -> Result
 }
 
 /// The lines of counts, one after another.
-fn counts_text(alloc: Global, counts: &[Count]) -> Result<String, AllocError>
+fn counts_text(alloc: Global, counts: &[SubscriptionCount]) -> Result<String, AllocError>
     ensures { IfOk result (λ text. string_bytes text ≡ count_lines counts.now) }
 {
     let mut text = String::new(alloc);
@@ -34,7 +34,7 @@ fn counts_text(alloc: Global, counts: &[Count]) -> Result<String, AllocError>
 }
 
 /// How much was disclosed to one subscription, as a line.
-fn count_line(alloc: Global, count: &Count) -> Result<String, AllocError>
+fn count_line(alloc: Global, count: &SubscriptionCount) -> Result<String, AllocError>
     ensures { IfOk result (λ line. string_bytes line ≡ count_line count.now) }
 {
     let sub = count.sub;

@@ -6,7 +6,7 @@ use Rattle.std.proofs.lemmas.List.{take-append-le}
 use Rattle.std.proofs.Math.Seq.{drop-append-le}
 use Rattle.sequences.specs.Octets.{be_value, number_at}
 use Rattle.sequences.proofs.ResultLaws.{Err-Ok}
-use Rattle.journal_files.specs.Reading.{number_of, entry_of, front_of}
+use Rattle.journal_files.specs.Reading.{front_number, entry_of, front_of}
 use Rattle.journal_files.specs.Gathering.{front_octets, announced, IsFilled, Gathers}
 use Rattle.journal_files.specs.Streaming.{IsGathered}
 use Rattle.journal_files.proofs.EntryRead.{kind_read}
@@ -18,7 +18,7 @@ empty (x ∷ octets) e = absurd (omega arith)
 
 -- none are there
 pub gathered_none : (octets : List ℕ) (left : Option (List ℕ)) → length octets < 1 → IsAtEnd left → IsGathered octets left
-unfolding entry_of number_of front_of
+unfolding entry_of front_number front_of
 gathered_none [] left few end = record { whole = λ e rest eq. absurd (Err-Ok _ _ eq); cut_off = λ eq. end }
 gathered_none (x ∷ octets) left few end = absurd (omega arith)
 

@@ -7,7 +7,7 @@ use Rattle.sequences.specs.Octets.{be_octets, IsNumberIn}
 use Rattle.policy_text.specs.Naming.{is_name}
 use Rattle.event_journal.specs.declared.entry.Entry.{Entry}
 use Rattle.event_journal.specs.declared.entry.Entry.TheVariants.{Open, Close, Message, Edit, Subscribe, Unsubscribe, Advance, Cut}
-use Rattle.journal_files.specs.Reading.{Finding, front_of, number_of, numbered_entry, message_of, edit_of, subscribe_of, entry_by, entry_of}
+use Rattle.journal_files.specs.Reading.{Finding, front_of, front_number, numbered_entry, message_of, edit_of, subscribe_of, entry_by, entry_of}
 use Rattle.journal_files.specs.Laws.{EntryReadBack}
 use Rattle.journal_files.proofs.NumberLaws.{written_number}
 use Rattle.journal_files.proofs.TextLaws.{is_text, name_short}
@@ -21,8 +21,8 @@ front_read n a rest wide =
     let long : ltb (length (a ++ rest)) n ≡ false = le-ltb _ _ (omega (arith, length-append a rest, wide)) in
     rw (long, take_at a rest n wide, drop_at a rest n wide) refl
 
-pub number_read : (width n : ℕ) (a rest : List ℕ) → IsNumberIn width a n → number_of width (a ++ rest) ≡ found n rest
-unfolding number_of
+pub number_read : (width n : ℕ) (a rest : List ℕ) → IsNumberIn width a n → front_number width (a ++ rest) ≡ found n rest
+unfolding front_number
 number_read width n a rest is = rw (front_read width a rest is.wide, is.value) refl
 
 one_octet : (n : ℕ) → IsNumberIn 1 (n ∷ []) n

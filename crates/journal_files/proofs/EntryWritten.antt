@@ -13,7 +13,7 @@ use Rattle.event_journal.specs.declared.entry.Entry.{Entry}
 use Rattle.event_journal.specs.declared.entry.Entry.TheVariants.{Open, Close, Message, Edit, Subscribe, Unsubscribe, Advance, Cut}
 use Rattle.journal_files.specs.declared.fault.Fault.TheVariants.{Truncated, BadEntry}
 use Rattle.journal_files.specs.Format.{octets_of}
-use Rattle.journal_files.specs.Reading.{Finding, front_of, number_of, numbered_entry, message_of, edit_of, subscribe_of, entry_by, entry_of}
+use Rattle.journal_files.specs.Reading.{Finding, front_of, front_number, numbered_entry, message_of, edit_of, subscribe_of, entry_by, entry_of}
 use Rattle.journal_files.specs.Laws.{EntryWrittenBack}
 use Rattle.journal_files.proofs.NumberLaws.{be_octets-be_value}
 use Rattle.journal_files.proofs.EntryRead.{found}
@@ -47,8 +47,8 @@ pub record IsFrontNumber (width : ℕ) (octets : List ℕ) (n : ℕ) (rest : Lis
   pub front : IsFront width octets (be_octets width n) rest
   pub below : n < 256 ^ width
 
-pub number_found : (width : ℕ) (octets : List ℕ) (n : ℕ) (rest : List ℕ) → AreOctets octets → number_of width octets ≡ found n rest → IsFrontNumber width octets n rest
-unfolding number_of
+pub number_found : (width : ℕ) (octets : List ℕ) (n : ℕ) (rest : List ℕ) → AreOctets octets → front_number width octets ≡ found n rest → IsFrontNumber width octets n rest
+unfolding front_number
 number_found width octets n rest are e =
     let b = bind_Ok (front_of width octets) (λ front. found (be_value front.0) front.1) (n, rest) e in
     let front = front_found width octets b.0.0 b.0.1 are b.1 in
@@ -67,7 +67,7 @@ number_found width octets n rest are e =
 numbered_found : (entry : ℕ → Entry) (kind : ℕ) → ((n : ℕ) → octets_of (entry n) ≡ kind ∷ be_octets 8 n) → (octets rest : List ℕ) (e : Entry) → AreOctets octets → numbered_entry entry octets ≡ found e rest → kind ∷ octets ≡ octets_of e ++ rest
 unfolding numbered_entry
 numbered_found entry kind spelled octets rest e are eq =
-    let b = bind_Ok (number_of 8 octets) (λ number. found (entry number.0) number.1) (e, rest) eq in
+    let b = bind_Ok (front_number 8 octets) (λ number. found (entry number.0) number.1) (e, rest) eq in
     let n = number_found 8 octets b.0.0 b.0.1 are b.1 in
     let pair : (entry b.0.0, b.0.1) ≡ (e, rest) = same_Ok _ _ b.2 in
     ap (λ (t : List ℕ). kind ∷ t) n.front.whole ∙ ap (λ (t : List ℕ). t ++ b.0.1) (sym (spelled b.0.0)) ∙ ap (λ (p : Entry × List ℕ). octets_of p.0 ++ p.1) pair
@@ -86,19 +86,19 @@ abbrev pub message_part : ℕ → ℕ → ℕ × List ℕ → Finding Entry
 message_part session number len = front_of len.0 len.1 >>= λ message. Ok (Message session number message.0, message.1)
 
 abbrev pub length_part : ℕ → ℕ × List ℕ → Finding Entry
-length_part session number = number_of 4 number.1 >>= message_part session number.0
+length_part session number = front_number 4 number.1 >>= message_part session number.0
 
 abbrev pub number_part : ℕ × List ℕ → Finding Entry
-number_part session = number_of 8 session.1 >>= length_part session.0
+number_part session = front_number 8 session.1 >>= length_part session.0
 
 message_found : (octets rest : List ℕ) (e : Entry) → AreOctets octets → message_of octets ≡ found e rest → 3 ∷ octets ≡ octets_of e ++ rest
 unfolding message_of
 message_found octets rest e are eq =
-    let s = bind_Ok (number_of 8 octets) number_part (e, rest) eq in
+    let s = bind_Ok (front_number 8 octets) number_part (e, rest) eq in
     let session = number_found 8 octets s.0.0 s.0.1 are s.1 in
-    let n = bind_Ok (number_of 8 s.0.1) (length_part s.0.0) (e, rest) s.2 in
+    let n = bind_Ok (front_number 8 s.0.1) (length_part s.0.0) (e, rest) s.2 in
     let number = number_found 8 s.0.1 n.0.0 n.0.1 session.front.rest_are n.1 in
-    let l = bind_Ok (number_of 4 n.0.1) (message_part s.0.0 n.0.0) (e, rest) n.2 in
+    let l = bind_Ok (front_number 4 n.0.1) (message_part s.0.0 n.0.0) (e, rest) n.2 in
     let len = number_found 4 n.0.1 l.0.0 l.0.1 number.front.rest_are l.1 in
     let m = bind_Ok (front_of l.0.0 l.0.1) (λ message. found (Message s.0.0 n.0.0 message.0) message.1) (e, rest) l.2 in
     let message = front_found l.0.0 l.0.1 m.0.0 m.0.1 len.front.rest_are m.1 in
@@ -118,7 +118,7 @@ text_part len = front_of len.0 len.1 >>= λ text. cond (is_utf8 text.0) (found (
 edit_found : (octets rest : List ℕ) (e : Entry) → AreOctets octets → edit_of octets ≡ found e rest → 4 ∷ octets ≡ octets_of e ++ rest
 unfolding edit_of
 edit_found octets rest e are eq =
-    let l = bind_Ok (number_of 8 octets) text_part (e, rest) eq in
+    let l = bind_Ok (front_number 8 octets) text_part (e, rest) eq in
     let len = number_found 8 octets l.0.0 l.0.1 are l.1 in
     let t = bind_Ok (front_of l.0.0 l.0.1) (λ text. cond (is_utf8 text.0) (found (Edit text.0) text.1) (Err BadEntry)) (e, rest) l.2 in
     let text = front_found l.0.0 l.0.1 t.0.0 t.0.1 len.front.rest_are t.1 in
@@ -131,14 +131,14 @@ abbrev pub name_part : ℕ → ℕ × List ℕ → Finding Entry
 name_part sub len = front_of len.0 len.1 >>= λ name. cond (is_name name.0) (found (Subscribe sub name.0) name.1) (Err BadEntry)
 
 abbrev pub name_length_part : ℕ × List ℕ → Finding Entry
-name_length_part sub = number_of 1 sub.1 >>= name_part sub.0
+name_length_part sub = front_number 1 sub.1 >>= name_part sub.0
 
 subscribe_found : (octets rest : List ℕ) (e : Entry) → AreOctets octets → subscribe_of octets ≡ found e rest → 5 ∷ octets ≡ octets_of e ++ rest
 unfolding subscribe_of
 subscribe_found octets rest e are eq =
-    let s = bind_Ok (number_of 8 octets) name_length_part (e, rest) eq in
+    let s = bind_Ok (front_number 8 octets) name_length_part (e, rest) eq in
     let sub = number_found 8 octets s.0.0 s.0.1 are s.1 in
-    let l = bind_Ok (number_of 1 s.0.1) (name_part s.0.0) (e, rest) s.2 in
+    let l = bind_Ok (front_number 1 s.0.1) (name_part s.0.0) (e, rest) s.2 in
     let len = number_found 1 s.0.1 l.0.0 l.0.1 sub.front.rest_are l.1 in
     let n = bind_Ok (front_of l.0.0 l.0.1) (λ name. cond (is_name name.0) (found (Subscribe s.0.0 name.0) name.1) (Err BadEntry)) (e, rest) l.2 in
     let name = front_found l.0.0 l.0.1 n.0.0 n.0.1 len.front.rest_are n.1 in
@@ -170,7 +170,7 @@ kind_found kind octets rest e are eq =
 pub entry_written_back : EntryWrittenBack
 unfolding entry_of
 entry_written_back octets rest e are eq =
-    let b = bind_Ok (number_of 1 octets) (λ kind. entry_by kind.0 kind.1) (e, rest) eq in
+    let b = bind_Ok (front_number 1 octets) (λ kind. entry_by kind.0 kind.1) (e, rest) eq in
     let kind = number_found 1 octets b.0.0 b.0.1 are b.1 in
     let low : b.0.0 % 256 ≡ b.0.0 = mod-eq_of_lt (omega (arith, kind.below)) in
     kind.front.whole ∙ ap (λ (n : ℕ). n ∷ b.0.1) low ∙ kind_found b.0.0 b.0.1 rest e kind.front.rest_are b.2

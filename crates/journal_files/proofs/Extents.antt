@@ -11,7 +11,7 @@ use Rattle.event_journal.specs.declared.entry.Entry.{Entry}
 use Rattle.event_journal.specs.declared.entry.Entry.TheVariants.{Open, Close, Message, Edit, Subscribe, Unsubscribe, Advance, Cut}
 use Rattle.journal_files.specs.declared.fault.Fault.{Fault}
 use Rattle.journal_files.specs.declared.fault.Fault.TheVariants.{Truncated, BadEntry}
-use Rattle.journal_files.specs.Reading.{Finding, front_of, number_of, numbered_entry, message_of, edit_of, subscribe_of, entry_by}
+use Rattle.journal_files.specs.Reading.{Finding, front_of, front_number, numbered_entry, message_of, edit_of, subscribe_of, entry_by}
 use Rattle.journal_files.specs.Gathering.{front_octets, announced}
 use Rattle.journal_files.proofs.EntryRead.{found}
 use Rattle.journal_files.proofs.EntryWritten.{message_part, length_part, number_part, text_part, name_part, name_length_part, tested, by_kind}
@@ -52,8 +52,8 @@ pub record IsNumberCut (width : ℕ) (octets : List ℕ) (n : ℕ) (rest : List 
   pub rest_is : rest ≡ drop width octets
   pub left : length octets ≡ width + length rest
 
-pub number_cut : (width : ℕ) (octets : List ℕ) (n : ℕ) (rest : List ℕ) → number_of width octets ≡ found n rest → IsNumberCut width octets n rest
-unfolding number_of
+pub number_cut : (width : ℕ) (octets : List ℕ) (n : ℕ) (rest : List ℕ) → front_number width octets ≡ found n rest → IsNumberCut width octets n rest
+unfolding front_number
 number_cut width octets n rest e =
     let b = bind_Ok (front_of width octets) (λ front. found (be_value front.0) front.1) (n, rest) e in
     let front = front_cut width octets b.0.0 b.0.1 b.1 in
@@ -66,8 +66,8 @@ number_cut width octets n rest e =
       left = omega (arith, front.long, ap (λ (t : List ℕ). length t) after, length-drop width octets);
     }
 
-pub number_short : (width : ℕ) (octets : List ℕ) → number_of width octets ≡ Err Truncated → length octets < width
-unfolding number_of
+pub number_short : (width : ℕ) (octets : List ℕ) → front_number width octets ≡ Err Truncated → length octets < width
+unfolding front_number
 number_short width octets e =
     elim (bind_Err (front_of width octets) (λ front. found (be_value front.0) front.1) Truncated e) [
       | inl front ↦ front_short width octets front
@@ -79,7 +79,7 @@ number_short width octets e =
 numbered_whole : (entry : ℕ → Entry) (octets rest : List ℕ) (e : Entry) → numbered_entry entry octets ≡ found e rest → length octets ≡ 8 + length rest
 unfolding numbered_entry
 numbered_whole entry octets rest e eq =
-    let b = bind_Ok (number_of 8 octets) (λ number. found (entry number.0) number.1) (e, rest) eq in
+    let b = bind_Ok (front_number 8 octets) (λ number. found (entry number.0) number.1) (e, rest) eq in
     let n = number_cut 8 octets b.0.0 b.0.1 b.1 in
     let pair : (entry b.0.0, b.0.1) ≡ (e, rest) = same_Ok _ _ b.2 in
     omega (arith, n.left, ap (λ (p : Entry × List ℕ). length p.1) pair)
@@ -90,11 +90,11 @@ body_left len octets front rest cut = omega (arith, cut.long, ap (λ (t : List �
 message_whole : (octets rest : List ℕ) (e : Entry) → message_of octets ≡ found e rest → length octets ≡ 20 + number_at 16 4 octets + length rest
 unfolding message_of
 message_whole octets rest e eq =
-    let s = bind_Ok (number_of 8 octets) number_part (e, rest) eq in
+    let s = bind_Ok (front_number 8 octets) number_part (e, rest) eq in
     let session = number_cut 8 octets s.0.0 s.0.1 s.1 in
-    let n = bind_Ok (number_of 8 s.0.1) (length_part s.0.0) (e, rest) s.2 in
+    let n = bind_Ok (front_number 8 s.0.1) (length_part s.0.0) (e, rest) s.2 in
     let number = number_cut 8 s.0.1 n.0.0 n.0.1 n.1 in
-    let l = bind_Ok (number_of 4 n.0.1) (message_part s.0.0 n.0.0) (e, rest) n.2 in
+    let l = bind_Ok (front_number 4 n.0.1) (message_part s.0.0 n.0.0) (e, rest) n.2 in
     let len = number_cut 4 n.0.1 l.0.0 l.0.1 l.1 in
     let m = bind_Ok (front_of l.0.0 l.0.1) (λ message. found (Message s.0.0 n.0.0 message.0) message.1) (e, rest) l.2 in
     let body = body_left l.0.0 l.0.1 m.0.0 m.0.1 (front_cut l.0.0 l.0.1 m.0.0 m.0.1 m.1) in
@@ -106,7 +106,7 @@ message_whole octets rest e eq =
 edit_whole : (octets rest : List ℕ) (e : Entry) → edit_of octets ≡ found e rest → length octets ≡ 8 + number_at 0 8 octets + length rest
 unfolding edit_of
 edit_whole octets rest e eq =
-    let l = bind_Ok (number_of 8 octets) text_part (e, rest) eq in
+    let l = bind_Ok (front_number 8 octets) text_part (e, rest) eq in
     let len = number_cut 8 octets l.0.0 l.0.1 l.1 in
     let t = bind_Ok (front_of l.0.0 l.0.1) (λ text. cond (is_utf8 text.0) (found (Edit text.0) text.1) (Err BadEntry)) (e, rest) l.2 in
     let body = body_left l.0.0 l.0.1 t.0.0 t.0.1 (front_cut l.0.0 l.0.1 t.0.0 t.0.1 t.1) in
@@ -116,9 +116,9 @@ edit_whole octets rest e eq =
 subscribe_whole : (octets rest : List ℕ) (e : Entry) → subscribe_of octets ≡ found e rest → length octets ≡ 9 + number_at 8 1 octets + length rest
 unfolding subscribe_of
 subscribe_whole octets rest e eq =
-    let s = bind_Ok (number_of 8 octets) name_length_part (e, rest) eq in
+    let s = bind_Ok (front_number 8 octets) name_length_part (e, rest) eq in
     let sub = number_cut 8 octets s.0.0 s.0.1 s.1 in
-    let l = bind_Ok (number_of 1 s.0.1) (name_part s.0.0) (e, rest) s.2 in
+    let l = bind_Ok (front_number 1 s.0.1) (name_part s.0.0) (e, rest) s.2 in
     let len = number_cut 1 s.0.1 l.0.0 l.0.1 l.1 in
     let n = bind_Ok (front_of l.0.0 l.0.1) (λ name. cond (is_name name.0) (found (Subscribe s.0.0 name.0) name.1) (Err BadEntry)) (e, rest) l.2 in
     let body = body_left l.0.0 l.0.1 n.0.0 n.0.1 (front_cut l.0.0 l.0.1 n.0.0 n.0.1 n.1) in
@@ -151,7 +151,7 @@ kind_whole kind octets rest e eq =
 numbered_short : (entry : ℕ → Entry) (octets : List ℕ) → numbered_entry entry octets ≡ Err Truncated → length octets < 8
 unfolding numbered_entry
 numbered_short entry octets e =
-    elim (bind_Err (number_of 8 octets) (λ number. found (entry number.0) number.1) Truncated e) [
+    elim (bind_Err (front_number 8 octets) (λ number. found (entry number.0) number.1) Truncated e) [
       | inl short ↦ number_short 8 octets short
       | inr other ↦ absurd (Err-Ok _ _ (sym other.2))
     ]
@@ -165,14 +165,14 @@ message_part_short session number len e =
 
 length_part_short : (session : ℕ) (number : ℕ × List ℕ) → length_part session number ≡ Err Truncated → length number.1 < 4 + be_value (take 4 number.1)
 length_part_short session number e =
-    elim (bind_Err (number_of 4 number.1) (message_part session number.0) Truncated e) [
+    elim (bind_Err (front_number 4 number.1) (message_part session number.0) Truncated e) [
       | inl short ↦ let few = number_short 4 number.1 short in omega (arith, few)
       | inr l ↦ let len = number_cut 4 number.1 l.0.0 l.0.1 l.1 in let few = message_part_short session number.0 l.0 l.2 in omega (arith, len.left, len.number, few)
     ]
 
 number_part_short : (session : ℕ × List ℕ) → number_part session ≡ Err Truncated → length session.1 < 12 + number_at 8 4 session.1
 number_part_short session e =
-    elim (bind_Err (number_of 8 session.1) (length_part session.0) Truncated e) [
+    elim (bind_Err (front_number 8 session.1) (length_part session.0) Truncated e) [
       | inl short ↦ let few = number_short 8 session.1 short in omega (arith, few)
       | inr n ↦ let number = number_cut 8 session.1 n.0.0 n.0.1 n.1 in
           let few = length_part_short session.0 n.0 n.2 in
@@ -182,7 +182,7 @@ number_part_short session e =
 message_short : (octets : List ℕ) → message_of octets ≡ Err Truncated → length octets < 20 + number_at 16 4 octets
 unfolding message_of
 message_short octets e =
-    elim (bind_Err (number_of 8 octets) number_part Truncated e) [
+    elim (bind_Err (front_number 8 octets) number_part Truncated e) [
       | inl short ↦ let few = number_short 8 octets short in omega (arith, few)
       | inr s ↦ let session = number_cut 8 octets s.0.0 s.0.1 s.1 in
           let few = number_part_short s.0 s.2 in
@@ -203,7 +203,7 @@ text_part_short len e =
 edit_short : (octets : List ℕ) → edit_of octets ≡ Err Truncated → length octets < 8 + number_at 0 8 octets
 unfolding edit_of
 edit_short octets e =
-    elim (bind_Err (number_of 8 octets) text_part Truncated e) [
+    elim (bind_Err (front_number 8 octets) text_part Truncated e) [
       | inl short ↦ let few = number_short 8 octets short in omega (arith, few)
       | inr l ↦ let len = number_cut 8 octets l.0.0 l.0.1 l.1 in let few = text_part_short l.0 l.2 in omega (arith, len.left, len.number, few)
     ]
@@ -217,7 +217,7 @@ name_part_short sub len e =
 
 name_length_part_short : (sub : ℕ × List ℕ) → name_length_part sub ≡ Err Truncated → length sub.1 < 1 + be_value (take 1 sub.1)
 name_length_part_short sub e =
-    elim (bind_Err (number_of 1 sub.1) (name_part sub.0) Truncated e) [
+    elim (bind_Err (front_number 1 sub.1) (name_part sub.0) Truncated e) [
       | inl short ↦ let few = number_short 1 sub.1 short in omega (arith, few)
       | inr l ↦ let len = number_cut 1 sub.1 l.0.0 l.0.1 l.1 in let few = name_part_short sub.0 l.0 l.2 in omega (arith, len.left, len.number, few)
     ]
@@ -225,7 +225,7 @@ name_length_part_short sub e =
 subscribe_short : (octets : List ℕ) → subscribe_of octets ≡ Err Truncated → length octets < 9 + number_at 8 1 octets
 unfolding subscribe_of
 subscribe_short octets e =
-    elim (bind_Err (number_of 8 octets) name_length_part Truncated e) [
+    elim (bind_Err (front_number 8 octets) name_length_part Truncated e) [
       | inl short ↦ let few = number_short 8 octets short in omega (arith, few)
       | inr s ↦ let sub = number_cut 8 octets s.0.0 s.0.1 s.1 in
           let few = name_length_part_short s.0 s.2 in

@@ -15,7 +15,7 @@ use Rattle.event_journal.specs.Sizes.{entry_octets, history_octets}
 use Rattle.journal_files.specs.declared.fault.Fault.{Fault}
 use Rattle.journal_files.specs.declared.fault.Fault.TheVariants.{BadMagic, BadVersion, BadEntry}
 use Rattle.journal_files.specs.Format.{magic, version, head_octets, octets_of, history_in_octets}
-use Rattle.journal_files.specs.Reading.{number_of, past_number, head_of, entry_of, is_past, pushed_of, entries_behind, file_of}
+use Rattle.journal_files.specs.Reading.{front_number, past_number, head_of, entry_of, is_past, pushed_of, entries_behind, file_of}
 use Rattle.journal_files.specs.Laws.{IsWritten, FileReadBack, FileWrittenBack}
 use Rattle.journal_files.proofs.NumberLaws.{written_number}
 use Rattle.journal_files.proofs.EntryRead.{found, number_read, entry_read_back}
@@ -48,7 +48,7 @@ past_by n expected after rest fault false is e = absurd (Err-Ok _ _ e)
 past_number_found : (width n : ℕ) (fault : Fault) (octets rest : List ℕ) → AreOctets octets → past_number width n fault octets ≡ Ok rest → IsPast width n octets rest
 unfolding past_number
 past_number_found width n fault octets rest are e =
-    let b = bind_Ok (number_of width octets) (λ number. cond (eqb number.0 n) (Ok number.1) (Err fault)) rest e in
+    let b = bind_Ok (front_number width octets) (λ number. cond (eqb number.0 n) (Ok number.1) (Err fault)) rest e in
     let number = number_found width octets b.0.0 b.0.1 are b.1 in
     let p = past_by b.0.0 n b.0.1 rest fault (eqb b.0.0 n) refl b.2 in
     record {
@@ -63,9 +63,9 @@ pub record IsHead (octets : List ℕ) (count : ℕ) (rest : List ℕ) : Type 0 w
 pub head_found : (octets rest : List ℕ) (count : ℕ) → AreOctets octets → head_of octets ≡ found count rest → IsHead octets count rest
 unfolding head_of
 head_found octets rest count are e =
-    let m = bind_Ok (past_number 4 magic BadMagic octets) (λ after_magic. past_number 2 version BadVersion after_magic >>= λ after_version. number_of 8 after_version) (count, rest) e in
+    let m = bind_Ok (past_number 4 magic BadMagic octets) (λ after_magic. past_number 2 version BadVersion after_magic >>= λ after_version. front_number 8 after_version) (count, rest) e in
     let first = past_number_found 4 magic BadMagic octets m.0 are m.1 in
-    let v = bind_Ok (past_number 2 version BadVersion m.0) (λ after_version. number_of 8 after_version) (count, rest) m.2 in
+    let v = bind_Ok (past_number 2 version BadVersion m.0) (λ after_version. front_number 8 after_version) (count, rest) m.2 in
     let second = past_number_found 2 version BadVersion m.0 v.0 first.rest_are v.1 in
     let number = number_found 8 v.0 count rest second.rest_are v.2 in
     record {

@@ -8,7 +8,7 @@ use Rattle.journal_files.specs.declared.fault.Fault.{Fault}
 use Rattle.journal_files.specs.declared.fault.Fault.TheVariants.{BadEntry}
 use Rattle.journal_files.specs.Faults.{IsDecodingFault}
 use Rattle.journal_files.specs.Format.{file_octets}
-use Rattle.journal_files.specs.Reading.{entry_of, pushed_of, entries_behind, file_of, is_memory, Gives}
+use Rattle.journal_files.specs.Reading.{entry_of, pushed_of, entries_behind, file_of, is_memory, GivesRead}
 use Rattle.journal_files.specs.Laws.{IsFile}
 use Rattle.journal_files.proofs.EntryRead.{found}
 use Rattle.journal_files.proofs.FileLaws.{file_read_back, file_written_back}
@@ -55,9 +55,9 @@ more_left h left octets whole none some is = sym is ∙ rw (none, some) refl
 
 -- ---- what is answered
 
-pub written_back : {X : Type 0} (view : X → List Entry) (answer : Result X Fault) (octets : List ℕ) → AreOctets octets → Gives view answer (file_of octets) → IfOk answer (λ x. octets ≡ file_octets (view x))
+pub written_back : {X : Type 0} (view : X → List Entry) (answer : Result X Fault) (octets : List ℕ) → AreOctets octets → GivesRead view answer (file_of octets) → IfOk answer (λ x. octets ≡ file_octets (view x))
 written_back view (Ok x) octets are is = file_written_back octets (view x) are is.0
 written_back view (Err fault) octets are is = tt
 
-pub read_back : {X : Type 0} (view : X → List Entry) (answer : Result X Fault) (octets : List ℕ) (h : List Entry) → Gives view answer (file_of octets) → IsFile h → octets ≡ file_octets h → Gives view answer (Ok h)
-read_back view answer octets h exact is e = subst (λ read. Gives view answer read) (ap file_of e ∙ file_read_back h is) exact
+pub read_back : {X : Type 0} (view : X → List Entry) (answer : Result X Fault) (octets : List ℕ) (h : List Entry) → GivesRead view answer (file_of octets) → IsFile h → octets ≡ file_octets h → GivesRead view answer (Ok h)
+read_back view answer octets h exact is e = subst (λ read. GivesRead view answer read) (ap file_of e ∙ file_read_back h is) exact

@@ -12,8 +12,8 @@ use Rattle.event_journal.specs.declared.entry.Entry.TheVariants.{Open, Close, Ed
 use Rattle.journal_files.specs.declared.fault.Fault.{Fault}
 use Rattle.journal_files.specs.declared.fault.Fault.TheVariants.{BadMagic, BadVersion, Truncated, BadEntry}
 use Rattle.journal_files.specs.Format.{magic, version, octets_of}
-use Rattle.journal_files.specs.Reading.{Finding, front_of, number_of, past_number, head_of, numbered_entry, message_of, edit_of, subscribe_of, entry_by, entry_of, is_past}
-use Rattle.journal_files.specs.Streaming.{FilePlace, IsReadBack, FaultStays, HeadStays, next_of, step_of}
+use Rattle.journal_files.specs.Reading.{Finding, front_of, front_number, past_number, head_of, numbered_entry, message_of, edit_of, subscribe_of, entry_by, entry_of, is_past}
+use Rattle.journal_files.specs.Streaming.{FilePlace, IsReadBack, FaultStays, HeadStays, next_entry_of, entry_step}
 
 -- a result of the octets, and one of the octets with more behind them
 abbrev Same : {A : Type 0} → List ℕ → Finding A → Finding A → Type 0
@@ -42,20 +42,20 @@ front_stays : (n : ℕ) → Stays (front_of n)
 unfolding front_of
 front_stays n octets more = front_by n octets more (ltb (length octets) n) refl
 
-number_stays : (width : ℕ) → Stays (number_of width)
-unfolding number_of
+number_stays : (width : ℕ) → Stays (front_number width)
+unfolding front_number
 number_stays width octets more = stays_bind more (front_of width octets) (front_of width (octets ++ more)) _ (front_stays width octets more) (λ x rest. refl)
 
 numbered_stays : (entry : ℕ → Entry) → Stays (numbered_entry entry)
 unfolding numbered_entry
-numbered_stays entry octets more = stays_bind more (number_of 8 octets) (number_of 8 (octets ++ more)) _ (number_stays 8 octets more) (λ x rest. refl)
+numbered_stays entry octets more = stays_bind more (front_number 8 octets) (front_number 8 (octets ++ more)) _ (number_stays 8 octets more) (λ x rest. refl)
 
 message_stays : Stays message_of
 unfolding message_of
 message_stays octets more =
-    stays_bind more (number_of 8 octets) (number_of 8 (octets ++ more)) _ (number_stays 8 octets more)
-    (λ session one. stays_bind more (number_of 8 one) (number_of 8 (one ++ more)) _ (number_stays 8 one more)
-    (λ number two. stays_bind more (number_of 4 two) (number_of 4 (two ++ more)) _ (number_stays 4 two more)
+    stays_bind more (front_number 8 octets) (front_number 8 (octets ++ more)) _ (number_stays 8 octets more)
+    (λ session one. stays_bind more (front_number 8 one) (front_number 8 (one ++ more)) _ (number_stays 8 one more)
+    (λ number two. stays_bind more (front_number 4 two) (front_number 4 (two ++ more)) _ (number_stays 4 two more)
     (λ len three. stays_bind more (front_of len three) (front_of len (three ++ more)) _ (front_stays len three more) (λ m rest. refl))))
 
 tested_stays : (entry : Entry) (rest more : List ℕ) (b : Bool) → Same more (cond b (Ok (entry, rest)) (Err BadEntry)) (cond b (Ok (entry, rest ++ more)) (Err BadEntry))
@@ -65,14 +65,14 @@ tested_stays entry rest more false = λ other. refl
 edit_stays : Stays edit_of
 unfolding edit_of
 edit_stays octets more =
-    stays_bind more (number_of 8 octets) (number_of 8 (octets ++ more)) _ (number_stays 8 octets more)
+    stays_bind more (front_number 8 octets) (front_number 8 (octets ++ more)) _ (number_stays 8 octets more)
     (λ len one. stays_bind more (front_of len one) (front_of len (one ++ more)) _ (front_stays len one more) (λ text rest. tested_stays (Edit text) rest more (is_utf8 text)))
 
 subscribe_stays : Stays subscribe_of
 unfolding subscribe_of
 subscribe_stays octets more =
-    stays_bind more (number_of 8 octets) (number_of 8 (octets ++ more)) _ (number_stays 8 octets more)
-    (λ sub one. stays_bind more (number_of 1 one) (number_of 1 (one ++ more)) _ (number_stays 1 one more)
+    stays_bind more (front_number 8 octets) (front_number 8 (octets ++ more)) _ (number_stays 8 octets more)
+    (λ sub one. stays_bind more (front_number 1 one) (front_number 1 (one ++ more)) _ (number_stays 1 one more)
     (λ len two. stays_bind more (front_of len two) (front_of len (two ++ more)) _ (front_stays len two more) (λ name rest. tested_stays (Subscribe sub name) rest more (is_name name))))
 
 either : {A : Type 0} (more : List ℕ) (b : Bool) (r s t u : Finding A) → Same more r s → Same more t u → Same more (cond b r t) (cond b s u)
@@ -93,7 +93,7 @@ kind_stays kind octets more =
 
 entry_stays : Stays entry_of
 unfolding entry_of
-entry_stays octets more = stays_bind more (number_of 1 octets) (number_of 1 (octets ++ more)) _ (number_stays 1 octets more) (λ kind rest. kind_stays kind rest more)
+entry_stays octets more = stays_bind more (front_number 1 octets) (front_number 1 (octets ++ more)) _ (number_stays 1 octets more) (λ kind rest. kind_stays kind rest more)
 
 -- octets that are an entry and nothing else are those by which it is written
 pub read_alone : (held rest : List ℕ) (entry : Entry) → entry_of held ≡ Ok (entry, rest) → held ≡ octets_of entry ++ rest → rest ≡ [] → IsReadBack entry
@@ -105,8 +105,8 @@ past_stays : (entry : Entry) (rest more : List ℕ) (b : Bool) → Same more (co
 past_stays entry rest more true = λ other. refl
 past_stays entry rest more false = refl
 
-next_stays : (place : FilePlace) → Stays (next_of place)
-unfolding next_of
+next_stays : (place : FilePlace) → Stays (next_entry_of place)
+unfolding next_entry_of
 next_stays place octets more = stays_bind more (entry_of octets) (entry_of (octets ++ more)) _ (entry_stays octets more) (λ entry rest. past_stays entry rest more (is_past place.count place.octets entry))
 
 -- ---- faults alone
@@ -121,14 +121,14 @@ from_same {A} more why (Err k) s other same e =
     let err : Fault → Finding A = λ t. Err t in
     same (λ t. other (sym k_is ∙ t)) ∙ ap err k_is
 
-step_by : (place : FilePlace) (octets more : List ℕ) (why : Fault) (b : Bool) → (why ≡ Truncated → ⊥) → eqb place.left 0 ≡ b → Faulty why (step_of place octets) (step_of place (octets ++ more))
-unfolding step_of
+step_by : (place : FilePlace) (octets more : List ℕ) (why : Fault) (b : Bool) → (why ≡ Truncated → ⊥) → eqb place.left 0 ≡ b → Faulty why (entry_step place octets) (entry_step place (octets ++ more))
+unfolding entry_step
 step_by place octets more why true other none = rw none (end_by (eqb (length octets) 0) refl)
   where
     end_by : (b : Bool) → eqb (length octets) 0 ≡ b → Faulty {A = Option (Entry × List ℕ)} why (cond b (Ok None) (Err BadEntry)) (cond (eqb (length (octets ++ more)) 0) (Ok None) (Err BadEntry))
     end_by true is e = absurd cc
     end_by false is e = let some = eqb-false (length octets) 0 is in rw (ne_eqb (length (octets ++ more)) 0 (λ z. some (omega (arith, z, length-append octets more)))) e
-step_by place octets more why false other some = rw some (next_by (next_of place octets) (next_of place (octets ++ more)) (next_stays place octets more))
+step_by place octets more why false other some = rw some (next_by (next_entry_of place octets) (next_entry_of place (octets ++ more)) (next_stays place octets more))
   where
     next_by : (r s : Finding Entry) → Same more r s → Faulty {A = Option (Entry × List ℕ)} why (r >>= λ one. Ok (Some one)) (s >>= λ one. Ok (Some one))
     next_by (Ok x) s same e = absurd cc
@@ -141,7 +141,7 @@ fault_stays place octets more why other e = step_by place octets more why (eqb p
 
 past_passed : (width n : ℕ) (fault : Fault) (octets more : List ℕ) → SameRest more (past_number width n fault octets) (past_number width n fault (octets ++ more))
 unfolding past_number
-past_passed width n fault octets more = by_number (number_of width octets) (number_of width (octets ++ more)) (number_stays width octets more)
+past_passed width n fault octets more = by_number (front_number width octets) (front_number width (octets ++ more)) (number_stays width octets more)
   where
     tested : (x : ℕ) (rest : List ℕ) (b : Bool) → SameRest more (cond b (Ok rest) (Err fault)) (cond b (Ok (rest ++ more)) (Err fault))
     tested x rest true = refl

@@ -14,7 +14,7 @@ use Rattle.journal_files.specs.declared.fault.Fault.{Fault}
 use Rattle.journal_files.specs.declared.fault.Fault.TheVariants.{Truncated, BadEntry}
 use Rattle.journal_files.specs.Reading.{front_of, edit_of, entry_by, entry_of, is_past}
 use Rattle.journal_files.specs.Gathering.{Gathers, Skips, front_octets, announced}
-use Rattle.journal_files.specs.Streaming.{FilePlace, StopsReadingFile, next_of}
+use Rattle.journal_files.specs.Streaming.{FilePlace, StopsReadingFile, next_entry_of}
 use Rattle.journal_files.proofs.EntryRead.{found, kind_read, front_read, number_read}
 use Rattle.journal_files.proofs.EntryWritten.{text_part}
 
@@ -45,17 +45,17 @@ tested_next : (place : FilePlace) (text : List ℕ) (is_text : Bool) → MOST_OC
 tested_next place text true long = rw (past_long place text long) refl
 tested_next place text false long = refl
 
-pub too_long : (place : FilePlace) (digits text : List ℕ) → length digits ≡ 8 → length text ≡ be_value digits → MOST_OCTETS < length text → next_of place (4 ∷ (digits ++ text)) ≡ Err BadEntry
-unfolding next_of
+pub too_long : (place : FilePlace) (digits text : List ℕ) → length digits ≡ 8 → length text ≡ be_value digits → MOST_OCTETS < length text → next_entry_of place (4 ∷ (digits ++ text)) ≡ Err BadEntry
+unfolding next_entry_of
 too_long place digits text wide long past =
     rw (edit_at digits text wide, whole_text (be_value digits) text long) (tested_next place text (is_utf8 text) past)
 
-pub too_short : (place : FilePlace) (digits text : List ℕ) → length digits ≡ 8 → length text < be_value digits → next_of place (4 ∷ (digits ++ text)) ≡ Err Truncated
-unfolding next_of
+pub too_short : (place : FilePlace) (digits text : List ℕ) → length digits ≡ 8 → length text < be_value digits → next_entry_of place (4 ∷ (digits ++ text)) ≡ Err Truncated
+unfolding next_entry_of
 too_short place digits text wide few = rw (edit_at digits text wide, cut_text (be_value digits) text few) refl
 
 -- what was passed over shows the fault
-stops_edit : (place : FilePlace) (why : Fault) (more : ℕ) (digits : List ℕ) (given now left : Option (List ℕ)) (was has : Bool) → Consumes given now (4 ∷ digits) → length digits ≡ 8 → more ≡ be_value digits → MOST_OCTETS < more → has ≡ was → Skips why more now left → StopsReadingFile why (next_of place) given left was has
+stops_edit : (place : FilePlace) (why : Fault) (more : ℕ) (digits : List ℕ) (given now left : Option (List ℕ)) (was has : Bool) → Consumes given now (4 ∷ digits) → length digits ≡ 8 → more ≡ be_value digits → MOST_OCTETS < more → has ≡ was → Skips why more now left → StopsReadingFile why (next_entry_of place) given left was has
 stops_edit place why more digits given now left was has consumed wide is long same skips = by_fault skips.which
   where
     piece : List ℕ
@@ -64,16 +64,16 @@ stops_edit place why more digits given now left was has consumed wide is long sa
     all : Consumes given left piece
     all = Consumes-trans given now left (4 ∷ digits) skips.piece consumed skips.consumed
 
-    by_fault : ((why ≡ BadEntry) × (length skips.piece ≡ more)) ⊎ ((why ≡ Truncated) × (length skips.piece < more) × IsAtEnd left) → StopsReadingFile why (next_of place) given left was has
-    by_fault (inl p) = subst (λ k. StopsReadingFile k (next_of place) given left was has) (sym p.0)
+    by_fault : ((why ≡ BadEntry) × (length skips.piece ≡ more)) ⊎ ((why ≡ Truncated) × (length skips.piece < more) × IsAtEnd left) → StopsReadingFile why (next_entry_of place) given left was has
+    by_fault (inl p) = subst (λ k. StopsReadingFile k (next_entry_of place) given left was has) (sym p.0)
         (record { piece = piece; consumed = all; shown = too_long place digits skips.piece wide (p.1 ∙ is) (omega (arith, long, p.1)); end = λ e. absurd (other e) }, same)
       where
         other : BadEntry ≡ Truncated → ⊥
         other e = cc
-    by_fault (inr p) = subst (λ k. StopsReadingFile k (next_of place) given left was has) (sym p.0)
+    by_fault (inr p) = subst (λ k. StopsReadingFile k (next_entry_of place) given left was has) (sym p.0)
         (record { piece = piece; consumed = all; shown = too_short place digits skips.piece wide (omega (arith, is, p.1)); end = λ e. p.2 }, same)
 
-pub stops_long : (place : FilePlace) (why : Fault) (kind n more : ℕ) (one two : List ℕ) (given first now left : Option (List ℕ)) (was has : Bool) → one ≡ kind ∷ [] → Gathers given first [] one → Gathers first now one two → kind ≡ 4 → front_octets kind ≡ Some n → length two ≡ n → more ≡ announced kind two → MOST_OCTETS < more → has ≡ was → Skips why more now left → StopsReadingFile why (next_of place) given left was has
+pub stops_long : (place : FilePlace) (why : Fault) (kind n more : ℕ) (one two : List ℕ) (given first now left : Option (List ℕ)) (was has : Bool) → one ≡ kind ∷ [] → Gathers given first [] one → Gathers first now one two → kind ≡ 4 → front_octets kind ≡ Some n → length two ≡ n → more ≡ announced kind two → MOST_OCTETS < more → has ≡ was → Skips why more now left → StopsReadingFile why (next_entry_of place) given left was has
 unfolding front_octets announced
 stops_long place why kind n more one two given first now left was has is g h four front long announces past same skips =
     let nine : n ≡ 9 = nine_of n (sym front ∙ ap front_octets four) in

@@ -23,15 +23,15 @@ unfoldable pub front_of : ℕ → List ℕ → Finding (List ℕ)
 front_of n octets = if nat_lt (length octets) n then Err Truncated else Ok (take n octets, drop n octets)
 
 -- a number in so many octets
-unfoldable pub number_of : ℕ → List ℕ → Finding ℕ
-number_of width octets = do
+unfoldable pub front_number : ℕ → List ℕ → Finding ℕ
+front_number width octets = do
   front ← front_of width octets
   Ok (be_value front.0, front.1)
 
 -- this number in so many octets, and else this fault; what is left are the octets after it
 unfoldable pub past_number : ℕ → ℕ → Fault → List ℕ → Result (List ℕ) Fault
 past_number width expected fault octets = do
-  number ← number_of width octets
+  number ← front_number width octets
   if number.0 == expected then Ok number.1 else Err fault
 
 -- the number of entries that a file announces
@@ -39,36 +39,36 @@ unfoldable pub head_of : List ℕ → Finding ℕ
 head_of octets = do
   after_magic ← past_number 4 magic BadMagic octets
   after_version ← past_number 2 version BadVersion after_magic
-  number_of 8 after_version
+  front_number 8 after_version
 
 -- ---- an entry, behind the octet of its kind
 
 -- one that has a number alone
 unfoldable pub numbered_entry : (ℕ → Entry) → List ℕ → Finding Entry
 numbered_entry entry octets = do
-  number ← number_of 8 octets
+  number ← front_number 8 octets
   Ok (entry number.0, number.1)
 
 unfoldable pub message_of : List ℕ → Finding Entry
 message_of octets = do
-  session ← number_of 8 octets
-  number ← number_of 8 session.1
-  len ← number_of 4 number.1
+  session ← front_number 8 octets
+  number ← front_number 8 session.1
+  len ← front_number 4 number.1
   message ← front_of len.0 len.1
   Ok (Message session.0 number.0 message.0, message.1)
 
 -- a text is UTF-8
 unfoldable pub edit_of : List ℕ → Finding Entry
 edit_of octets = do
-  len ← number_of 8 octets
+  len ← front_number 8 octets
   text ← front_of len.0 len.1
   if is_utf8 text.0 then Ok (Edit text.0, text.1) else Err BadEntry
 
 -- a name is one that a subscriber may have
 unfoldable pub subscribe_of : List ℕ → Finding Entry
 subscribe_of octets = do
-  sub ← number_of 8 octets
-  len ← number_of 1 sub.1
+  sub ← front_number 8 octets
+  len ← front_number 1 sub.1
   name ← front_of len.0 len.1
   if is_name name.0 then Ok (Subscribe sub.0 name.0, name.1) else Err BadEntry
 
@@ -88,7 +88,7 @@ entry_by kind octets =
 -- the entry at the front
 unfoldable pub entry_of : List ℕ → Finding Entry
 entry_of octets = do
-  kind ← number_of 1 octets
+  kind ← front_number 1 octets
   entry_by kind.0 kind.1
 
 -- ---- a file
@@ -128,5 +128,5 @@ is_memory (Write sent) = false
 is_memory OutOfMemory = true
 
 -- what was read is the answer, and a fault is the first one; no fault of a source or a sink is answered
-abbrev pub Gives : {X Y : Type 0} → (X → Y) → Result X Fault → Result Y Fault → Type 0
-Gives view answer read = GivesBut is_memory view answer read × IfErr answer IsDecodingFault
+abbrev pub GivesRead : {X Y : Type 0} → (X → Y) → Result X Fault → Result Y Fault → Type 0
+GivesRead view answer read = GivesBut is_memory view answer read × IfErr answer IsDecodingFault

@@ -25,8 +25,8 @@ abbrev pub place_behind : List Entry → ℕ → FilePlace
 place_behind h left = record { left = left; count = length h; octets = history_octets h }
 
 -- the entry at the front, if it isn't past the limits
-unfoldable pub next_of : FilePlace → List ℕ → Finding Entry
-next_of place octets = do
+unfoldable pub next_entry_of : FilePlace → List ℕ → Finding Entry
+next_entry_of place octets = do
   found ← entry_of octets
   if is_past place.count place.octets found.0 then Err fault.BadEntry else Ok found
 
@@ -35,8 +35,8 @@ abbrev pub end_of : List ℕ → Result (Option (Entry × List ℕ)) Fault
 end_of octets = if length octets == 0 then Ok None else Err fault.BadEntry
 
 -- one step: an entry, or the end, or a fault
-unfoldable pub step_of : FilePlace → List ℕ → Result (Option (Entry × List ℕ)) Fault
-step_of place octets = if place.left == 0 then end_of octets else (next_of place octets >>= λ found. Ok (Some found))
+unfoldable pub entry_step : FilePlace → List ℕ → Result (Option (Entry × List ℕ)) Fault
+entry_step place octets = if place.left == 0 then end_of octets else (next_entry_of place octets >>= λ found. Ok (Some found))
 
 -- the octets are those of one entry, or of none; where they are cut off, the source is at its end
 pub record IsGathered (octets : List ℕ) (left : Option (List ℕ)) : Type 0 where
@@ -52,7 +52,7 @@ pub record IsEntryIn (count size : ℕ) (octets : List ℕ) (entry : Entry) : Ty
 
 -- they don't, and this is the fault
 abbrev pub FailsIn : Fault → ℕ → ℕ → List ℕ → Type 0
-FailsIn why count size octets = FailsBut is_memory why (next_of (record { left = 1; count = count; octets = size }) octets) × IsDecodingFault why
+FailsIn why count size octets = FailsBut is_memory why (next_entry_of (record { left = 1; count = count; octets = size }) octets) × IsDecodingFault why
 
 -- ---- what a step does to a source
 
@@ -111,11 +111,11 @@ after_step h left (Err why) = Err why
 
 -- the entries of a file are read by one step after another
 abbrev pub StepByStep : Type 0
-StepByStep = (h : List Entry) (left : ℕ) (octets : List ℕ) → entries_behind h left octets ≡ after_step h left (step_of (place_behind h left) octets)
+StepByStep = (h : List Entry) (left : ℕ) (octets : List ℕ) → entries_behind h left octets ≡ after_step h left (entry_step (place_behind h left) octets)
 
 -- a fault that shows in a step is the same whatever follows, but that a file is cut off
 abbrev pub FaultStays : Type 0
-FaultStays = (place : FilePlace) (octets more : List ℕ) (why : Fault) → (why ≡ fault.Truncated → ⊥) → step_of place octets ≡ Err why → step_of place (octets ++ more) ≡ Err why
+FaultStays = (place : FilePlace) (octets more : List ℕ) (why : Fault) → (why ≡ fault.Truncated → ⊥) → entry_step place octets ≡ Err why → entry_step place (octets ++ more) ≡ Err why
 
 -- and so is one that shows in the head
 abbrev pub HeadStays : Type 0

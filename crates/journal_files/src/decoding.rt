@@ -5,7 +5,7 @@ ghost use Rattle.event_journal.specs.declared.limits.TheConstants.{MOST_ENTRIES,
 ghost use Rattle.event_journal.specs.Spelled.{IsSpelled};
 ghost use Rattle.event_journal.specs.Sizes.{history_octets};
 ghost use Rattle.journal_files.specs.Format.{file_octets};
-ghost use Rattle.journal_files.specs.Reading.{Gives, entries_behind, file_of, is_past, pushed_of};
+ghost use Rattle.journal_files.specs.Reading.{GivesRead, entries_behind, file_of, is_past, pushed_of};
 ghost use Rattle.journal_files.specs.Laws.{IsFile};
 
 use crate::entry::{read_entry, read_head};
@@ -21,14 +21,14 @@ use std::slice::from_ref;
 /// The first fault of the file from its front, as [`Fault`] names them; or want of memory, which says nothing of
 /// the file.
 pub fn decode(alloc: Global, octets: &[u8]) -> Result<Journal, Fault>
-    ensures exact { Gives (λ j. j.entries) result (file_of octets.now) }
+    ensures exact { GivesRead (λ j. j.entries) result (file_of octets.now) }
     ensures limits { IfOk result (λ j.
         j.limits ≡ record { entries = MOST_ENTRIES; octets = MOST_OCTETS }) }
     // The octets are those by which the journal is written, so there is no other file of it.
     ensures same { IfOk result (λ j. octets.now ≡ file_octets j.entries) }
     // The file of a history is read, unless memory runs out.
     ensures only { (h : List Entry) → IsFile h → octets.now ≡ file_octets h
-        → Gives (λ j. j.entries) result (Ok h) }
+        → GivesRead (λ j. j.entries) result (Ok h) }
 {
     read_file(alloc, octets)
 }
@@ -39,7 +39,7 @@ pub fn decode(alloc: Global, octets: &[u8]) -> Result<Journal, Fault>
 /// The first fault of the file from its front; or want of memory.
 #[tactic(auto, unfolding(crate::specs::Reading::file_of))]
 fn read_file(alloc: Global, octets: &[u8]) -> Result<Journal, Fault>
-    ensures exact { Gives (λ j. j.entries) result (file_of octets.now) }
+    ensures exact { GivesRead (λ j. j.entries) result (file_of octets.now) }
     ensures limits { IfOk result (λ j.
         j.limits ≡ record { entries = MOST_ENTRIES; octets = MOST_OCTETS }) }
 {
@@ -57,7 +57,7 @@ fn read_file(alloc: Global, octets: &[u8]) -> Result<Journal, Fault>
 /// behind the last entry; or want of memory. The entries before it stay in the journal.
 fn put_entries(alloc: Global, count: u64, octets: &[u8], journal: &mut Journal) -> Result<(), Fault>
     requires limits { journal.old.limits ≡ record { entries = MOST_ENTRIES; octets = MOST_OCTETS } }
-    ensures read { Gives (λ _. journal.new.entries) result
+    ensures read { GivesRead (λ _. journal.new.entries) result
         (entries_behind journal.old.entries count octets.now) }
     ensures limits { journal.new.limits ≡ journal.old.limits }
 {
@@ -83,7 +83,7 @@ fn put_entries(alloc: Global, count: u64, octets: &[u8], journal: &mut Journal) 
 fn put_entry(entry: Entry, journal: &mut Journal) -> Result<(), Fault>
     requires limits { journal.old.limits ≡ record { entries = MOST_ENTRIES; octets = MOST_OCTETS } }
     requires spelled { IsSpelled entry }
-    ensures pushed { Gives (λ _. journal.new.entries) result (pushed_of journal.old.entries entry) }
+    ensures pushed { GivesRead (λ _. journal.new.entries) result (pushed_of journal.old.entries entry) }
     ensures limits { journal.new.limits ≡ journal.old.limits }
 {
     if !journal.room(from_ref(&entry)) {

@@ -3,7 +3,7 @@ ghost use Rattle.std.specs.Prelude.{◌≡◌, ◌++◌, ◌≤◌, ◌<◌, ◌
 ghost use Rattle.std.specs.Str.{is_utf8};
 ghost use Rattle.policy_text.specs.Naming.{is_name};
 ghost use Rattle.event_journal.specs.Spelled.{IsSpelled};
-ghost use Rattle.journal_files.specs.Reading.{Gives, front_of, number_of, past_number, head_of, numbered_entry, message_of, edit_of, subscribe_of, entry_by, entry_of};
+ghost use Rattle.journal_files.specs.Reading.{GivesRead, front_of, front_number, past_number, head_of, numbered_entry, message_of, edit_of, subscribe_of, entry_by, entry_of};
 ghost use Rattle.journal_files.specs.Format.{magic, version, head_octets, octets_of};
 ghost use Rattle.journal_files.specs.Seen.{entry_seen, number_seen, octets_seen};
 ghost use Rattle.journal_files.specs.declared.fault.Fault.TheVariants.{BadMagic, BadVersion, BadEntry};
@@ -22,7 +22,7 @@ use std::str::from_utf8;
 /// The first `count` of `octets`, and those after them; `Truncated` where there are fewer.
 #[tactic(auto, unfolding(crate::specs::Reading::front_of))]
 fn front(count: u64, octets: &[u8]) -> Result<(&[u8], &[u8]), Fault>
-    ensures read { Gives octets_seen result (front_of count octets.now) }
+    ensures read { GivesRead octets_seen result (front_of count octets.now) }
     ensures long { IfOk result (λ f. length f.0.now ≡ count) }
 {
     if (octets.len() as u64) < count {
@@ -33,11 +33,11 @@ fn front(count: u64, octets: &[u8]) -> Result<(&[u8], &[u8]), Fault>
 
 /// The number in the first `width` of `octets`, in network byte order, and the octets after it; `Truncated` where there
 /// are fewer.
-#[tactic(auto, unfolding(crate::specs::Reading::number_of))]
+#[tactic(auto, unfolding(crate::specs::Reading::front_number))]
 fn number(width: u64, octets: &[u8]) -> Result<(u64, &[u8]), Fault>
     requires some { 1 ≤ width }
     requires few { width ≤ 8 }
-    ensures read { Gives number_seen result (number_of width octets.now) }
+    ensures read { GivesRead number_seen result (front_number width octets.now) }
     ensures below { IfOk result (λ f. f.0 < 256 ^ width) }
 {
     let (digits, rest) = front(width, octets)?;
@@ -49,7 +49,7 @@ fn number(width: u64, octets: &[u8]) -> Result<(u64, &[u8]), Fault>
 /// # Errors
 /// The first fault of the head: the file is cut off in it, or begins with another magic number or version.
 pub(crate) fn read_head(octets: &[u8]) -> Result<(u64, &[u8]), Fault>
-    ensures read { Gives number_seen result (head_of octets.now) }
+    ensures read { GivesRead number_seen result (head_of octets.now) }
     ensures written { IfOk result (λ f. octets.now ≡ head_octets f.0 ++ f.1.now) }
 {
     first_head(octets)
@@ -59,7 +59,7 @@ pub(crate) fn read_head(octets: &[u8]) -> Result<(u64, &[u8]), Fault>
 /// reading computes them.
 #[tactic(auto, unfolding(crate::specs::Reading::head_of, crate::specs::Reading::past_number))]
 fn first_head(octets: &[u8]) -> Result<(u64, &[u8]), Fault>
-    ensures { Gives number_seen result (head_of octets.now) }
+    ensures { GivesRead number_seen result (head_of octets.now) }
 {
     let (found, rest) = number(4, octets)?;
     if found != u64::from(MAGIC) {
@@ -78,7 +78,7 @@ fn first_head(octets: &[u8]) -> Result<(u64, &[u8]), Fault>
 /// # Errors
 /// The octets are cut off in the entry (`Truncated`) or have none at their front (`BadEntry`); or want of memory.
 pub(crate) fn read_entry(alloc: Global, octets: &[u8]) -> Result<(Entry, &[u8]), Fault>
-    ensures read { Gives entry_seen result (entry_of octets.now) }
+    ensures read { GivesRead entry_seen result (entry_of octets.now) }
     ensures spelled { IfOk result (λ f. IsSpelled f.0) }
     ensures written { IfOk result (λ f. octets.now ≡ octets_of f.0 ++ f.1.now) }
 {
@@ -89,7 +89,7 @@ pub(crate) fn read_entry(alloc: Global, octets: &[u8]) -> Result<(Entry, &[u8]),
 /// computes them.
 #[tactic(auto, unfolding(crate::specs::Reading::entry_of))]
 fn first_entry(alloc: Global, octets: &[u8]) -> Result<(Entry, &[u8]), Fault>
-    ensures read { Gives entry_seen result (entry_of octets.now) }
+    ensures read { GivesRead entry_seen result (entry_of octets.now) }
     ensures spelled { IfOk result (λ f. IsSpelled f.0) }
 {
     let (kind, rest) = number(1, octets)?;
@@ -99,7 +99,7 @@ fn first_entry(alloc: Global, octets: &[u8]) -> Result<(Entry, &[u8]), Fault>
 /// The entry of this `kind` whose numbers are at the front of `octets`, and the octets after it.
 #[tactic(auto, unfolding(crate::specs::Reading::entry_by, crate::specs::Reading::numbered_entry))]
 fn read_by(alloc: Global, kind: u8, octets: &[u8]) -> Result<(Entry, &[u8]), Fault>
-    ensures read { Gives entry_seen result (entry_by kind octets.now) }
+    ensures read { GivesRead entry_seen result (entry_by kind octets.now) }
     ensures spelled { IfOk result (λ f. IsSpelled f.0) }
 {
     match kind {
@@ -133,7 +133,7 @@ fn read_by(alloc: Global, kind: u8, octets: &[u8]) -> Result<(Entry, &[u8]), Fau
 /// The entry of a message, whose octets after its kind are at the front of `octets`, and the octets after it.
 #[tactic(auto, unfolding(crate::specs::Reading::message_of))]
 fn read_message(alloc: Global, octets: &[u8]) -> Result<(Entry, &[u8]), Fault>
-    ensures read { Gives entry_seen result (message_of octets.now) }
+    ensures read { GivesRead entry_seen result (message_of octets.now) }
     ensures spelled { IfOk result (λ f. IsSpelled f.0) }
 {
     let (session, rest) = number(8, octets)?;
@@ -151,7 +151,7 @@ fn read_message(alloc: Global, octets: &[u8]) -> Result<(Entry, &[u8]), Fault>
 /// The entry of an edit, whose octets after its kind are at the front of `octets`, and the octets after it.
 #[tactic(auto, unfolding(crate::specs::Reading::edit_of))]
 fn read_edit(alloc: Global, octets: &[u8]) -> Result<(Entry, &[u8]), Fault>
-    ensures read { Gives entry_seen result (edit_of octets.now) }
+    ensures read { GivesRead entry_seen result (edit_of octets.now) }
     ensures spelled { IfOk result (λ f. IsSpelled f.0) }
 {
     let (len, rest) = number(8, octets)?;
@@ -190,7 +190,7 @@ fn is_name_in(octets: &[u8]) -> bool
 /// after it.
 #[tactic(auto, unfolding(crate::specs::Reading::subscribe_of))]
 fn read_subscribe(alloc: Global, octets: &[u8]) -> Result<(Entry, &[u8]), Fault>
-    ensures read { Gives entry_seen result (subscribe_of octets.now) }
+    ensures read { GivesRead entry_seen result (subscribe_of octets.now) }
     ensures spelled { IfOk result (λ f. IsSpelled f.0) }
 {
     let (sub, rest) = number(8, octets)?;

@@ -32,9 +32,9 @@ impl Error for Fault {}
 
 impl Display for Fault {
     ghost use Rattle.std.specs.Prelude.{Some};
-    ghost use Rattle.journal_files.specs.FaultTexts.{text_of_fault};
+    ghost use Rattle.journal_files.specs.FaultTexts.{journal_fault_text};
 
-    ghost output = { λ fault. Some (text_of_fault fault) };
+    ghost output = { λ fault. Some (journal_fault_text fault) };
 
     fn fmt<W: Write>(&self, f: &mut Formatter<W>) -> fmt::Result {
         f.write_str(match self {

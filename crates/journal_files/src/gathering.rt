@@ -83,7 +83,7 @@ fn read_piece<R: Source>(
 ghost use Rattle.std.specs.Prelude.{List, ℕ, [], ◌∷◌, ◌^◌, slice_index};
 ghost use Rattle.event_journal.specs.declared.limits.TheConstants.{MOST_OCTETS};
 ghost use Rattle.journal_files.specs.Gathering.{front_octets, announced};
-ghost use Rattle.journal_files.specs.Streaming.{FilePlace, IsGathered, StopsReadingFile, next_of};
+ghost use Rattle.journal_files.specs.Streaming.{FilePlace, IsGathered, StopsReadingFile, next_entry_of};
 
 /// Reads into `held`, which is empty, the octets of the next entry of `source`, and none past them; or fewer where the
 /// source ends before, or where they are of no entry. `piece` is where each read puts its octets first.
@@ -105,7 +105,7 @@ pub(crate) fn gather<R: Source>(
     ensures stays { OnOk result (R.has_failed source.new ≡ R.has_failed source.old) }
     // At a fault octets may be lost, or they show why they are of no file.
     ensures err { IfErr result (λ e. (place : FilePlace)
-        → StopsReadingFile e (next_of place) (R.remaining source.old) (R.remaining source.new)
+        → StopsReadingFile e (next_entry_of place) (R.remaining source.old) (R.remaining source.new)
         (R.has_failed source.old) (R.has_failed source.new)) }
 {
     if !fill(source, 1, piece, held)? {

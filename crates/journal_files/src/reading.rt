@@ -3,7 +3,7 @@ ghost use Rattle.std.specs.Prelude.{◌≡◌, ◌+◌, ◌<◌, ◌^◌, OnOk, 
 ghost use Rattle.std.specs.Io.KnownBytes.{Consumes};
 ghost use Rattle.journal_files.specs.Format.{head_octets};
 ghost use Rattle.journal_files.specs.Reading.{head_of};
-ghost use Rattle.journal_files.specs.Streaming.{StopsReadingFile, TakesEntry, EndsFile, step_of};
+ghost use Rattle.journal_files.specs.Streaming.{StopsReadingFile, TakesEntry, EndsFile, entry_step};
 
 use crate::entry::{read_entry, read_head};
 use crate::fault::Fault;
@@ -91,7 +91,7 @@ impl JournalReader {
             TakesEntry self.old (R.remaining source.old) (R.remaining source.new) entry self.new)) }
         ensures stays { OnOk result (R.has_failed source.new ≡ R.has_failed source.old) }
         ensures err { IfErr result (λ e.
-            StopsReadingFile e (step_of self.old) (R.remaining source.old) (R.remaining source.new)
+            StopsReadingFile e (entry_step self.old) (R.remaining source.old) (R.remaining source.new)
             (R.has_failed source.old) (R.has_failed source.new)) }
     {
         self.held.clear();

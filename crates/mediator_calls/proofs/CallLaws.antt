@@ -22,7 +22,7 @@ use Rattle.mediator_state.specs.declared.fault.Fault.TheVariants as fault
 use Rattle.mediator_state.specs.declared.receipt.Receipt.{Receipt}
 use Rattle.mediator_state.specs.declared.receipt.Status.{Status}
 use Rattle.mediator_state.specs.Accepting.{receipt_of}
-use Rattle.mediator_state.specs.Seen.{place_of, IsUntouched}
+use Rattle.mediator_state.specs.Seen.{handed_place, IsUntouched}
 use Rattle.mediator_state.specs.Standing.{AreNumbered, Stands}
 use Rattle.mediator_state.specs.Calls as state
 use Rattle.mediator_calls.specs.declared.limits.Limits.{Limits}
@@ -107,7 +107,7 @@ AcceptsNext s t more = state.Accepts tells limits_of s t s.chronicle.entries mor
 pub accepted_stands : (s t : State KeptJournal) (more : List Entry) → AcceptsNext s t more → StandsForJournal t
 accepted_stands s t more accepts = for_journal t (s.chronicle.entries ++ more) accepts.stands
 
-pub goes_on_where : (s t : State KeptJournal) (more : List Entry) → StandsForJournal s → AcceptsNext s t more → ((sub : ℕ) → is_live sub t.chronicle.entries ≡ true → place_of t.engine sub ≡ place_of s.engine sub)
+pub goes_on_where : (s t : State KeptJournal) (more : List Entry) → StandsForJournal s → AcceptsNext s t more → ((sub : ℕ) → is_live sub t.chronicle.entries ≡ true → handed_place t.engine sub ≡ handed_place s.engine sub)
     → t.engine.audit.standing.drained ≡ s.engine.audit.standing.drained → t.engine.limits ≡ s.engine.limits → t.engine.audit.limit ≡ s.engine.audit.limit → t.chronicle.limits ≡ s.chronicle.limits → GoesOn (view_of s) more (view_of t)
 goes_on_where s t more stands accepts places drained streams audit journaled = record {
   room = accepts.room;
@@ -154,13 +154,13 @@ subscribes s t name n stands begun untouched journaled = record {
 ended : (h : List Entry) (sub : ℕ) → is_live sub (h ++ Unsubscribe sub ∷ []) ≡ false
 ended h sub = last_of-push (begins sub) false h (Unsubscribe sub) ∙ (rw (eq-eqb sub sub refl) refl)
 
-pub unsubscribes : (s t : State KeptJournal) (sub : ℕ) → StandsForJournal s → state.UnsubscribesAfter sub s.chronicle.entries (AcceptsNext s t) → ((q : ℕ) → q ≢ sub → place_of t.engine q ≡ place_of s.engine q)
+pub unsubscribes : (s t : State KeptJournal) (sub : ℕ) → StandsForJournal s → state.UnsubscribesAfter sub s.chronicle.entries (AcceptsNext s t) → ((q : ℕ) → q ≢ sub → handed_place t.engine q ≡ handed_place s.engine q)
     → t.engine.audit.standing.drained ≡ s.engine.audit.standing.drained → t.engine.limits ≡ s.engine.limits → t.engine.audit.limit ≡ s.engine.audit.limit → t.chronicle.limits ≡ s.chronicle.limits → Unsubscribes (view_of s) sub (view_of t)
 unsubscribes s t sub stands over others drained streams audit journaled = record {
   live = over.live;
   goes_on = goes_on_where s t (Unsubscribe sub ∷ []) stands over.accepts kept drained streams audit journaled;
 } where
-  kept : (q : ℕ) → is_live q t.chronicle.entries ≡ true → place_of t.engine q ≡ place_of s.engine q
+  kept : (q : ℕ) → is_live q t.chronicle.entries ≡ true → handed_place t.engine q ≡ handed_place s.engine q
   kept q on = others q (λ same. false≢true (sym (ap (λ (n : ℕ). is_live n t.chronicle.entries) same ∙ ap (is_live sub) over.accepts.stands.told ∙ ended s.chronicle.entries sub) ∙ ap (λ (n : ℕ). is_live n t.chronicle.entries) refl ∙ on))
 
 -- ---- a message
@@ -281,7 +281,7 @@ refuses_advance fault.BadLimits s time stands r = absurd r
 
 -- ---- what is handed out
 
-pub pulls : (s t : State KeptJournal) (sub now target : ℕ) (answer : Option (List ℕ)) → StandsForJournal s → KeepsHistories s t → now < 2 ^ 32 → target < 2 ^ 16 → state.PullsAfter s.engine t.engine sub now target answer s.chronicle.entries → ((q : ℕ) → q ≢ sub → place_of t.engine q ≡ place_of s.engine q)
+pub pulls : (s t : State KeptJournal) (sub now target : ℕ) (answer : Option (List ℕ)) → StandsForJournal s → KeepsHistories s t → now < 2 ^ 32 → target < 2 ^ 16 → state.PullsAfter s.engine t.engine sub now target answer s.chronicle.entries → ((q : ℕ) → q ≢ sub → handed_place t.engine q ≡ handed_place s.engine q)
     → t.engine.audit.standing.drained ≡ s.engine.audit.standing.drained → t.engine.limits ≡ s.engine.limits → t.engine.audit.limit ≡ s.engine.audit.limit → t.chronicle.limits ≡ s.chronicle.limits → Pulls (view_of s) sub now target answer (view_of t)
 pulls s t sub now target answer stands keeps time size pulled others drained streams audit journaled =
     let after : StandsForJournal t = stands_on s t stands keeps in
@@ -297,10 +297,10 @@ pulls s t sub now target answer stands keeps time size pulled others drained str
       limits = limits_same s t streams audit journaled;
     }
 
-pub status_is : (s : State KeptJournal) (sub : ℕ) (status : Status) → StandsForJournal s → state.IsStatus s.chronicle.entries sub (place_of s.engine sub) status → IsStatusOf (view_of s) sub status
+pub status_is : (s : State KeptJournal) (sub : ℕ) (status : Status) → StandsForJournal s → state.IsStatus s.chronicle.entries sub (handed_place s.engine sub) status → IsStatusOf (view_of s) sub status
 status_is s sub status stands is = subst (λ (p : ℕ). state.IsStatus s.chronicle.entries sub p status) (sym (place_is s stands sub)) is
 
-pub drains : (s t : State KeptJournal) (most : ℕ) (out : List AuditEntry) → StandsForJournal s → (out ≡ take most (drop s.engine.audit.standing.drained (audit_list s.chronicle.entries))) × state.StateStandsFor tells t s.chronicle.entries → ((q : ℕ) → place_of t.engine q ≡ place_of s.engine q)
+pub drains : (s t : State KeptJournal) (most : ℕ) (out : List AuditEntry) → StandsForJournal s → (out ≡ take most (drop s.engine.audit.standing.drained (audit_list s.chronicle.entries))) × state.StateStandsFor tells t s.chronicle.entries → ((q : ℕ) → handed_place t.engine q ≡ handed_place s.engine q)
     → t.engine.audit.standing.drained ≡ s.engine.audit.standing.drained + length out → t.engine.limits ≡ s.engine.limits → t.engine.audit.limit ≡ s.engine.audit.limit → t.chronicle.limits ≡ s.chronicle.limits → Drains (view_of s) most out (view_of t)
 drains s t most out stands drained places count streams audit journaled = record {
   entries = drained.0;
@@ -370,7 +370,7 @@ kept_subscribe s t name n kept is untouched journaled = record {
   held = held_subscribe (view_of s) (view_of t) name n (is_sound s kept) (subscribes s t name n kept.stands is untouched journaled);
 }
 
-pub kept_unsubscribe : (s t : State KeptJournal) (sub : ℕ) → IsStateKept s → state.UnsubscribesAfter sub s.chronicle.entries (AcceptsNext s t) → ((q : ℕ) → q ≢ sub → place_of t.engine q ≡ place_of s.engine q)
+pub kept_unsubscribe : (s t : State KeptJournal) (sub : ℕ) → IsStateKept s → state.UnsubscribesAfter sub s.chronicle.entries (AcceptsNext s t) → ((q : ℕ) → q ≢ sub → handed_place t.engine q ≡ handed_place s.engine q)
     → t.engine.audit.standing.drained ≡ s.engine.audit.standing.drained → t.engine.limits ≡ s.engine.limits → t.engine.audit.limit ≡ s.engine.audit.limit → t.chronicle.limits ≡ s.chronicle.limits → IsStateKept t
 kept_unsubscribe s t sub kept is others drained streams audit journaled = record {
   stands = accepted_stands s t (Unsubscribe sub ∷ []) is.accepts;
@@ -389,14 +389,14 @@ kept_advance s t time kept is untouched journaled = record {
   held = held_advance (view_of s) (view_of t) time (is_sound s kept) (advances s t time kept.stands is untouched journaled);
 }
 
-pub kept_pull : (s t : State KeptJournal) (sub now target : ℕ) (answer : Option (List ℕ)) → IsStateKept s → KeepsHistories s t → now < 2 ^ 32 → target < 2 ^ 16 → state.PullsAfter s.engine t.engine sub now target answer s.chronicle.entries → ((q : ℕ) → q ≢ sub → place_of t.engine q ≡ place_of s.engine q)
+pub kept_pull : (s t : State KeptJournal) (sub now target : ℕ) (answer : Option (List ℕ)) → IsStateKept s → KeepsHistories s t → now < 2 ^ 32 → target < 2 ^ 16 → state.PullsAfter s.engine t.engine sub now target answer s.chronicle.entries → ((q : ℕ) → q ≢ sub → handed_place t.engine q ≡ handed_place s.engine q)
     → t.engine.audit.standing.drained ≡ s.engine.audit.standing.drained → t.engine.limits ≡ s.engine.limits → t.engine.audit.limit ≡ s.engine.audit.limit → t.chronicle.limits ≡ s.chronicle.limits → IsStateKept t
 kept_pull s t sub now target answer kept keeps time size is others drained streams audit journaled = record {
   stands = stands_on s t kept.stands keeps;
   held = held_pull (view_of s) (view_of t) sub now target answer kept.held (pulls s t sub now target answer kept.stands keeps time size is others drained streams audit journaled);
 }
 
-pub kept_drain : (s t : State KeptJournal) (most : ℕ) (out : List AuditEntry) → IsStateKept s → (out ≡ take most (drop s.engine.audit.standing.drained (audit_list s.chronicle.entries))) × state.StateStandsFor tells t s.chronicle.entries → ((q : ℕ) → place_of t.engine q ≡ place_of s.engine q)
+pub kept_drain : (s t : State KeptJournal) (most : ℕ) (out : List AuditEntry) → IsStateKept s → (out ≡ take most (drop s.engine.audit.standing.drained (audit_list s.chronicle.entries))) × state.StateStandsFor tells t s.chronicle.entries → ((q : ℕ) → handed_place t.engine q ≡ handed_place s.engine q)
     → t.engine.audit.standing.drained ≡ s.engine.audit.standing.drained + length out → t.engine.limits ≡ s.engine.limits → t.engine.audit.limit ≡ s.engine.audit.limit → t.chronicle.limits ≡ s.chronicle.limits → IsStateKept t
 kept_drain s t most out kept is places count streams audit journaled = record {
   stands = for_journal t s.chronicle.entries is.1;

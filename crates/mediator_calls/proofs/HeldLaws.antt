@@ -8,7 +8,7 @@ use Rattle.sequences.proofs.BeforeLaws.{last_of-push}
 use Rattle.ipfix_template.specs.DataRecord.{DataRecord}
 use Rattle.subscriber_stream.specs.declared.limits.StreamLimits.{StreamLimits}
 use Rattle.subscriber_stream.specs.Shapes.{shapes_of}
-use Rattle.subscriber_stream.specs.Parts.{Part, parts, records_in}
+use Rattle.subscriber_stream.specs.Parts.{Part, parts, records_of_parts}
 use Rattle.subscriber_stream.specs.Message.{parts_taken}
 use Rattle.subscriber_stream.proofs.CallLaws.{parts_bring, parts_more}
 use Rattle.subscriber_stream.proofs.Standings.{records_in-append}
@@ -37,10 +37,10 @@ use Rattle.mediator_calls.specs.Sound.{IsSoundMediation}
 -- ---- what waits
 
 abbrev count_in : List Part → ℕ
-count_in ps = length (records_in ps)
+count_in ps = length (records_of_parts ps)
 
 counts_add : (ps qs : List Part) → count_in (ps ++ qs) ≡ count_in ps + count_in qs
-counts_add ps qs = ap (λ (rs : List DataRecord). length rs) (records_in-append ps qs) ∙ length-append (records_in ps) (records_in qs)
+counts_add ps qs = ap (λ (rs : List DataRecord). length rs) (records_in-append ps qs) ∙ length-append (records_of_parts ps) (records_of_parts qs)
 
 -- so many records more wait
 waits_more : (records more : List DataRecord) (p : ℕ) → p ≤ length (parts records) → count_in (drop p (parts (records ++ more))) ≡ count_in (drop p (parts records)) + length more

@@ -6,7 +6,7 @@ use Rattle.std.proofs.lemmas.Bool.{eqb-true, eq-eqb, or_right}
 use Rattle.std.proofs.lemmas.Grind.{flat_map-append}
 use Rattle.std.proofs.lemmas.List.Concat.{flat_map-cons}
 use Rattle.subscriber_stream.specs.declared.limits.StreamLimits.{StreamLimits}
-use Rattle.subscriber_stream.specs.Parts.{Part, parts, records_in}
+use Rattle.subscriber_stream.specs.Parts.{Part, parts, records_of_parts}
 use Rattle.event_journal.specs.declared.entry.Entry.{Entry}
 use Rattle.event_journal.specs.declared.entry.Entry.TheVariants.{Subscribe, Cut}
 use Rattle.event_journal.specs.Kept.{KeptJournal}
@@ -24,7 +24,7 @@ use Rattle.mediator_tables.specs.SubscriptionTable.{at}
 use Rattle.mediator_state.specs.declared.engine.Engine.{Engine}
 use Rattle.mediator_state.specs.declared.state.State.{State}
 use Rattle.mediator_state.specs.Standing.{place, IsLiveAs, Stands}
-use Rattle.mediator_state.specs.Seen.{place_in, place_of, waiting_in, waiting_of}
+use Rattle.mediator_state.specs.Seen.{place_in, handed_place, waiting_in, waiting_of}
 use Rattle.mediator_calls.specs.Mediation.{Place, Mediation, live, reached_among, place_at, waiting_at, stream_limits}
 use Rattle.mediator_calls.specs.View.{engine_place, view_of, StandsForJournal}
 
@@ -48,11 +48,11 @@ is_in-live sub h = is_in-filter (λ s. is_live s h) sub (flat_map subscribed_in 
 
 -- ---- a place by its number
 
-reached_in : (e : Engine) (sub : ℕ) (subs : List ℕ) → reached_among sub (map (engine_place e) subs) ≡ cond (is_in sub subs) (place_of e sub) 0
+reached_in : (e : Engine) (sub : ℕ) (subs : List ℕ) → reached_among sub (map (engine_place e) subs) ≡ cond (is_in sub subs) (handed_place e sub) 0
 reached_in e sub [] = refl
 reached_in e sub (x ∷ xs) = by_number (x == sub) refl (reached_in e sub xs) where
-  by_number : (same : Bool) → (x == sub) ≡ same → reached_among sub (map (engine_place e) xs) ≡ cond (is_in sub xs) (place_of e sub) 0 → cond same (place_of e x) (reached_among sub (map (engine_place e) xs)) ≡ cond (same || is_in sub xs) (place_of e sub) 0
-  by_number true is others = ap (place_of e) (eqb-true x sub is)
+  by_number : (same : Bool) → (x == sub) ≡ same → reached_among sub (map (engine_place e) xs) ≡ cond (is_in sub xs) (handed_place e sub) 0 → cond same (handed_place e x) (reached_among sub (map (engine_place e) xs)) ≡ cond (same || is_in sub xs) (handed_place e sub) 0
+  by_number true is others = ap (handed_place e) (eqb-true x sub is)
   by_number false is others = others
 
 -- what isn't live has no place
@@ -60,12 +60,12 @@ unplaced : (h : List Entry) (limits : StreamLimits) (sub : ℕ) (o : Option Subs
 unplaced h limits sub None is off = refl
 unplaced h limits sub (Some s) is off = let on : is_live sub h ≡ true = is.live in absurd cc
 
-pub place_is : (s : State KeptJournal) → StandsForJournal s → (sub : ℕ) → place_at (view_of s) sub ≡ place_of s.engine sub
+pub place_is : (s : State KeptJournal) → StandsForJournal s → (sub : ℕ) → place_at (view_of s) sub ≡ handed_place s.engine sub
 place_is s stands sub =
     reached_in s.engine sub (live s.chronicle.entries)
-    ∙ ap (λ (b : Bool). cond b (place_of s.engine sub) 0) (is_in-live sub s.chronicle.entries)
+    ∙ ap (λ (b : Bool). cond b (handed_place s.engine sub) 0) (is_in-live sub s.chronicle.entries)
     ∙ by_test (is_live sub s.chronicle.entries) refl where
-      by_test : (on : Bool) → is_live sub s.chronicle.entries ≡ on → cond on (place_of s.engine sub) 0 ≡ place_of s.engine sub
+      by_test : (on : Bool) → is_live sub s.chronicle.entries ≡ on → cond on (handed_place s.engine sub) 0 ≡ handed_place s.engine sub
       by_test true is = refl
       by_test false is = sym (unplaced s.chronicle.entries s.engine.limits sub (at s.engine.subscriptions sub) (stands.stands.subscriptions sub) is)
 
@@ -82,14 +82,14 @@ within s stands sub = omega (arith, place_is s stands sub, ends s.chronicle.entr
 
 -- ---- how many records wait
 
-waits : (h : List Entry) (limits : StreamLimits) (sub : ℕ) (o : Option Subscription) → IsLiveAs h limits sub o → is_live sub h ≡ true → waiting_in o ≡ length (records_in (drop (place_in o) (parts (disclosed sub h))))
+waits : (h : List Entry) (limits : StreamLimits) (sub : ℕ) (o : Option Subscription) → IsLiveAs h limits sub o → is_live sub h ≡ true → waiting_in o ≡ length (records_of_parts (drop (place_in o) (parts (disclosed sub h))))
 waits h limits sub None is on = absurd cc
-waits h limits sub (Some s) is on = ap (λ (ps : List Part). length (records_in ps)) is.stream.waiting
+waits h limits sub (Some s) is on = ap (λ (ps : List Part). length (records_of_parts ps)) is.stream.waiting
 
 pub waiting_is : (s : State KeptJournal) → StandsForJournal s → (sub : ℕ) → is_live sub s.chronicle.entries ≡ true → waiting_of s.engine sub ≡ waiting_at (view_of s) sub
 waiting_is s stands sub on =
     waits s.chronicle.entries s.engine.limits sub (at s.engine.subscriptions sub) (stands.stands.subscriptions sub) on
-    ∙ ap (λ (p : ℕ). length (records_in (drop p (parts (disclosed sub s.chronicle.entries))))) (sym (place_is s stands sub))
+    ∙ ap (λ (p : ℕ). length (records_of_parts (drop p (parts (disclosed sub s.chronicle.entries))))) (sym (place_is s stands sub))
 
 -- the cuts before an entry are the same by what the state keeps and by what its callers see
 pub cuts_are : (s : State KeptJournal) → StandsForJournal s → (entry : Entry) → cuts_before s.engine.limits s.chronicle.entries entry (waiting_of s.engine) ≡ cuts_before (stream_limits (view_of s).limits) s.chronicle.entries entry (waiting_at (view_of s))
@@ -109,7 +109,7 @@ map_same : {A B : Type 0} (f g : A → B) → ((x : A) → f x ≡ g x) → (xs 
 map_same f g same [] = refl
 map_same {A} {B} f g same (x ∷ xs) = ap (λ (y : B). y ∷ map f xs) (same x) ∙ ap (λ (ys : List B). g x ∷ ys) (map_same f g same xs)
 
-pub places_same : (s t : State KeptJournal) → t.chronicle.entries ≡ s.chronicle.entries → ((sub : ℕ) → place_of t.engine sub ≡ place_of s.engine sub) → (view_of t).places ≡ (view_of s).places
+pub places_same : (s t : State KeptJournal) → t.chronicle.entries ≡ s.chronicle.entries → ((sub : ℕ) → handed_place t.engine sub ≡ handed_place s.engine sub) → (view_of t).places ≡ (view_of s).places
 places_same s t same places =
     ap (λ (h : List Entry). map (engine_place t.engine) (live h)) same
     ∙ map_same (engine_place t.engine) (engine_place s.engine) each (live s.chronicle.entries) where

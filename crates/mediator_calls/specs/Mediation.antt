@@ -2,7 +2,7 @@
 use Rattle.std.specs.Prelude.{ℕ, Bool, List, [], ◌∷◌, length, filter, drop, if◌then◌else◌, ◌==◌}
 use Rattle.std.specs.List.{flat_map}
 use Rattle.subscriber_stream.specs.declared.limits.StreamLimits.{StreamLimits}
-use Rattle.subscriber_stream.specs.Parts.{parts, records_in}
+use Rattle.subscriber_stream.specs.Parts.{parts, records_of_parts}
 use Rattle.disclosure_audit.specs.declared.entry.AuditEntry.{AuditEntry}
 use Rattle.event_journal.specs.declared.entry.Entry.{Entry}
 use Rattle.event_journal.specs.Room.{JournalLimits}
@@ -41,7 +41,7 @@ place_at m sub = reached_among sub m.places
 
 -- how many records wait for it
 abbrev pub waiting_at : Mediation → ℕ → ℕ
-waiting_at m sub = length (records_in (drop (place_at m sub) (parts (disclosed sub m.history))))
+waiting_at m sub = length (records_of_parts (drop (place_at m sub) (parts (disclosed sub m.history))))
 
 -- the audit entries that wait
 abbrev pub noted_at : Mediation → List AuditEntry

@@ -5,13 +5,13 @@ use Rattle.event_journal.specs.Kept.{KeptJournal}
 use Rattle.event_journal.specs.Room.{JournalLimits}
 use Rattle.mediator_state.specs.declared.engine.Engine.{Engine}
 use Rattle.mediator_state.specs.declared.state.State.{State}
-use Rattle.mediator_state.specs.Seen.{place_of}
+use Rattle.mediator_state.specs.Seen.{handed_place}
 use Rattle.mediator_state.specs.Calls.{StateStandsFor}
 use Rattle.mediator_calls.specs.Mediation.{Place, Mediation, live}
 use Rattle.mediator_calls.specs.Held.{IsHeld}
 
 abbrev pub engine_place : Engine → ℕ → Place
-engine_place e sub = record { sub = sub; reached = place_of e sub }
+engine_place e sub = record { sub = sub; reached = handed_place e sub }
 
 abbrev pub view_of : State KeptJournal → Mediation
 view_of s = record {

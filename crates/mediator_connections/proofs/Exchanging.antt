@@ -12,12 +12,12 @@ use Rattle.shared_mediator.specs.declared.kept.KeptEntry.{KeptEntry}
 use Rattle.mediator_history.proofs.HistoryLaws.{flat_map-push}
 use Rattle.mediator_state.specs.declared.fault.Fault.TheVariants as fault
 use Rattle.admin_text.specs.declared.command.Command.{Command}
-use Rattle.admin_text.specs.Sayings.{AdminSaying, saying}
+use Rattle.admin_text.specs.Sayings.{AdminSaying, admin_saying}
 use Rattle.admin_text.specs.Sayings.AdminSaying.{to_edit, to_subscribe, to_unsubscribe, to_advance, to_tell_status, to_drain_audit, to_tell, to_stop}
 use Rattle.admin_text.specs.Grammar.{longest_line, IsNamingLine}
 use Rattle.admin_text.specs.Reading.{command_of}
 use Rattle.replay_text.specs.Answers.{refusal_text}
-use Rattle.admin_text.specs.Answers.{answer_text, refused_for_memory, IsAnswerText, WritesAnswer}
+use Rattle.admin_text.specs.Answers.{admin_answer_text, refused_for_memory, IsAnswerText, WritesAnswer}
 use Rattle.admin_text.specs.declared.answer.Answer.{Answer}
 use Rattle.admin_text.specs.declared.answer.Answer.TheVariants as answer
 use Rattle.admin_text.proofs.LineLaws.{command_of-only}
@@ -46,8 +46,8 @@ bad_line (Some to_stop) text old new so = absurd (other so.1)
     other e = cc
 
 -- a command without a text was answered: nothing is read behind its line
-pub performed : (command : Command) (said : AdminSaying) (reply : Answer) (i : InputState) (given : Option (List ℕ)) (before after : List KeptEntry) → saying command ≡ said → AnswersLine (Some said) [] reply before after
-    → Performs (Some (saying command)) reply i (reader_of given given) i (handle_of before after)
+pub performed : (command : Command) (said : AdminSaying) (reply : Answer) (i : InputState) (given : Option (List ℕ)) (before after : List KeptEntry) → admin_saying command ≡ said → AnswersLine (Some said) [] reply before after
+    → Performs (Some (admin_saying command)) reply i (reader_of given given) i (handle_of before after)
 performed command said reply i given before after is so = record {
   text = [];
   handed = hands_out_none i given;
@@ -69,7 +69,7 @@ other_line read text reply stops old new good goes stop so = (good_line read tex
 ended_some : (xs : List ℕ) (x : ℕ) → 0 < length (xs ++ x ∷ [])
 ended_some xs x = omega (arith, length-append xs (x ∷ []))
 
-answer_some : (reply : Answer) → 0 < length (answer_text reply)
+answer_some : (reply : Answer) → 0 < length (admin_answer_text reply)
 answer_some (answer.Edited revision) = omega arith
 answer_some (answer.Subscribed sub) = omega arith
 answer_some answer.Done = omega arith
@@ -80,7 +80,7 @@ answer_some (answer.Refused why) = ended_some (refusal_text why) 10
 answer_some answer.BadLine = omega arith
 answer_some answer.BadText = omega arith
 
-same_some : (reply : Answer) (text : List ℕ) → text ≡ answer_text reply → 0 < length text
+same_some : (reply : Answer) (text : List ℕ) → text ≡ admin_answer_text reply → 0 < length text
 same_some reply text is = subst (λ t. 0 < length t) (sym is) (answer_some reply)
 
 text_some : (reply : Answer) (text : List ℕ) → IsAnswerText reply text → 0 < length text

@@ -12,8 +12,9 @@ use Rattle.ipfix_reader.specs.Intake.{IntakeState, nothing_read, Yields, Ends, S
 use Rattle.shared_mediator.specs.Locked.{Exporting}
 use Rattle.mediator_connections.specs.declared.fault.Fault.{Fault}
 use Rattle.mediator_connections.specs.declared.fault.Fault.TheVariants.{Read, Write, Framing, Turns, TooWide, TooManyCounts, Mediator}
-use Rattle.mediator_connections.specs.Faults.{out_of_memory, intake_refusal, reader_after}
-use Rattle.mediator_connections.specs.Serving.{IsRefusalOf, Offers, OffersWhole, OffersBefore, AreRead, RefusesOne, Serves, StopsAt, StopsServing, RefusesAmong, Reaches}
+use Rattle.mediator_connections.specs.Faults.{out_of_memory, intake_refusal, fails_reader}
+use Rattle.ipfix_reader.specs.Intake.{AreRead}
+use Rattle.mediator_connections.specs.Serving.{IsRefusalOf, Offers, OffersWhole, OffersBefore, RefusesOne, Serves, StopsAt, StopsServing, RefusesAmong, Reaches}
 use Rattle.mediator_connections.proofs.Offering.{offers_none, offers_then, receipts_count}
 
 nothing_framed : IsFramed [] [] None []
@@ -198,13 +199,13 @@ intake_stops intake.OutOfMemory turns i k given mid left old d so stops = record
 }
 
 -- only a failed read leaves a failed reader
-pub intake_reads : (w : IntakeFault) (e : Fault) (failed : Bool) → e ≡ intake_refusal w → failed ≡ intake_reader w false → failed ≡ reader_after e
+pub intake_reads : (w : IntakeFault) (e : Fault) (failed : Bool) → e ≡ intake_refusal w → failed ≡ intake_reader w false → failed ≡ fails_reader e
 intake_reads intake.Read e failed is fails = rw is fails
 intake_reads (intake.Framing why) e failed is fails = rw is fails
 intake_reads intake.Turns e failed is fails = rw is fails
 intake_reads intake.OutOfMemory e failed is fails = rw is fails
 
-pub refusal_reads : (e : Fault) (message : List ℕ) (failed : Bool) → IsRefusalOf e message → failed ≡ false → failed ≡ reader_after e
+pub refusal_reads : (e : Fault) (message : List ℕ) (failed : Bool) → IsRefusalOf e message → failed ≡ false → failed ≡ fails_reader e
 refusal_reads (Mediator why) message failed is sound = sound
 refusal_reads TooWide message failed is sound = sound
 refusal_reads TooManyCounts message failed is sound = sound
@@ -213,5 +214,5 @@ refusal_reads (Write sent) message failed is sound = absurd is
 refusal_reads (Framing why) message failed is sound = absurd is
 refusal_reads Turns message failed is sound = absurd is
 
-pub mediator_reads : (e : Fault) (old new : Exporting) (out : List (List ℕ)) (failed : Bool) → RefusesAmong e old new out → failed ≡ false → failed ≡ reader_after e
+pub mediator_reads : (e : Fault) (old new : Exporting) (out : List (List ℕ)) (failed : Bool) → RefusesAmong e old new out → failed ≡ false → failed ≡ fails_reader e
 mediator_reads e old new out failed stop sound = refusal_reads e stop.message failed stop.is sound

@@ -14,8 +14,8 @@ use Rattle.mediator_connections.specs.declared.fault.Fault.{Fault}
 use Rattle.mediator_connections.specs.declared.fault.Fault.TheVariants.{Write, Mediator}
 
 -- the octets of messages, one directly after another
-abbrev pub octets_of : List Handed → List ℕ
-octets_of handed = flat_map (λ h. h.message) handed
+abbrev pub handed_octets : List Handed → List ℕ
+handed_octets handed = flat_map (λ h. h.message) handed
 
 -- the message is built for an Export Time that the clock may show, and for the target
 pub record IsDue (Shows : ℕ → Type 0) (target : ℕ) (h : Handed) : Type 0 where
@@ -33,8 +33,8 @@ pub record PullsSome (Shows : ℕ → Type 0) (target : ℕ) (old new : Deliveri
 pub record DeliversSome (Shows : ℕ → Type 0) (target sent : ℕ) (old new : Delivering) (writer : Writer) : Type 0 where
   pub messages : List Handed
   pub pulls : PullsSome Shows target old new messages
-  pub written : Appends writer.held writer.holds (octets_of messages)
-  pub counted : sent ≡ length (octets_of messages)
+  pub written : Appends writer.held writer.holds (handed_octets messages)
+  pub counted : sent ≡ length (handed_octets messages)
 
 -- messages were pulled, and the first so many octets of them were written, which end inside the last ones, of which at most so many are
 -- pulled at once; then the writer failed
@@ -43,8 +43,8 @@ pub record StopsInsideMessages (Shows : ℕ → Type 0) (target sent : ℕ) (old
   pub last : List Handed
   pub few : length last ≤ MOST_AT_ONCE
   pub pulls : PullsSome Shows target old new (messages ++ last)
-  pub written : WritesFront writer.held writer.holds (octets_of (messages ++ last)) sent has_failed
-  pub whole : length (octets_of messages) ≤ sent
+  pub written : WritesFront writer.held writer.holds (handed_octets (messages ++ last)) sent has_failed
+  pub whole : length (handed_octets messages) ≤ sent
 
 -- why it stops, and what was written then: at a refusal, all that was pulled
 abbrev pub FailsToDeliver : Fault → (ℕ → Type 0) → ℕ → Delivering → Delivering → Writer → Bool → Type 0

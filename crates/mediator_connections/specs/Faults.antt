@@ -17,11 +17,11 @@ intake_refusal intake.Turns = Turns
 intake_refusal intake.OutOfMemory = out_of_memory
 
 -- whether a reader has failed that had not failed before: where that is the fault
-abbrev pub reader_after : Fault → Bool
-reader_after Read = true
-reader_after _ = false
+abbrev pub fails_reader : Fault → Bool
+fails_reader Read = true
+fails_reader _ = false
 
 -- whether such a writer has
-abbrev pub writer_after : Fault → Bool
-writer_after (Write sent) = true
-writer_after _ = false
+abbrev pub fails_writer : Fault → Bool
+fails_writer (Write sent) = true
+fails_writer _ = false

@@ -7,7 +7,7 @@ use Rattle.ipfix_message.specs.declared.fault.Fault.{Fault as DecodeError}
 use Rattle.ipfix_message.specs.declared.fault.Fault.TheVariants as frame
 use Rattle.ipfix_message.specs.Framing.{IsFramed}
 use Rattle.ipfix_reader.specs.declared.fault.FramingFault.TheVariants as framing
-use Rattle.ipfix_reader.specs.Intake.{IntakeState}
+use Rattle.ipfix_reader.specs.Intake.{IntakeState, AreRead, AreReadBut}
 use Rattle.event_journal.specs.declared.entry.Entry.{Entry}
 use Rattle.event_journal.specs.declared.entry.Entry.TheVariants.{Message}
 use Rattle.shared_mediator.specs.declared.kept.KeptEntry.{KeptEntry}
@@ -35,14 +35,6 @@ pub record Offers (old new : Exporting) (messages : List (List ℕ)) : Type 0 wh
   pub entries : map (λ k. k.entry) receipts ≡ messages_from old.session (length old.kept) messages
 
 -- ---- what is read
-
--- so many reads, each of at most 65,536 octets, may have given these
-abbrev pub AreRead : ℕ → List ℕ → Type 0
-AreRead reads octets = length octets ≤ 65536 * reads
-
--- the same, where one of the reads gave none
-abbrev pub AreReadBut : ℕ → List ℕ → Type 0
-AreReadBut reads octets = length octets + 65536 ≤ 65536 * reads
 
 -- these octets are these messages, and then this fault or these octets that are pending; all of the messages were offered
 pub record OffersAll (octets : List ℕ) (messages : List (List ℕ)) (faulty : Option DecodeError) (pending : List ℕ) (old new : Exporting) : Type 0 where

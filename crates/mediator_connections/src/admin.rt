@@ -1,11 +1,11 @@
 //! Serves an administrator's connection: reads its commands, makes their calls, and writes the answers.
 ghost use Rattle.std.specs.Prelude.{◌≡◌, ◌↔◌, IsTrue, ℕ, List, [], Some, false, IfOk, IfErr, OnOk, OnErr, MatchOption};
 ghost use Rattle.octet_io.specs.Moments.{reader_of, writer_of};
-ghost use Rattle.admin_text.specs.Sayings.{saying};
+ghost use Rattle.admin_text.specs.Sayings.{admin_saying};
 ghost use Rattle.admin_text.specs.Sayings.AdminSaying.{to_stop};
 ghost use Rattle.admin_text.specs.Reading.{command_of};
 ghost use Rattle.admin_text.specs.Answers.{WritesAnswer};
-ghost use Rattle.mediator_connections.specs.Faults.{reader_after, writer_after};
+ghost use Rattle.mediator_connections.specs.Faults.{fails_reader, fails_writer};
 ghost use Rattle.mediator_connections.specs.CommandInput.{EndsBehind, StopsReading};
 ghost use Rattle.mediator_connections.specs.Answering.{handle_of, AnswersEdit, AnswersSubscribe, AnswersUnsubscribe, AnswersAdvance, TellsStatus, DrainsAudit, TellsPage, Exchange, ServesAdmin, StopsAdmin, Performs, Hears, StopsHearing, StopsReplying};
 
@@ -79,8 +79,8 @@ pub fn serve_admin<E: EntryLedger, H: RecordLedger, R: Source, W: Sink, C: Contr
         (writer_of (W.contents writer.old) (W.contents writer.new)) (W.has_failed writer.new)
         (handle_of handle.old handle.new) commands) }
     // A device has failed only where the fault names it.
-    ensures reader_fails { IfErr result (λ e. R.has_failed reader.new ≡ reader_after e) }
-    ensures writer_fails { IfErr result (λ e. W.has_failed writer.new ≡ writer_after e) }
+    ensures reader_fails { IfErr result (λ e. R.has_failed reader.new ≡ fails_reader e) }
+    ensures writer_fails { IfErr result (λ e. W.has_failed writer.new ≡ fails_writer e) }
 {
     let mut input = CommandInput::new(alloc, turns)?;
     let mut buffer = AnswerBuffer::new(alloc)?;
@@ -125,7 +125,7 @@ fn hear<E: EntryLedger, H: RecordLedger, R: Source, C: Control>(
         (reader_of (R.remaining reader.old) (R.remaining reader.new)) input.new
         (handle_of handle.old handle.new))) }
     ensures sound { OnOk result (R.has_failed reader.new ≡ false) }
-    ensures fails { IfErr result (λ e. R.has_failed reader.new ≡ reader_after e) }
+    ensures fails { IfErr result (λ e. R.has_failed reader.new ≡ fails_reader e) }
     // Behind which octets of the command it stopped. No call was made.
     ensures err { IfErr result (λ e.
         StopsHearing e input.old (R.remaining reader.old) (R.remaining reader.new) input.new) }
@@ -163,7 +163,7 @@ fn answer_line<E: EntryLedger, H: RecordLedger, R: Source, C: Control>(
         ↔ (command_of line.now ≡ Some to_stop)) }
     // The reader has failed only where the fault is `Read`.
     ensures sound { OnOk result (R.has_failed reader.new ≡ false) }
-    ensures fails { IfErr result (λ e. R.has_failed reader.new ≡ reader_after e) }
+    ensures fails { IfErr result (λ e. R.has_failed reader.new ≡ fails_reader e) }
     // Behind which octets of the command's text it stopped. No call was made.
     ensures err { IfErr result (λ e. (octets : List ℕ) × StopsReading e input.old
         (R.remaining reader.old) (R.remaining reader.new) octets input.new) }
@@ -199,7 +199,7 @@ fn tell_accepted<C: Control>(control: &C, receipts: &[KeptEntry]) {
 
 /// Whether a command is a `stop`.
 const fn is_stop(command: &Command) -> bool
-    ensures { IsTrue result ↔ (saying command.now ≡ to_stop) }
+    ensures { IsTrue result ↔ (admin_saying command.now ≡ to_stop) }
 {
     match command {
         Command::Stop => true,
@@ -229,12 +229,12 @@ fn perform<E: EntryLedger, H: RecordLedger, R: Source, C: Control>(
 ) -> Result<Answer, Fault>
     requires reader { R.has_failed reader.old ≡ false }
     // What came of the command.
-    ensures ok { IfOk result (λ answer. Performs (Some (saying command)) answer input.old
+    ensures ok { IfOk result (λ answer. Performs (Some (admin_saying command)) answer input.old
         (reader_of (R.remaining reader.old) (R.remaining reader.new)) input.new
         (handle_of handle.old handle.new)) }
     // The reader has failed only where the fault is `Read`.
     ensures sound { OnOk result (R.has_failed reader.new ≡ false) }
-    ensures fails { IfErr result (λ e. R.has_failed reader.new ≡ reader_after e) }
+    ensures fails { IfErr result (λ e. R.has_failed reader.new ≡ fails_reader e) }
     // Behind which octets of the command's text it stopped. No call was made.
     ensures err { IfErr result (λ e. (octets : List ℕ) × StopsReading e input.old
         (R.remaining reader.old) (R.remaining reader.new) octets input.new) }
@@ -459,7 +459,7 @@ fn reply<W: Sink>(
     // How much of it was, where the writer failed or the octets can't be counted.
     ensures err { IfErr result (λ e. StopsReplying e answer.now sent
         (W.contents writer.old) (W.contents writer.new) (W.has_failed writer.new)) }
-    ensures fails { IfErr result (λ e. W.has_failed writer.new ≡ writer_after e) }
+    ensures fails { IfErr result (λ e. W.has_failed writer.new ≡ fails_writer e) }
 {
     match write_answer(alloc, buffer, writer, answer, sent) {
         Ok(sent) => Ok(sent),

@@ -2,7 +2,7 @@
 ghost use Rattle.std.specs.Prelude.{◌≡◌, ℕ, ◌+◌, ◌≤◌, ◌<◌, List, [], ◌∷◌, true, false, length, take, IfOk, IfErr, OnOk, MatchOption};
 ghost use Rattle.std.specs.Io.KnownBytes.{Consumes, IsAtEnd, Keeps};
 ghost use Rattle.mediator_connections.specs.declared.fault.Fault.TheVariants.{Read};
-ghost use Rattle.mediator_connections.specs.Faults.{reader_after};
+ghost use Rattle.mediator_connections.specs.Faults.{fails_reader};
 ghost use Rattle.mediator_connections.specs.CommandInput.{unread, Fills, HandsOutOctets, EndsBehind, IsLine, IsInside, StopsReading};
 
 use crate::fault::Fault;
@@ -74,7 +74,7 @@ impl CommandInput {
             (R.remaining reader.old) (R.remaining reader.new) octets self.new)) }
         ensures sound { OnOk result (R.has_failed reader.new ≡ false) }
         // The reader has failed only where the fault is `Read`; and behind which octets of the line it stopped.
-        ensures fails { IfErr result (λ e. R.has_failed reader.new ≡ reader_after e) }
+        ensures fails { IfErr result (λ e. R.has_failed reader.new ≡ fails_reader e) }
         ensures err { IfErr result (λ e. (octets : List ℕ) × StopsReading e self.old
             (R.remaining reader.old) (R.remaining reader.new) octets self.new × IsInside e octets) }
     {
@@ -110,7 +110,7 @@ impl CommandInput {
         ensures count { IfOk result (λ text. length text.items ≡ count) }
         // The reader has failed only where the fault is `Read`; and behind which octets of the text it stopped.
         ensures sound { OnOk result (R.has_failed reader.new ≡ false) }
-        ensures fails { IfErr result (λ e. R.has_failed reader.new ≡ reader_after e) }
+        ensures fails { IfErr result (λ e. R.has_failed reader.new ≡ fails_reader e) }
         ensures err { IfErr result (λ e. (octets : List ℕ) × StopsReading e self.old
             (R.remaining reader.old) (R.remaining reader.new) octets self.new) }
     {
@@ -140,7 +140,7 @@ impl CommandInput {
             (octet ∷ []) self.new)) }
         ensures sound { OnOk result (R.has_failed reader.new ≡ false) }
         // The reader has failed only where the fault is `Read`. No octet was handed out.
-        ensures fails { IfErr result (λ e. R.has_failed reader.new ≡ reader_after e) }
+        ensures fails { IfErr result (λ e. R.has_failed reader.new ≡ fails_reader e) }
         ensures err { IfErr result (λ e. StopsReading e self.old
             (R.remaining reader.old) (R.remaining reader.new) [] self.new × IsInside e []) }
     {
@@ -159,7 +159,7 @@ impl CommandInput {
             (R.remaining reader.old) (R.remaining reader.new) self.new) }
         ensures sound { OnOk result (R.has_failed reader.new ≡ false) }
         // The reader has failed only where the fault is `Read`. No octet was handed out.
-        ensures fails { IfErr result (λ e. R.has_failed reader.new ≡ reader_after e) }
+        ensures fails { IfErr result (λ e. R.has_failed reader.new ≡ fails_reader e) }
         ensures err { IfErr result (λ e. StopsReading e self.old
             (R.remaining reader.old) (R.remaining reader.new) [] self.new × IsInside e []) }
     {

@@ -2,8 +2,8 @@
 ghost use Rattle.std.specs.Prelude.{◌≡◌, ◌+◌, ◌<◌, ◌^◌, false, length, IfOk, IfErr, OnOk};
 ghost use Rattle.std.specs.Io.KnownBytes.{Appends};
 ghost use Rattle.octet_io.specs.Moments.{writer_of};
-ghost use Rattle.mediator_connections.specs.Faults.{writer_after};
-ghost use Rattle.mediator_connections.specs.Delivering.{DeliversSome, FailsToDeliver, Sends, StopsSending, EndsOnWrite, octets_of};
+ghost use Rattle.mediator_connections.specs.Faults.{fails_writer};
+ghost use Rattle.mediator_connections.specs.Delivering.{DeliversSome, FailsToDeliver, Sends, StopsSending, EndsOnWrite, handed_octets};
 
 use crate::clock::Clock;
 use crate::fault::Fault;
@@ -52,7 +52,7 @@ pub fn deliver<E: EntryLedger, H: RecordLedger, W: Sink, C: Clock>(
     ensures stops { IfErr result (λ e.
         FailsToDeliver e.0 (C.shows clock.now) target handle.old handle.new
         (writer_of (W.contents writer.old) (W.contents writer.new)) (W.has_failed writer.new)) }
-    ensures fails { IfErr result (λ e. W.has_failed writer.new ≡ writer_after e.0) }
+    ensures fails { IfErr result (λ e. W.has_failed writer.new ≡ fails_writer e.0) }
     // The administrator's handle ends the subscription where the writer failed, and does nothing else.
     ensures unchanged { OnOk result (admin.new ≡ admin.old) }
     ensures gone { IfErr result (λ e. EndsOnWrite e.0 handle.old.sub admin.old admin.new) }
@@ -116,7 +116,7 @@ fn send_messages<E: EntryLedger, H: RecordLedger, W: Sink, C: Clock>(
     ensures stops { IfErr result (λ e.
         FailsToDeliver e (C.shows clock.now) target handle.old handle.new
         (writer_of (W.contents writer.old) (W.contents writer.new)) (W.has_failed writer.new)) }
-    ensures fails { IfErr result (λ e. W.has_failed writer.new ≡ writer_after e) }
+    ensures fails { IfErr result (λ e. W.has_failed writer.new ≡ fails_writer e) }
 {
     let alloc = handle.allocator();
     let mut sent = 0u64;
@@ -145,11 +145,11 @@ fn send_all<W: Sink>(
     writer: &mut W,
     sent: u64,
 ) -> Result<u64, Fault>
-    requires fits { sent + length (octets_of messages.now) < 2 ^ 64 }
-    ensures ok { IfOk result (λ n. Sends (octets_of messages.now) sent n
+    requires fits { sent + length (handed_octets messages.now) < 2 ^ 64 }
+    ensures ok { IfOk result (λ n. Sends (handed_octets messages.now) sent n
         (W.contents writer.old) (W.contents writer.new)) }
     ensures stays { OnOk result (W.has_failed writer.new ≡ W.has_failed writer.old) }
-    ensures err { IfErr result (λ e. StopsSending e (octets_of messages.now) sent
+    ensures err { IfErr result (λ e. StopsSending e (handed_octets messages.now) sent
         (W.contents writer.old) (W.contents writer.new) (W.has_failed writer.new)) }
 {
     match joined(alloc, messages) {
@@ -163,7 +163,7 @@ fn send_all<W: Sink>(
 /// # Errors
 /// Want of memory.
 fn joined(alloc: Global, messages: &[Handed]) -> Result<Vec<u8>, AllocError>
-    ensures { IfOk result (λ octets. octets.items ≡ octets_of messages.now) }
+    ensures { IfOk result (λ octets. octets.items ≡ handed_octets messages.now) }
 {
     let mut octets = Vec::new(alloc);
     'joins: for handed in messages {
@@ -178,11 +178,11 @@ fn joined(alloc: Global, messages: &[Handed]) -> Result<Vec<u8>, AllocError>
 /// # Errors
 /// The writer failed, and the fault says how many octets were sent in all.
 fn send_each<W: Sink>(messages: &[Handed], writer: &mut W, mut sent: u64) -> Result<u64, Fault>
-    requires fits { sent + length (octets_of messages.now) < 2 ^ 64 }
-    ensures ok { IfOk result (λ n. Sends (octets_of messages.now) sent n
+    requires fits { sent + length (handed_octets messages.now) < 2 ^ 64 }
+    ensures ok { IfOk result (λ n. Sends (handed_octets messages.now) sent n
         (W.contents writer.old) (W.contents writer.new)) }
     ensures stays { OnOk result (W.has_failed writer.new ≡ W.has_failed writer.old) }
-    ensures err { IfErr result (λ e. StopsSending e (octets_of messages.now) sent
+    ensures err { IfErr result (λ e. StopsSending e (handed_octets messages.now) sent
         (W.contents writer.old) (W.contents writer.new) (W.has_failed writer.new)) }
 {
     'sends: for handed in messages {

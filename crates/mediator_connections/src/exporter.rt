@@ -5,7 +5,7 @@ ghost use Rattle.event_journal.specs.declared.entry.Entry.TheVariants.{Message};
 ghost use Rattle.prepared_message.specs.Holding.{CountsTooMany, IsAheadOf};
 ghost use Rattle.mediator_connections.specs.Serving.{IsRefusalOf, IsTooWideAt, Offers, RefusesAmong, Reaches, StopsServing, Serves};
 ghost use Rattle.mediator_connections.specs.Preparing.{ArePreparations, IsFrontOf};
-ghost use Rattle.mediator_connections.specs.Faults.{reader_after};
+ghost use Rattle.mediator_connections.specs.Faults.{fails_reader};
 
 use crate::control::{Patience, Reception};
 use crate::fault::Fault;
@@ -34,7 +34,7 @@ struct Pace {
 
 /// What an exporter's stream brought.
 #[derive(Clone, Copy, Debug, PartialEq, Eq)]
-pub struct Served {
+pub struct ServedExporter {
     /// The messages that were accepted.
     pub messages: u64,
     /// The Data Records in them.
@@ -70,10 +70,10 @@ impl Progress {
     }
 
     /// What a stream brought in which this many messages were accepted.
-    const fn of(&self, messages: u64) -> Served
+    const fn of(&self, messages: u64) -> ServedExporter
         ensures { result.messages ≡ messages }
     {
-        Served {
+        ServedExporter {
             messages,
             records: self.records,
             gaps: self.gaps,
@@ -117,7 +117,7 @@ pub fn serve_exporter<
     turns: u64,
     workers: u64,
     reception: &O,
-) -> Result<Served, (Fault, Served)>
+) -> Result<ServedExporter, (Fault, ServedExporter)>
     requires reader { R.has_failed reader.old ≡ false }
     // All of the stream was read, and each of its messages was accepted.
     ensures serves { IfOk result (λ served. Serves turns served.messages
@@ -128,7 +128,7 @@ pub fn serve_exporter<
         (R.remaining reader.old) (R.remaining reader.new) handle.old handle.new) }
     ensures counted { IfErr result (λ e.
         e.1.messages ≡ length handle.new.kept - length handle.old.kept) }
-    ensures fails { IfErr result (λ e. R.has_failed reader.new ≡ reader_after e.0) }
+    ensures fails { IfErr result (λ e. R.has_failed reader.new ≡ fails_reader e.0) }
 {
     let before = handle.kept().len();
     let mut progress = Progress::none();
@@ -176,7 +176,7 @@ fn offer_stream<E: EntryLedger, H: RecordLedger, R: Source, O: Reception, T: Thr
     // Where it stopped, and which messages were accepted before.
     ensures stops { IfErr result (λ e. StopsServing e pace.turns
         (R.remaining reader.old) (R.remaining reader.new) handle.old handle.new) }
-    ensures fails { IfErr result (λ e. R.has_failed reader.new ≡ reader_after e) }
+    ensures fails { IfErr result (λ e. R.has_failed reader.new ≡ fails_reader e) }
 {
     let before = handle.kept().len();
     let mut intake = Intake::new(alloc, pace.turns)?;

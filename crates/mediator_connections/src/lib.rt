@@ -57,5 +57,5 @@ pub use clock::Clock;
 pub use collector::Collector;
 pub use control::{Control, Patience, Reception};
 pub use delivery::deliver;
-pub use exporter::{Served, serve_exporter};
+pub use exporter::{ServedExporter, serve_exporter};
 pub use fault::Fault;

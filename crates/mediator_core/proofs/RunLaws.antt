@@ -6,7 +6,7 @@ use Rattle.std.proofs.lemmas.List.Elements.{filter-append}
 use Rattle.sequences.specs.Before.{each_after}
 use Rattle.sequences.proofs.BeforeLaws.{each_with_before-append}
 use Rattle.ipfix_template.specs.DataRecord.{DataRecord}
-use Rattle.subscriber_stream.specs.Parts.{parts, records_in}
+use Rattle.subscriber_stream.specs.Parts.{parts, records_of_parts}
 use Rattle.subscriber_stream.specs.Calls.{Pull as Asked, octets_from}
 use Rattle.subscriber_stream.specs.Message.{built, place_after}
 use Rattle.subscriber_stream.proofs.CallLaws.{parts_bring}
@@ -29,7 +29,7 @@ use Rattle.mediator_calls.specs.declared.call.Reply.{Reply}
 use Rattle.mediator_calls.specs.declared.call.Reply.TheVariants as reply
 use Rattle.mediator_calls.specs.Mediation.{Mediation, started, place_at, waiting_at, noted_at, stream_limits}
 use Rattle.mediator_calls.specs.Calls.{GoesOn, with_cuts, Drains}
-use Rattle.mediator_core.specs.Runs.{Answers, Runs, entry_in, entries_of, is_of_call, answer_in, answers_to, handed_to, GiveUntilNone, MeanFront, drained_in, drained_by, asked_in, Ask}
+use Rattle.mediator_core.specs.Runs.{Answers, Runs, entry_in, accepted_entries, is_of_call, answer_in, answers_to, handed_to, GiveUntilNone, MeanFront, drained_in, drained_by, asked_in, Ask}
 use Rattle.mediator_core.specs.Headline.{IsBuiltFromDisclosed}
 use Rattle.mediator_calls.specs.Sound.{IsSoundMediation}
 use Rattle.mediator_core.proofs.Holding.{Holds, holds_first, HoldsAfter, holds_after}
@@ -117,9 +117,9 @@ handed_is_disclosed limits calls replies new run sound sub turns more live range
 
 mean_front : (messages : List (List ℕ)) (records : List DataRecord) (p : ℕ) → AreHandedOut messages records p → AreStreamable records → MeanFront messages records
 mean_front messages records p are may = record {
-  front = records_in (take p (parts records));
-  rest = records_in (drop p (parts records));
-  list_is = sym (parts_bring records) ∙ ap records_in (sym (take-append-drop p (parts records))) ∙ records_in-append (take p (parts records)) (drop p (parts records));
+  front = records_of_parts (take p (parts records));
+  rest = records_of_parts (drop p (parts records));
+  list_is = sym (parts_bring records) ∙ ap records_of_parts (sym (take-append-drop p (parts records))) ∙ records_in-append (take p (parts records)) (drop p (parts records));
   means = handed_means messages records p are may;
 }
 
@@ -169,16 +169,16 @@ entry_added old (call.Status sub) (reply.Refused why) new is = refused_adds old 
 entry_added old (call.DrainAudit most) (reply.Refused why) new is = refused_adds old new is.1
 entry_added old _ _ new is = absurd is
 
-entries_added : (calls : List Call) (replies : List Reply) (old new : Mediation) → Runs old calls replies new → filter is_of_call new.history ≡ filter is_of_call old.history ++ entries_of calls replies
+entries_added : (calls : List Call) (replies : List Reply) (old new : Mediation) → Runs old calls replies new → filter is_of_call new.history ≡ filter is_of_call old.history ++ accepted_entries calls replies
 entries_added [] [] old new run = refused_adds old new run
 entries_added [] (r ∷ replies) old new run = absurd run
 entries_added (c ∷ calls) [] old new run = absurd run
 entries_added (c ∷ calls) (r ∷ replies) old new run =
     entries_added calls replies run.0 new run.2
-    ∙ ap (λ (es : List Entry). es ++ entries_of calls replies) (entry_added old c r run.0 run.1)
-    ∙ append_assoc (filter is_of_call old.history) (entry_in c r) (entries_of calls replies)
+    ∙ ap (λ (es : List Entry). es ++ accepted_entries calls replies) (entry_added old c r run.0 run.1)
+    ∙ append_assoc (filter is_of_call old.history) (entry_in c r) (accepted_entries calls replies)
 
-pub history_is_the_calls : (limits : Limits) (calls : List Call) (replies : List Reply) (new : Mediation) → Runs (started limits) calls replies new → filter is_of_call new.history ≡ entries_of calls replies
+pub history_is_the_calls : (limits : Limits) (calls : List Call) (replies : List Reply) (new : Mediation) → Runs (started limits) calls replies new → filter is_of_call new.history ≡ accepted_entries calls replies
 history_is_the_calls limits calls replies new run = entries_added calls replies (started limits) new run
 
 -- ---- what was drained

@@ -11,7 +11,7 @@ use Rattle.mediator_calls.specs.declared.call.Reply.{Reply}
 use Rattle.mediator_calls.specs.declared.limits.Limits.{Limits}
 use Rattle.mediator_calls.specs.Mediation.{Mediation, started, place_at, noted_at}
 use Rattle.mediator_core.specs.declared.transcript.Transcript.{Transcript}
-use Rattle.mediator_core.specs.Runs.{Runs, entries_of, is_of_call, answers_to, handed_to, GiveUntilNone, MeanFront, drained_by, Ask}
+use Rattle.mediator_core.specs.Runs.{Runs, accepted_entries, is_of_call, answers_to, handed_to, GiveUntilNone, MeanFront, drained_by, Ask}
 
 -- each reply is that of its call, one after another from a mediator before any call, and the mediator is as the last call left it
 abbrev pub IsRunOf : Limits → List Call → Transcript → Type 0
@@ -19,7 +19,7 @@ IsRunOf limits calls t = Runs (started limits) calls t.replies.items t.mediator
 
 -- the entries of the history, cuts aside, are those of the accepted calls, in order
 abbrev pub HistoryIsTheCalls : List Call → Transcript → Type 0
-HistoryIsTheCalls calls t = filter is_of_call t.mediator.history ≡ entries_of calls t.replies.items
+HistoryIsTheCalls calls t = filter is_of_call t.mediator.history ≡ accepted_entries calls t.replies.items
 
 -- what a live subscription was handed, with the messages of further pulls up to None, means exactly what is disclosed to it
 abbrev pub HandedIsDisclosed : List Call → Transcript → Type 0

@@ -78,8 +78,8 @@ entry_in (call.Unsubscribe sub) reply.Unsubscribed = entry.Unsubscribe sub.0 ∷
 entry_in (call.Advance t) reply.Advanced = entry.Advance t ∷ []
 entry_in _ _ = []
 
-abbrev pub entries_of : List Call → List Reply → List Entry
-entries_of calls replies = over_calls entry_in calls replies
+abbrev pub accepted_entries : List Call → List Reply → List Entry
+accepted_entries calls replies = over_calls entry_in calls replies
 
 -- an entry of a call, and no cut
 abbrev pub is_of_call : Entry → Bool

@@ -15,7 +15,7 @@ use Rattle.flow_anonymize.specs.Outcome.{Outcome}
 use Rattle.flow_anonymize.specs.Disclosed.{disclosure_of}
 use Rattle.flow_aggregate.specs.declared.timing.Timing.{Timing}
 use Rattle.flow_aggregate.specs.declared.timing.Timing.TheVariants.{Placed, NoTime, NoKey, Late}
-use Rattle.flow_aggregate.specs.Placing.{start_of, interval_start, closes_at, has_key, timing_of, timing_at as placed_at}
+use Rattle.flow_aggregate.specs.Placing.{flow_start, interval_start, closes_at, has_key, timing_of, timing_at as placed_at}
 use Rattle.flow_aggregate.specs.Groups.{Sample, counted_as, group_of}
 use Rattle.flow_aggregate.specs.Running.{is_due, staying}
 use Rattle.flow_aggregate.specs.Closing.{closed_by}
@@ -72,7 +72,7 @@ timed_early a r clock start (Some time) is = by (nat_lt time (2 ^ 62)) (has_key 
 -- a record that the clock places is not due at it
 pub placed_not_due : (a : Aggregate) (r : DataRecord) (clock start : ℕ) → timing_of a r clock ≡ Placed start → is_due clock (group_of (counted_as a r)) ≡ false
 unfolding timing_of
-placed_not_due a r clock start is = timed_early a r clock start (start_of r) is
+placed_not_due a r clock start is = timed_early a r clock start (flow_start r) is
 
 one_stays : (clock : ℕ) (a : Option Aggregate) (r : DataRecord) (timing : Timing) → timing_in a r clock ≡ timing → staying clock (counted_in a r timing) ≡ counted_in a r timing
 one_stays clock None r timing is = refl

@@ -4,7 +4,7 @@ use Rattle.mediator_offline.specs.declared.run.OfflineRun.{OfflineRun}
 use Rattle.mediator_state.specs.declared.fault.Fault.TheVariants as fault
 use Rattle.mediator_offline.specs.declared.job.Fault.{Fault}
 use Rattle.mediator_offline.specs.declared.job.Fault.TheVariants.{Write, Mediator, AuditWrite}
-use Rattle.mediator_offline.specs.Failing.{writer_after, audit_after, FailsOnly}
+use Rattle.mediator_offline.specs.Failing.{output_after, audit_after, FailsOnly}
 use Rattle.mediator_offline.specs.Recording.{StopsLines}
 use Rattle.mediator_offline.specs.Pulling.{StopsDelivery, FailsDelivery}
 
@@ -14,7 +14,7 @@ handed_on f e x had mid now is fails same = rw is (fails ∙ ap (f x) same)
 
 pub only_then : (e x : Fault) (had mid audit_had audit_mid r w a : Bool) → e ≡ x → mid ≡ had → audit_mid ≡ audit_had → FailsOnly x mid audit_mid r w a → FailsOnly e had audit_had r w a
 only_then e x had mid audit_had audit_mid r w a is same audit_same fails =
-    rw is (record { reader = fails.reader; writer = fails.writer ∙ ap (writer_after x) same; audit = fails.audit ∙ ap (audit_after x) audit_same })
+    rw is (record { reader = fails.reader; writer = fails.writer ∙ ap (output_after x) same; audit = fails.audit ∙ ap (audit_after x) audit_same })
 
 -- of the lines of the audit, the audit's writer alone can fail
 pub lines_only : (e x : Fault) (had w audit_had a : Bool) → e ≡ x → StopsLines x a → a ≡ audit_after x audit_had → w ≡ had → FailsOnly e had audit_had false w a
@@ -26,10 +26,10 @@ lines_only e x had w audit_had a is cause fails same = rw is (only x cause fails
     only _ c f = absurd c
 
 -- of a delivery, the writer alone
-pub delivery_only : (e x : Fault) (d : OfflineRun) (held holds : Option (List ℕ)) (had w audit_had : Bool) → e ≡ x → FailsDelivery x d held holds w → w ≡ writer_after x had → FailsOnly e had audit_had false w audit_had
+pub delivery_only : (e x : Fault) (d : OfflineRun) (held holds : Option (List ℕ)) (had w audit_had : Bool) → e ≡ x → FailsDelivery x d held holds w → w ≡ output_after x had → FailsOnly e had audit_had false w audit_had
 delivery_only e x d held holds had w audit_had is delivery fails = rw is (only x delivery.stops fails)
   where
-    only : (y : Fault) → StopsDelivery y d held holds w delivery.messages → w ≡ writer_after y had → FailsOnly y had audit_had false w audit_had
+    only : (y : Fault) → StopsDelivery y d held holds w delivery.messages → w ≡ output_after y had → FailsOnly y had audit_had false w audit_had
     only (Write sent) s f = record { reader = refl; writer = f; audit = refl }
     only (Mediator fault.OutOfMemory) s f = record { reader = refl; writer = f; audit = refl }
     only _ s f = absurd s

@@ -6,7 +6,7 @@ use Rattle.std.proofs.KnownBytes.{Appends-trans, Appends-nil}
 use Rattle.std.proofs.lemmas.List.{take-append-drop, length-take}
 use Rattle.ipfix_template.specs.DataRecord.{DataRecord}
 use Rattle.subscriber_stream.specs.Shapes.{shapes_of, is_among, id_of}
-use Rattle.subscriber_stream.specs.Parts.{Part, Announcement, Entry, parts, parts_at, records_in}
+use Rattle.subscriber_stream.specs.Parts.{Part, Announcement, Entry, parts, parts_at, records_of_parts}
 use Rattle.subscriber_stream.specs.Message.{run_length, parts_taken, next_message, built, place_after}
 use Rattle.stream_meaning.specs.Served.{AreStreamable}
 use Rattle.stream_meaning.proofs.Tables.{empty, AreKnown, after_parts}
@@ -20,7 +20,7 @@ use Rattle.mediator_history.proofs.EntryLaws.{served_is_live}
 use Rattle.mediator_tables.specs.declared.subscription.Subscription.{Subscription}
 use Rattle.mediator_tables.specs.SubscriptionTable as table
 use Rattle.mediator_state.specs.Standing.{IsLiveAs}
-use Rattle.mediator_state.specs.Seen.{place_in, place_of}
+use Rattle.mediator_state.specs.Seen.{place_in, handed_place}
 use Rattle.mediator_state.specs.Calls as calls
 use Rattle.mediator_state.specs.Calls.{StateStandsFor}
 use Rattle.sequences.specs.Before.{each_after}
@@ -32,7 +32,7 @@ use Rattle.stream_meaning.proofs.Runs.{some_message}
 use Rattle.std.proofs.lemmas.Option.{same_Some}
 use Rattle.sequences.proofs.ListLaws.{take-add-append, concat_push}
 use Rattle.mediator_offline.specs.declared.run.OfflineRun.{OfflineRun}
-use Rattle.mediator_offline.specs.Runs.{tells, audit_drained, RunStands, Small, IsServing, SameButState, KeepsAudit}
+use Rattle.mediator_offline.specs.Runs.{sizes_tell, audit_drained, RunStands, Small, IsServing, SameButState, KeepsAudit}
 use Rattle.mediator_offline.specs.HandsOut.{HandsOutAll}
 use Rattle.mediator_offline.proofs.Receiving.{within_end}
 use Rattle.mediator_offline.specs.Offline.{end_of}
@@ -56,7 +56,7 @@ pulled records now target p m streamable below is = at (drop p (parts records)) 
     at : (ps : List Part) → drop p (parts records) ≡ ps → IsPulled records now target p m
     at [] e = absurd (nothing is) where
       nothing : built records p now target ≡ Some m → ⊥
-      nothing is = let none : next_message now target (length (records_in (take p (parts records)))) [] ≡ Some m = ap (next_message now target (length (records_in (take p (parts records))))) (sym e) ∙ is in absurd cc
+      nothing is = let none : next_message now target (length (records_of_parts (take p (parts records)))) [] ≡ Some m = ap (next_message now target (length (records_of_parts (take p (parts records))))) (sym e) ∙ is in absurd cc
     at (part ∷ ps) e = record { goes_on = some; within = within; short = short }
       where
         many : length (take (parts_taken records p target) (drop p (parts records))) ≡ length (take (run_length target (part ∷ ps)) (part ∷ ps))
@@ -73,8 +73,8 @@ pulled records now target p m streamable below is = at (drop p (parts records)) 
             (known_split (take p (parts records)) (drop p (parts records)) empty (subst (AreKnown empty) (sym (take-append-drop p (parts records))) (parts_known records streamable))).1
 
         short : length m < 65536
-        short = subst (λ x. length x < 65536) (same_Some _ m (ap (next_message now target (length (records_in (take p (parts records))))) (sym e) ∙ is))
-            (run_fits target now (length (records_in (take p (parts records)))) (after_parts empty (take p (parts records))) part ps below known)
+        short = subst (λ x. length x < 65536) (same_Some _ m (ap (next_message now target (length (records_of_parts (take p (parts records))))) (sym e) ∙ is))
+            (run_fits target now (length (records_of_parts (take p (parts records)))) (after_parts empty (take p (parts records))) part ps below known)
 
 -- nothing is built exactly where all was handed out
 pub at_end : (records : List DataRecord) (now target p : ℕ) → built records p now target ≡ None → p ≤ length (parts records) → p ≡ length (parts records)
@@ -83,8 +83,8 @@ at_end records now target p is le = at (drop p (parts records)) refl
   where
     at : (ps : List Part) → drop p (parts records) ≡ ps → p ≡ length (parts records)
     at [] e = omega (arith, ap length e, length-drop p (parts records), le)
-    at (part ∷ ps) e = absurd (something (ap (next_message now target (length (records_in (take p (parts records))))) (sym e) ∙ is)) where
-      something : next_message now target (length (records_in (take p (parts records)))) (part ∷ ps) ≡ None → ⊥
+    at (part ∷ ps) e = absurd (something (ap (next_message now target (length (records_of_parts (take p (parts records))))) (sym e) ∙ is)) where
+      something : next_message now target (length (records_of_parts (take p (parts records)))) (part ∷ ps) ≡ None → ⊥
       something x = absurd cc
 
 -- where nothing is built, a pull moves nothing
@@ -116,7 +116,7 @@ hands-snoc records now target p q (n ∷ ms) m hands is = (hands.0, hands-snoc r
 
 -- ---- a run that pulls
 
-pub stands_on : (d e : OfflineRun) (h : List HistoryEntry) (p q : ℕ) → RunStands d h p → SameButState d e → StateStandsFor tells e.state h → place_of e.state.engine 1 ≡ q → RunStands e h q
+pub stands_on : (d e : OfflineRun) (h : List HistoryEntry) (p q : ℕ) → RunStands d h p → SameButState d e → StateStandsFor sizes_tell e.state h → handed_place e.state.engine 1 ≡ q → RunStands e h q
 stands_on d e h p q so same state here = record {
   state = state;
   place = here;
@@ -150,7 +150,7 @@ waits_behind d h p so =
     ∙ ap (λ n. drop n (parts (disclosed 1 h))) so.place
 
 -- what the state answers to a pull is what the run does
-pub pulls_of : (d e : OfflineRun) (m : Option (List ℕ)) → SameButState d e → calls.KeepsHistories tells d.state e.state → calls.ForEachHistory tells d.state (calls.PullsAfter d.state.engine e.state.engine 1 d.job.now d.job.target m) → PullsMessage d m e
+pub pulls_of : (d e : OfflineRun) (m : Option (List ℕ)) → SameButState d e → calls.KeepsHistories sizes_tell d.state e.state → calls.ForEachHistory sizes_tell d.state (calls.PullsAfter d.state.engine e.state.engine 1 d.job.now d.job.target m) → PullsMessage d m e
 pulls_of d e m same keeps got = record {
   message = λ h p so. (got h so.state).message ∙ ap (λ q. built (disclosed 1 h) q d.job.now d.job.target) so.place;
   stands = λ h p so.
@@ -158,7 +158,7 @@ pulls_of d e m same keeps got = record {
 }
 
 -- the same history and the same entries drained: the same entries wait
-pub audit_kept : (d e : OfflineRun) (h : List HistoryEntry) → StateStandsFor tells d.state h → StateStandsFor tells e.state h → audit_drained e ≡ audit_drained d → KeepsAudit d e
+pub audit_kept : (d e : OfflineRun) (h : List HistoryEntry) → StateStandsFor sizes_tell d.state h → StateStandsFor sizes_tell e.state h → audit_drained e ≡ audit_drained d → KeepsAudit d e
 audit_kept d e h so then same = record { drained = same; waiting = then.stands.audit.waiting ∙ ap (λ n. drop n (audit_list h)) same ∙ sym so.stands.audit.waiting }
 
 -- where a run has come to, from place p on
@@ -203,7 +203,7 @@ audit_on d e f a b = record { drained = b.drained ∙ a.drained; waiting = b.wai
 
 -- a message is written: the state stays
 written_on : (e f : OfflineRun) (h : List HistoryEntry) (p : ℕ) → SameButState e f → f.state ≡ e.state → RunStands e h p → RunStands f h p
-written_on e f h p same state so = stands_on e f h p p so same (subst (λ s. StateStandsFor tells s h) (sym state) so.state) (ap (λ s. place_of s.engine 1) state ∙ so.place)
+written_on e f h p same state so = stands_on e f h p p so same (subst (λ s. StateStandsFor sizes_tell s h) (sym state) so.state) (ap (λ s. handed_place s.engine 1) state ∙ so.place)
 
 -- one message more was pulled and written
 pub turn : (old d e f : OfflineRun) (held holds writes : Option (List ℕ)) (m : List ℕ) → IsPulling old d held holds → Pulled d e (Some m) → SameButState e f → f.state ≡ e.state

@@ -4,7 +4,7 @@ use Rattle.std.proofs.lemmas.List.{length-take}
 use Rattle.sequences.specs.Before.{each_after}
 use Rattle.sequences.proofs.BeforeLaws.{each_with_before-append}
 use Rattle.ipfix_template.specs.DataRecord.{DataRecord}
-use Rattle.subscriber_stream.specs.Parts.{Part, parts, records_in}
+use Rattle.subscriber_stream.specs.Parts.{Part, parts, records_of_parts}
 use Rattle.subscriber_stream.specs.Message.{run_length, parts_taken, next_message, built, place_after}
 use Rattle.subscriber_stream.proofs.CallLaws.{parts_more, run_some}
 use Rattle.event_journal.specs.declared.entry.Entry.{Entry}
@@ -12,7 +12,7 @@ use Rattle.mediator_history.specs.Disclosed.{given_at, disclosed}
 use Rattle.mediator_offline.specs.declared.job.OfflineJob.{OfflineJob}
 use Rattle.mediator_offline.specs.Offline.{cuts_by, next_message as next_entry, history_of, disclosed_by, and_then, messages_pulled, due_by, due}
 use Rattle.mediator_offline.specs.HandsOut.{HandsOutAll}
-use Rattle.mediator_offline.specs.Due.{end_by, AreDue}
+use Rattle.mediator_offline.specs.Due.{end_by, IsWrittenFor}
 use Rattle.mediator_offline.proofs.Delivering.{at_end}
 use Rattle.mediator_offline.proofs.OneMore.{history_more, parts_none, handed_all}
 
@@ -27,8 +27,8 @@ unfolding next_message
 goes_on records now target p m is = at (drop p (parts records)) refl
   where
     at : (ps : List Part) → drop p (parts records) ≡ ps → p < place_after records p target
-    at [] e = absurd (nothing (ap (next_message now target (length (records_in (take p (parts records))))) (sym e) ∙ is)) where
-      nothing : next_message now target (length (records_in (take p (parts records)))) [] ≡ Some m → ⊥
+    at [] e = absurd (nothing (ap (next_message now target (length (records_of_parts (take p (parts records))))) (sym e) ∙ is)) where
+      nothing : next_message now target (length (records_of_parts (take p (parts records)))) [] ≡ Some m → ⊥
       nothing x = absurd cc
     at (part ∷ ps) e = omega (arith, many, run_some target (part ∷ ps), length-take (run_length target (part ∷ ps)) (part ∷ ps))
       where
@@ -76,7 +76,7 @@ grows job before octets = omega (arith, ap length longer, length-append (parts (
 
 -- ---- all that is due
 
-due_after : (job : OfflineJob) (before messages : List (List ℕ)) → AreDue job before (end_by job before) messages (each_after (due_by job) before messages)
+due_after : (job : OfflineJob) (before messages : List (List ℕ)) → IsWrittenFor job before (end_by job before) messages (each_after (due_by job) before messages)
 due_after job before [] = refl
 due_after job before (octets ∷ messages) = (
   due_by job before octets,
@@ -86,7 +86,7 @@ due_after job before (octets ∷ messages) = (
   due_after job (before ++ octets ∷ []) messages,
 )
 
-only_after : (job : OfflineJob) (before messages written : List (List ℕ)) → AreDue job before (end_by job before) messages written → written ≡ each_after (due_by job) before messages
+only_after : (job : OfflineJob) (before messages written : List (List ℕ)) → IsWrittenFor job before (end_by job before) messages written → written ≡ each_after (due_by job) before messages
 only_after job before [] written so = so
 only_after job before (octets ∷ messages) written (next, later, is, hands, more) =
     is ∙ ap (λ t. t ++ later) (sym one) ∙ ap (λ t. due_by job before octets ++ t) (only_after job (before ++ octets ∷ []) messages later more)
@@ -95,8 +95,8 @@ only_after job before (octets ∷ messages) written (next, later, is, hands, mor
     one = handed_all (end_by job (before ++ octets ∷ [])) (disclosed_by job (before ++ octets ∷ [])) job.now job.target (end_by job before) next hands
         (omega (arith, handed_within (disclosed_by job (before ++ octets ∷ [])) job.now job.target (end_by job before) (end_by job (before ++ octets ∷ [])) next (grows job before octets) hands))
 
-pub due_found : (job : OfflineJob) (messages : List (List ℕ)) → AreDue job [] 0 messages (due job messages)
-due_found job messages = subst (λ p. AreDue job [] p messages (due job messages)) parts_none (due_after job [] messages)
+pub due_found : (job : OfflineJob) (messages : List (List ℕ)) → IsWrittenFor job [] 0 messages (due job messages)
+due_found job messages = subst (λ p. IsWrittenFor job [] p messages (due job messages)) parts_none (due_after job [] messages)
 
-pub due_only : (job : OfflineJob) (messages written : List (List ℕ)) → AreDue job [] 0 messages written → written ≡ due job messages
-due_only job messages written so = only_after job [] messages written (subst (λ p. AreDue job [] p messages written) (sym parts_none) so)
+pub due_only : (job : OfflineJob) (messages written : List (List ℕ)) → IsWrittenFor job [] 0 messages written → written ≡ due job messages
+due_only job messages written so = only_after job [] messages written (subst (λ p. IsWrittenFor job [] p messages written) (sym parts_none) so)

@@ -12,7 +12,7 @@ use Rattle.ipfix_reader.specs.declared.fault.FramingFault.TheVariants as framing
 use Rattle.ipfix_reader.specs.Intake.{IntakeState, nothing_read, Yields, Ends, StopsIntake, StreamHasFault, reader_after as intake_reader}
 use Rattle.event_journal.specs.declared.entry.Entry.{Entry}
 use Rattle.mediator_history.specs.Disclosed.{disclosed}
-use Rattle.subscriber_stream.specs.Parts.{parts, records_in}
+use Rattle.subscriber_stream.specs.Parts.{parts, records_of_parts}
 use Rattle.subscriber_stream.proofs.CallLaws.{parts_bring}
 use Rattle.stream_meaning.specs.HandedOut.{AreHandedOut}
 use Rattle.stream_meaning.proofs.Handing.{none_handed_out}
@@ -22,11 +22,12 @@ use Rattle.mediator_offline.specs.declared.job.Fault.{Fault}
 use Rattle.mediator_offline.specs.declared.job.Fault.TheVariants.{Write, Mediator, Cut, AuditWrite}
 use Rattle.mediator_offline.specs.declared.run.OfflineRun.{OfflineRun}
 use Rattle.mediator_offline.specs.Ports.{Outputs, Ports, holding, with_left, sound_ports}
-use Rattle.mediator_offline.specs.Faults.{intake_refusal}
+use Rattle.mediator_offline.specs.Faults.{reading_fault}
 use Rattle.mediator_offline.specs.Failing.{FailsOnly}
 use Rattle.mediator_offline.specs.Offline.{first_entries, history_of, disclosed_by, due, after_message, next_message as next_entry, end_of}
 use Rattle.mediator_offline.specs.Accepting.{AreAccepted}
-use Rattle.mediator_offline.specs.Filtering.{AreRead, Filters, IsFiltered, FiltersAll, StopsAtMessage, StopsAtOne, StopsHere, StopsSomewhere}
+use Rattle.ipfix_reader.specs.Intake.{AreRead}
+use Rattle.mediator_offline.specs.Filtering.{Filters, IsFiltered, FiltersAll, StopsAtMessage, StopsAtOne, StopsHere, StopsSomewhere}
 use Rattle.mediator_offline.specs.Runs.{IsServing, RunStands}
 use Rattle.mediator_offline.specs.Running.{IsRunOpened, IsRunning, RunsSomewhere}
 use Rattle.mediator_offline.specs.Reaching.{HandlesAll, StopsAmong, IsAfter, ReachesEnd}
@@ -167,7 +168,7 @@ faulty w d i k job before mid left so (inr now) = record {
 
 -- the reader has this left then, and has failed or not; the outputs are as they were
 pub intake_stops : (w : IntakeFault) (d : OfflineRun) (i k : IntakeState) (job : OfflineJob) (before mid : Ports) (left : Option (List ℕ)) (failed : Bool) → IsAfter d i job before mid
-    → StopsIntake w i mid.left left k → failed ≡ intake_reader w false → StopsSomewhere (intake_refusal w) job before (with_left left failed mid.outputs)
+    → StopsIntake w i mid.left left k → failed ≡ intake_reader w false → StopsSomewhere (reading_fault w) job before (with_left left failed mid.outputs)
 intake_stops intake.Read d i k job before mid left failed so stops fails = record {
   octets = so.octets;
   taken = same_read before.left mid.left left so.octets so.taken stops.read;
@@ -206,7 +207,7 @@ intake_stops intake.OutOfMemory d i k job before mid left failed so stops fails 
 }
 
 -- only a failed read leaves a failed device
-pub intake_only : (w : IntakeFault) (e : Fault) (had failed audit_had afailed rfailed : Bool) → e ≡ intake_refusal w → rfailed ≡ intake_reader w false → failed ≡ had → afailed ≡ audit_had → FailsOnly e had audit_had rfailed failed afailed
+pub intake_only : (w : IntakeFault) (e : Fault) (had failed audit_had afailed rfailed : Bool) → e ≡ reading_fault w → rfailed ≡ intake_reader w false → failed ≡ had → afailed ≡ audit_had → FailsOnly e had audit_had rfailed failed afailed
 intake_only intake.Read e had failed audit_had afailed rfailed is fails same audit_same = rw is (record { reader = fails; writer = same; audit = audit_same })
 intake_only (intake.Framing why) e had failed audit_had afailed rfailed is fails same audit_same = rw is (record { reader = fails; writer = same; audit = audit_same })
 intake_only intake.Turns e had failed audit_had afailed rfailed is fails same audit_same = rw is (record { reader = fails; writer = same; audit = audit_same })
@@ -240,7 +241,7 @@ history_length job before (m ∷ messages) so =
         ∙ length-append (history_of job before) (next_entry (history_of job before) m ∷ [])
 
 pub finishes : (d : OfflineRun) (job : OfflineJob) (report : OfflineReport) (before after : Ports) → ReachesEnd d job before after
-    → report.messages ≡ d.messages → report.records ≡ d.records → ((h : List Entry) (p : ℕ) → RunStands d h p → report.disclosed ≡ length (records_in (take p (parts (disclosed 1 h))))) → FiltersAll job report before after
+    → report.messages ≡ d.messages → report.records ≡ d.records → ((h : List Entry) (p : ℕ) → RunStands d h p → report.disclosed ≡ length (records_of_parts (take p (parts (disclosed 1 h))))) → FiltersAll job report before after
 finishes d job report before after r entries records handed = record {
   octets = r.octets;
   messages = r.messages;
@@ -251,7 +252,7 @@ finishes d job report before after r entries records handed = record {
   counted = omega (arith, entries, r.running.stands.messages, r.running.stands.counted, history_length job [] r.messages r.running.accepted);
   recorded = records ∙ r.running.stands.records;
   disclosed = handed (history_of job r.messages) (end_of (history_of job r.messages)) r.running.stands
-      ∙ ap (λ ps. length (records_in ps)) (take_all (end_of (history_of job r.messages)) (parts (disclosed_by job r.messages)) (omega arith)) ∙ ap length (parts_bring (disclosed_by job r.messages));
+      ∙ ap (λ ps. length (records_of_parts ps)) (take_all (end_of (history_of job r.messages)) (parts (disclosed_by job r.messages)) (omega arith)) ∙ ap length (parts_bring (disclosed_by job r.messages));
 }
 
 pub end_serves : (d : OfflineRun) (job : OfflineJob) (before after : Ports) → ReachesEnd d job before after → IsServing d

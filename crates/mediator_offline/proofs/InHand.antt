@@ -31,8 +31,8 @@ use Rattle.mediator_offline.specs.Ports.{Outputs, holding}
 use Rattle.mediator_offline.specs.Lines.{lines_for, WritesBeginning, WritesOn}
 use Rattle.mediator_offline.specs.Recording.{Records, StopsLines}
 use Rattle.mediator_offline.specs.Offline.{after_message, history_of, disclosed_by, pulled_to_end, due_by, due, audit_due, cuts_by, next_message as next_entry, end_of}
-use Rattle.mediator_offline.specs.Due.{AreDue}
-use Rattle.mediator_offline.specs.Runs.{tells, audit_waiting, RunHasHistory, RunStands, Small}
+use Rattle.mediator_offline.specs.Due.{IsWrittenFor}
+use Rattle.mediator_offline.specs.Runs.{sizes_tell, audit_waiting, RunHasHistory, RunStands, Small}
 use Rattle.mediator_offline.specs.Steps.{TakesMessage}
 use Rattle.mediator_offline.specs.Accepting.{AcceptsMessage, RefusesOctets, AreAccepted}
 use Rattle.mediator_offline.specs.HandsOut.{HandsOutAll}
@@ -70,9 +70,9 @@ lines_begun job messages octets added waiting a b c adds waits so some = subst (
 
 -- whole messages of what it adds are due behind the others
 due_in_hand : (job : OfflineJob) (messages : List (List ℕ)) (octets : List ℕ) (handed others : List (List ℕ)) → due_by job messages octets ≡ handed ++ others
-    → AreDue job [] 0 (messages ++ octets ∷ []) (due job messages ++ (handed ++ others))
+    → IsWrittenFor job [] 0 (messages ++ octets ∷ []) (due job messages ++ (handed ++ others))
 due_in_hand job messages octets handed others front =
-    subst (AreDue job [] 0 (messages ++ octets ∷ [])) (due_more job messages octets ∙ ap (λ ms. due job messages ++ ms) front) (due_found job (messages ++ octets ∷ []))
+    subst (IsWrittenFor job [] 0 (messages ++ octets ∷ [])) (due_more job messages octets ∙ ap (λ ms. due job messages ++ ms) front) (due_found job (messages ++ octets ∷ []))
 
 -- the holder of the stream keeps what they mean
 handed_run : (so_far : List (List ℕ)) (records : List DataRecord) (now target p q : ℕ) (messages : List (List ℕ)) → now < 2 ^ 32 → target < 2 ^ 16
@@ -377,7 +377,7 @@ was_cut_at d1 d2 job messages octets r receives same = record {
     e : history_of job (messages ++ octets ∷ []) ≡ after_message h octets
     e = history_more job messages octets
 
-    on : (cuts_by h octets ≡ CutEntry 1 ∷ []) × StateStandsFor tells d2.state (after_message h octets)
+    on : (cuts_by h octets ≡ CutEntry 1 ∷ []) × StateStandsFor sizes_tell d2.state (after_message h octets)
     on = receives.cuts h r.stands r.small refl
 
     more : (added : List AuditEntry) × (audit_list (history_of job (messages ++ octets ∷ [])) ≡ audit_list (history_of job messages) ++ added)

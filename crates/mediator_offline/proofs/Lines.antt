@@ -4,10 +4,10 @@ use Rattle.std.specs.Io.KnownBytes.{Appends}
 use Rattle.std.proofs.KnownBytes.{Appends-nil}
 use Rattle.std.proofs.lemmas.Grind.{flat_map-append}
 use Rattle.disclosure_audit.specs.declared.entry.AuditEntry.{AuditEntry}
-use Rattle.disclosure_audit.specs.Lines.{line_of}
-use Rattle.mediator_offline.specs.Lines.{lines_for, lines_of}
+use Rattle.disclosure_audit.specs.Lines.{audit_line}
+use Rattle.mediator_offline.specs.Lines.{lines_for, audit_text}
 
-pub lines_for-asked : (asked : Bool) (entries : List AuditEntry) → asked ≡ true → lines_for asked entries ≡ lines_of entries
+pub lines_for-asked : (asked : Bool) (entries : List AuditEntry) → asked ≡ true → lines_for asked entries ≡ audit_text entries
 lines_for-asked asked entries is = rw is refl
 
 -- what was not asked for is written where nothing is
@@ -20,5 +20,5 @@ lines_for-none false = refl
 
 -- the lines that are asked for of some entries and of others behind them
 pub lines_for-append : (asked : Bool) (some more : List AuditEntry) → lines_for asked (some ++ more) ≡ lines_for asked some ++ lines_for asked more
-lines_for-append true some more = flat_map-append line_of some more
+lines_for-append true some more = flat_map-append audit_line some more
 lines_for-append false some more = refl

@@ -20,20 +20,20 @@ use Rattle.mediator_state.specs.Seen.{place_in, IsUntouched}
 use Rattle.mediator_state.specs.Calls.{StateStandsFor, Accepts, GoesOnBy, EditsAfter, RefusesEdit, SubscribesAfter, RefusesSubscribe, OpensAfter, LacksRoomAfter, HasPolicy}
 use Rattle.mediator_offline.specs.declared.run.OfflineRun.{OfflineRun}
 use Rattle.mediator_offline.specs.declared.job.OfflineJob.{OfflineJob}
-use Rattle.mediator_offline.specs.Offline.{first_edit, first_entries, stream_limits, audit_limit, journal_limits}
+use Rattle.mediator_offline.specs.Offline.{first_edit, first_entries, offline_stream_limits, audit_limit, offline_journal_limits}
 use Rattle.mediator_offline.specs.Opening.{RefusesJob}
-use Rattle.mediator_offline.specs.Runs.{tells, RunStands}
+use Rattle.mediator_offline.specs.Runs.{sizes_tell, RunStands}
 use Rattle.mediator_offline.specs.Running.{IsRunOpened}
 use Rattle.mediator_offline.proofs.Receiving.{small_of}
 
 -- a state that was made stands for no entry, within these limits
 pub record IsMade (s : State CountedEntries) : Type 0 where
-  pub stands : StateStandsFor tells s []
-  pub limits : s.engine.limits ≡ stream_limits
+  pub stands : StateStandsFor sizes_tell s []
+  pub limits : s.engine.limits ≡ offline_stream_limits
   pub audit : s.engine.audit.limit ≡ audit_limit
-  pub journal : s.chronicle.limits ≡ journal_limits
+  pub journal : s.chronicle.limits ≡ offline_journal_limits
 
-pub made : (s : State CountedEntries) (c : CountedEntries) → c ≡ record { count = 0; octets = 0; limits = journal_limits; spare = 0 } → (tells c [] → StateStandsFor tells s []) → s.chronicle ≡ c → s.engine.limits ≡ stream_limits
+pub made : (s : State CountedEntries) (c : CountedEntries) → c ≡ record { count = 0; octets = 0; limits = offline_journal_limits; spare = 0 } → (sizes_tell c [] → StateStandsFor sizes_tell s []) → s.chronicle ≡ c → s.engine.limits ≡ offline_stream_limits
     → s.engine.audit.limit ≡ audit_limit → IsMade s
 made s c is stands kept limits audit = record {
   stands = stands (record { entries = ap (λ t. t.count) is; sizes = ap (λ t. t.octets) is });
@@ -48,26 +48,26 @@ pub record Keeps (a b : State CountedEntries) : Type 0 where
   pub journaled : b.chronicle.limits ≡ a.chronicle.limits
 
 abbrev pub EditsAll : State CountedEntries → List ℕ → ℕ → State CountedEntries → Type 0
-EditsAll a text n b = GoesOnBy tells (λ t. t.limits) a b (EditsAfter text n)
+EditsAll a text n b = GoesOnBy sizes_tell (λ t. t.limits) a b (EditsAfter text n)
 
 abbrev pub SubscribesAll : State CountedEntries → List ℕ → ℕ → State CountedEntries → Type 0
-SubscribesAll a name n b = GoesOnBy tells (λ t. t.limits) a b (SubscribesAfter name n)
+SubscribesAll a name n b = GoesOnBy sizes_tell (λ t. t.limits) a b (SubscribesAfter name n)
 
 abbrev pub OpensAll : State CountedEntries → ℕ → State CountedEntries → Type 0
-OpensAll a n b = GoesOnBy tells (λ t. t.limits) a b (OpensAfter n)
+OpensAll a n b = GoesOnBy sizes_tell (λ t. t.limits) a b (OpensAfter n)
 
-pub edited_stands : (a b : State CountedEntries) (job : OfflineJob) (n : ℕ) → IsMade a → EditsAll a job.policy.now n b → StateStandsFor tells b (first_edit job)
+pub edited_stands : (a b : State CountedEntries) (job : OfflineJob) (n : ℕ) → IsMade a → EditsAll a job.policy.now n b → StateStandsFor sizes_tell b (first_edit job)
 edited_stands a b job n m e = (e [] m.stands).accepts.stands
 
-pub subscribed_stands : (a b c : State CountedEntries) (job : OfflineJob) (n k : ℕ) → IsMade a → EditsAll a job.policy.now n b → SubscribesAll b job.name.now k c → StateStandsFor tells c (Edit job.policy.now ∷ Subscribe 1 job.name.now ∷ [])
+pub subscribed_stands : (a b c : State CountedEntries) (job : OfflineJob) (n k : ℕ) → IsMade a → EditsAll a job.policy.now n b → SubscribesAll b job.name.now k c → StateStandsFor sizes_tell c (Edit job.policy.now ∷ Subscribe 1 job.name.now ∷ [])
 subscribed_stands a b c job n k m e s =
     let got = s (first_edit job) (edited_stands a b job n m e) in
-    subst (λ i. StateStandsFor tells c (Edit job.policy.now ∷ Subscribe i job.name.now ∷ [])) got.number got.accepts.stands
+    subst (λ i. StateStandsFor sizes_tell c (Edit job.policy.now ∷ Subscribe i job.name.now ∷ [])) got.number got.accepts.stands
 
-opened_stands : (a b c d : State CountedEntries) (job : OfflineJob) (n k i : ℕ) → IsMade a → EditsAll a job.policy.now n b → SubscribesAll b job.name.now k c → OpensAll c i d → StateStandsFor tells d (first_entries job)
+opened_stands : (a b c d : State CountedEntries) (job : OfflineJob) (n k i : ℕ) → IsMade a → EditsAll a job.policy.now n b → SubscribesAll b job.name.now k c → OpensAll c i d → StateStandsFor sizes_tell d (first_entries job)
 opened_stands a b c d job n k i m e s o =
     let got = o (Edit job.policy.now ∷ Subscribe 1 job.name.now ∷ []) (subscribed_stands a b c job n k m e s) in
-    subst (λ x. StateStandsFor tells d (Edit job.policy.now ∷ Subscribe 1 job.name.now ∷ Open x ∷ [])) got.number got.accepts.stands
+    subst (λ x. StateStandsFor sizes_tell d (Edit job.policy.now ∷ Subscribe 1 job.name.now ∷ Open x ∷ [])) got.number got.accepts.stands
 
 at_start : (limits : StreamLimits) (o : Option Subscription) → IsLiveAs [] limits 1 o → place_in o ≡ 0
 at_start limits None is = refl
@@ -81,21 +81,21 @@ all_spelled job =
     All-cons IsSpelled (Edit job.policy.now) (Subscribe 1 job.name.now ∷ Open 1 ∷ []) tt
     (All-cons IsSpelled (Subscribe 1 job.name.now) (Open 1 ∷ []) tt (All-cons IsSpelled (Open 1) [] tt (All-nil IsSpelled)))
 
-room_started : (job : OfflineJob) → HasRoomAfter journal_limits (Edit job.policy.now ∷ Subscribe 1 job.name.now ∷ []) (Open 1 ∷ []) → HasRoomAfter journal_limits [] (first_entries job)
+room_started : (job : OfflineJob) → HasRoomAfter offline_journal_limits (Edit job.policy.now ∷ Subscribe 1 job.name.now ∷ []) (Open 1 ∷ []) → HasRoomAfter offline_journal_limits [] (first_entries job)
 room_started job room = record {
   entries_fit = omega arith;
   octets_fit = omega (arith, room.octets_fit, octets-push (Edit job.policy.now ∷ Subscribe 1 job.name.now ∷ []) (Open 1), octets-push [] (Open 1));
   spelled = all_spelled job;
 }
 
-room_open : (job : OfflineJob) → HasRoomAfter journal_limits [] (first_entries job) → HasRoomAfter journal_limits (Edit job.policy.now ∷ Subscribe 1 job.name.now ∷ []) (Open 1 ∷ [])
+room_open : (job : OfflineJob) → HasRoomAfter offline_journal_limits [] (first_entries job) → HasRoomAfter offline_journal_limits (Edit job.policy.now ∷ Subscribe 1 job.name.now ∷ []) (Open 1 ∷ [])
 room_open job room = record {
   entries_fit = omega arith;
   octets_fit = omega (arith, room.octets_fit, octets-push (Edit job.policy.now ∷ Subscribe 1 job.name.now ∷ []) (Open 1), octets-push [] (Open 1));
   spelled = All-cons IsSpelled (Open 1) [] tt (All-nil IsSpelled);
 }
 
-room_named : (job : OfflineJob) → HasRoomAfter journal_limits [] (first_entries job) → HasRoomAfter journal_limits (first_edit job) (Subscribe 1 job.name.now ∷ [])
+room_named : (job : OfflineJob) → HasRoomAfter offline_journal_limits [] (first_entries job) → HasRoomAfter offline_journal_limits (first_edit job) (Subscribe 1 job.name.now ∷ [])
 room_named job room = record {
   entries_fit = omega arith;
   octets_fit = omega (
@@ -126,17 +126,17 @@ opened d a b c job n k i same messages records sent m ab e bc s cd o = record {
     h2 : List Entry
     h2 = Edit job.policy.now ∷ Subscribe 1 job.name.now ∷ []
 
-    named : SubscribesAfter job.name.now k (first_edit job) (Accepts tells (λ t. t.limits) b c (first_edit job))
+    named : SubscribesAfter job.name.now k (first_edit job) (Accepts sizes_tell (λ t. t.limits) b c (first_edit job))
     named = s (first_edit job) (edited_stands a b job n m e)
 
-    last : OpensAfter i h2 (Accepts tells (λ t. t.limits) c d.state h2)
+    last : OpensAfter i h2 (Accepts sizes_tell (λ t. t.limits) c d.state h2)
     last = o h2 (subscribed_stands a b c job n k m e s)
 
-    journal : c.chronicle.limits ≡ journal_limits
+    journal : c.chronicle.limits ≡ offline_journal_limits
     journal = bc.journaled ∙ ab.journaled ∙ m.journal
 
-    room : HasRoomAfter journal_limits [] (first_entries job)
-    room = room_started job (subst (λ x. HasRoomAfter journal_limits h2 (Open x ∷ [])) last.number (subst (λ l. HasRoomAfter l h2 (Open i ∷ [])) journal last.accepts.room))
+    room : HasRoomAfter offline_journal_limits [] (first_entries job)
+    room = room_started job (subst (λ x. HasRoomAfter offline_journal_limits h2 (Open x ∷ [])) last.number (subst (λ l. HasRoomAfter l h2 (Open i ∷ [])) journal last.accepts.room))
 
     stands : RunStands d (first_entries job) 0
     stands = record {
@@ -169,7 +169,7 @@ subscribe_refused f a b job n m ab e = by f
     policy : HasPolicy job.policy.now
     policy = record { policy = (e [] m.stands).policy; spelled = (e [] m.stands).spelled }
 
-    room : HasRoomAfter journal_limits [] (first_edit job)
+    room : HasRoomAfter offline_journal_limits [] (first_edit job)
     room = subst (λ l. HasRoomAfter l [] (first_edit job)) m.journal (e [] m.stands).accepts.room
 
     no : false ≡ true → ⊥

@@ -11,7 +11,7 @@ use Rattle.std.proofs.lemmas.List.FromFn.{length-enumerate_from}
 use Rattle.sequences.proofs.BeforeLaws.{last_of-push}
 use Rattle.ipfix_session.specs.Meaning.{meaning_of, domain_of}
 use Rattle.subscriber_stream.specs.declared.limits.StreamLimits.{StreamLimits}
-use Rattle.subscriber_stream.specs.Parts.{parts, records_in}
+use Rattle.subscriber_stream.specs.Parts.{parts, records_of_parts}
 use Rattle.policy_text.specs.Policies.{Aggregate}
 use Rattle.flow_anonymize.specs.declared.disclosure.Disclosure.TheVariants.{Passed, Aggregated, Withheld}
 use Rattle.flow_anonymize.specs.Outcome.{Outcome}
@@ -39,12 +39,12 @@ use Rattle.mediator_state.specs.declared.fault.Fault.{Fault as MediatorFault}
 use Rattle.mediator_state.specs.declared.fault.Fault.TheVariants as fault
 use Rattle.mediator_state.specs.declared.receipt.Receipt.{Receipt}
 use Rattle.mediator_state.specs.Standing.{IsLiveAs}
-use Rattle.mediator_state.specs.Seen.{place_in, waiting_in, waiting_of, place_of, IsUntouched}
+use Rattle.mediator_state.specs.Seen.{place_in, waiting_in, waiting_of, handed_place, IsUntouched}
 use Rattle.mediator_state.specs.Calls as calls
 use Rattle.mediator_state.specs.Calls.{StateStandsFor, with_cuts_after, RefusesReceiveAfter}
 use Rattle.mediator_offline.specs.declared.run.OfflineRun.{OfflineRun}
-use Rattle.mediator_offline.specs.Offline.{stream_limits, journal_limits, next_message, cuts_by, after_message}
-use Rattle.mediator_offline.specs.Runs.{tells, audit_waiting, audit_drained, RunHasHistory, SameButState, RunStands, Small}
+use Rattle.mediator_offline.specs.Offline.{offline_stream_limits, offline_journal_limits, next_message, cuts_by, after_message}
+use Rattle.mediator_offline.specs.Runs.{sizes_tell, audit_waiting, audit_drained, RunHasHistory, SameButState, RunStands, Small}
 use Rattle.mediator_offline.specs.Recording.{Records}
 use Rattle.mediator_offline.specs.Offline.{end_of}
 use Rattle.mediator_offline.specs.Steps.{HasDelivered, TakesMessage, RunRefuses}
@@ -77,7 +77,7 @@ within_end d h p so = subst (λ q. q ≤ end_of h) so.place
 none_waits : (h : List Entry) (limits : StreamLimits) (o : Option Subscription) → IsLiveAs h limits 1 o → place_in o ≡ end_of h → waiting_in o ≡ 0
 none_waits h limits None is here = refl
 none_waits h limits (Some s) is here =
-    ap (λ ps. length (records_in ps)) (is.stream.waiting ∙ ap (λ n. drop n (parts (disclosed 1 h))) here ∙ drop_all (end_of h) (parts (disclosed 1 h)) (omega arith))
+    ap (λ ps. length (records_of_parts ps)) (is.stream.waiting ∙ ap (λ n. drop n (parts (disclosed 1 h))) here ∙ drop_all (end_of h) (parts (disclosed 1 h)) (omega arith))
 
 pub small_of : (d : OfflineRun) (h : List Entry) (p : ℕ) → RunStands d h p → length h ≤ MOST_ENTRIES → history_octets h ≤ MOST_OCTETS → length (accepted h) ≤ history_octets h → Small h
 small_of d h p so entries octets records = record { entries = entries; octets = octets; records = records; listed = so.state.stands.small.listed 1; streamable = so.state.stands.small.streamable 1 }
@@ -95,7 +95,7 @@ pub same_cuts : (d : OfflineRun) (h : List Entry) (octets : List ℕ) → RunSta
 same_cuts d h octets so =
     ap (λ n. cuts_before d.state.engine.limits h (Message 1 n octets) (waiting_of d.state.engine)) so.messages
     ∙ ap (λ limits. cuts_before limits h (next_message h octets) (waiting_of d.state.engine)) so.limited.limits
-    ∙ cuts_alone stream_limits h (next_message h octets) (waiting_of d.state.engine) (λ sub. 0) (served_alone h so.alone so.serving)
+    ∙ cuts_alone offline_stream_limits h (next_message h octets) (waiting_of d.state.engine) (λ sub. 0) (served_alone h so.alone so.serving)
     (none_waits h d.state.engine.limits (at d.state.engine.subscriptions 1) (so.state.stands.subscriptions 1) so.place)
 
 pub same_entries : (d : OfflineRun) (h : List Entry) (octets : List ℕ) → RunStands d h (end_of h) → with_cuts_after d.state.engine h (Message 1 d.messages octets) ≡ cuts_by h octets ++ next_message h octets ∷ []
@@ -104,8 +104,8 @@ same_entries d h octets so =
     ∙ ap (λ n. cuts_by h octets ++ Message 1 n octets ∷ []) so.messages
 
 one_or_none : (h : List Entry) (octets : List ℕ) → served h ≡ 1 ∷ [] → (cuts_by h octets ≡ []) ⊎ (cuts_by h octets ≡ Cut 1 ∷ [])
-one_or_none h octets alone = by (is_cut_by stream_limits h (next_message h octets) (λ sub. 0) 1) refl where
-  by : (b : Bool) → is_cut_by stream_limits h (next_message h octets) (λ sub. 0) 1 ≡ b → (cuts_by h octets ≡ []) ⊎ (cuts_by h octets ≡ Cut 1 ∷ [])
+one_or_none h octets alone = by (is_cut_by offline_stream_limits h (next_message h octets) (λ sub. 0) 1) refl where
+  by : (b : Bool) → is_cut_by offline_stream_limits h (next_message h octets) (λ sub. 0) 1 ≡ b → (cuts_by h octets ≡ []) ⊎ (cuts_by h octets ≡ Cut 1 ∷ [])
   by true is = inr (cuts_one h octets alone is)
   by false is = inl (cuts_none h octets alone is)
 
@@ -168,7 +168,7 @@ pub record Taken (old new : OfflineRun) (octets : List ℕ) (r : Receipt) : Type
   pub records : new.records ≡ old.records + r.records
   pub untouched : IsUntouched old.state.engine new.state.engine
   pub journaled : new.state.chronicle.limits ≡ old.state.chronicle.limits
-  pub receives : calls.GoesOnBy tells (λ t. t.limits) old.state new.state (calls.ReceivesAfter old.state.engine 1 old.messages octets r)
+  pub receives : calls.GoesOnBy sizes_tell (λ t. t.limits) old.state new.state (calls.ReceivesAfter old.state.engine 1 old.messages octets r)
 
 accepts_it : (old new : OfflineRun) (octets : List ℕ) (r : Receipt) (h : List Entry) → Taken old new octets r → RunStands old h (end_of h) → AcceptsMessage h octets
 accepts_it old new octets r h t so =
@@ -179,8 +179,8 @@ accepts_it old new octets r h t so =
       room = subst (λ l. HasRoomAfter l h (cuts_by h octets ++ next_message h octets ∷ [])) so.limited.journal (subst (HasRoomAfter old.state.chronicle.limits h) (same_entries old h octets so) got.accepts.room);
     }
 
-stands_after : (old new : OfflineRun) (octets : List ℕ) (r : Receipt) (h : List Entry) → Taken old new octets r → RunStands old h (end_of h) → StateStandsFor tells new.state (after_message h octets)
-stands_after old new octets r h t so = subst (λ more. StateStandsFor tells new.state (h ++ more)) (same_entries old h octets so) (t.receives h so.state).accepts.stands
+stands_after : (old new : OfflineRun) (octets : List ℕ) (r : Receipt) (h : List Entry) → Taken old new octets r → RunStands old h (end_of h) → StateStandsFor sizes_tell new.state (after_message h octets)
+stands_after old new octets r h t so = subst (λ more. StateStandsFor sizes_tell new.state (h ++ more)) (same_entries old h octets so) (t.receives h so.state).accepts.stands
 
 cut_count : (old new : OfflineRun) (octets : List ℕ) (r : Receipt) (h : List Entry) → Taken old new octets r → RunStands old h (end_of h) → r.cut ≡ length (cuts_by h octets)
 cut_count old new octets r h t so = ap (λ x. x.cut) (t.receives h so.state).receipt ∙ ap length (same_cuts old h octets so)
@@ -197,11 +197,11 @@ goes_on old new octets r h t so small none = (subst (λ x. RunStands new x (end_
     whole : after_message h octets ≡ h ++ next ∷ []
     whole = ap (λ cuts. h ++ (cuts ++ next ∷ [])) none
 
-    got : calls.ReceivesAfter old.state.engine 1 old.messages octets r h (calls.Accepts tells (λ t. t.limits) old.state new.state h)
+    got : calls.ReceivesAfter old.state.engine 1 old.messages octets r h (calls.Accepts sizes_tell (λ t. t.limits) old.state new.state h)
     got = t.receives h so.state
 
-    room : HasRoomAfter journal_limits h (next ∷ [])
-    room = subst (λ cuts. HasRoomAfter journal_limits h (cuts ++ next ∷ [])) none (accepts_it old new octets r h t so).room
+    room : HasRoomAfter offline_journal_limits h (next ∷ [])
+    room = subst (λ cuts. HasRoomAfter offline_journal_limits h (cuts ++ next ∷ [])) none (accepts_it old new octets r h t so).room
 
     brought : r.records ≡ length (accepted_at h next)
     brought = ap (λ x. x.records) got.receipt ∙ ap (λ x. length (records_meant x)) (sym got.means) ∙ sym (accepted-many h octets)
@@ -211,7 +211,7 @@ goes_on old new octets r h t so small none = (subst (λ x. RunStands new x (end_
 
     stands : RunStands new (h ++ next ∷ []) (end_of h)
     stands = record {
-      state = subst (StateStandsFor tells new.state) whole (stands_after old new octets r h t so);
+      state = subst (StateStandsFor sizes_tell new.state) whole (stands_after old new octets r h t so);
       place = t.untouched.places 1 ∙ so.place;
       serving = is_served-message 1 h 1 number octets ∙ so.serving;
       alone = subscribed-message h 1 number octets ∙ so.alone;
@@ -251,17 +251,17 @@ received old new octets r t = record {
     nothing h so is (inr cut) = absurd (omega (arith, ltb-false 0 r.cut is, cut_count old new octets r h t so, ap length cut))
 
 -- what a message brings is no more than its octets
-octets_few : (h : List Entry) (octets : List ℕ) → HasRoomAfter journal_limits h (next_message h octets ∷ []) → length octets < 2 ^ 32
+octets_few : (h : List Entry) (octets : List ℕ) → HasRoomAfter offline_journal_limits h (next_message h octets ∷ []) → length octets < 2 ^ 32
 octets_few h octets room = room.spelled 0 (next_message h octets) (omega arith)
 
-pub records_fit : (old new : OfflineRun) (octets : List ℕ) (r : Receipt) → HasDelivered old → calls.GoesOnBy tells (λ t. t.limits) old.state new.state (calls.ReceivesAfter old.state.engine 1 old.messages octets r) → old.records + r.records < 2 ^ 64
+pub records_fit : (old new : OfflineRun) (octets : List ℕ) (r : Receipt) → HasDelivered old → calls.GoesOnBy sizes_tell (λ t. t.limits) old.state new.state (calls.ReceivesAfter old.state.engine 1 old.messages octets r) → old.records + r.records < 2 ^ 64
 records_fit old new octets r had receives =
     omega (arith, had.stands.records, had.small.records, had.small.octets, ap (λ x. x.records) got.receipt, ap (λ x. length (records_meant x)) (sym got.means), few_records (messages_of 1 had.history) octets, long)
   where
-    got : calls.ReceivesAfter old.state.engine 1 old.messages octets r had.history (calls.Accepts tells (λ t. t.limits) old.state new.state had.history)
+    got : calls.ReceivesAfter old.state.engine 1 old.messages octets r had.history (calls.Accepts sizes_tell (λ t. t.limits) old.state new.state had.history)
     got = receives had.history had.stands.state
 
-    room : HasRoomAfter journal_limits had.history (with_cuts_after old.state.engine had.history (Message 1 old.messages octets))
+    room : HasRoomAfter offline_journal_limits had.history (with_cuts_after old.state.engine had.history (Message 1 old.messages octets))
     room = subst (λ l. HasRoomAfter l had.history (with_cuts_after old.state.engine had.history (Message 1 old.messages octets))) had.stands.limited.journal got.accepts.room
 
     long : length octets ≤ MOST_OCTETS
@@ -294,18 +294,18 @@ few_noted old new octets r had t = by (one_or_none had.history octets (served_al
       arith,
       ap length (waits (audit_at h (next_message h octets)) (ap (λ cuts. audit_list (h ++ (cuts ++ next_message h octets ∷ []))) none ∙ audit-push h (next_message h octets))),
       noted_few h octets (served_alone h had.stands.alone had.stands.serving),
-      octets_few h octets (subst (λ cuts. HasRoomAfter journal_limits h (cuts ++ next_message h octets ∷ [])) none (accepts_it old new octets r h t had.stands).room),
+      octets_few h octets (subst (λ cuts. HasRoomAfter offline_journal_limits h (cuts ++ next_message h octets ∷ [])) none (accepts_it old new octets r h t had.stands).room),
     )
 
 -- ---- refusals
 
-pub refused : (e : MediatorFault) (old : OfflineRun) (octets : List ℕ) → HasDelivered old → ((h : List Entry) → StateStandsFor tells old.state h → RefusesReceiveAfter e old.state.chronicle.limits old.state.engine h 1 old.messages octets) → RunRefuses e old octets
+pub refused : (e : MediatorFault) (old : OfflineRun) (octets : List ℕ) → HasDelivered old → ((h : List Entry) → StateStandsFor sizes_tell old.state h → RefusesReceiveAfter e old.state.chronicle.limits old.state.engine h 1 old.messages octets) → RunRefuses e old octets
 refused e old octets had refuses = record { after = λ h so small. by e h so (refuses h so.state) }
   where
-    judged : (h : List Entry) → RunStands old h (end_of h) → HasRoomAfter old.state.chronicle.limits h (with_cuts_after old.state.engine h (Message 1 old.messages octets)) → HasRoomAfter journal_limits h (cuts_by h octets ++ next_message h octets ∷ [])
+    judged : (h : List Entry) → RunStands old h (end_of h) → HasRoomAfter old.state.chronicle.limits h (with_cuts_after old.state.engine h (Message 1 old.messages octets)) → HasRoomAfter offline_journal_limits h (cuts_by h octets ++ next_message h octets ∷ [])
     judged h so room = subst (λ l. HasRoomAfter l h (cuts_by h octets ++ next_message h octets ∷ [])) so.limited.journal (subst (HasRoomAfter old.state.chronicle.limits h) (same_entries old h octets so) room)
 
-    back : (h : List Entry) → RunStands old h (end_of h) → HasRoomAfter journal_limits h (cuts_by h octets ++ next_message h octets ∷ []) → HasRoomAfter old.state.chronicle.limits h (with_cuts_after old.state.engine h (Message 1 old.messages octets))
+    back : (h : List Entry) → RunStands old h (end_of h) → HasRoomAfter offline_journal_limits h (cuts_by h octets ++ next_message h octets ∷ []) → HasRoomAfter old.state.chronicle.limits h (with_cuts_after old.state.engine h (Message 1 old.messages octets))
     back h so room = subst (HasRoomAfter old.state.chronicle.limits h) (sym (same_entries old h octets so)) (subst (λ l. HasRoomAfter l h (cuts_by h octets ++ next_message h octets ∷ [])) (sym so.limited.journal) room)
 
     by : (f : MediatorFault) (h : List Entry) → RunStands old h (end_of h) → RefusesReceiveAfter f old.state.chronicle.limits old.state.engine h 1 old.messages octets → RefusesOctets f h octets
@@ -335,10 +335,10 @@ pull_memory fault.OutOfMemory h live x = refl
 pull_memory _ h live x = absurd x
 
 -- all that waits is drained
-pub drained_are : (d : OfflineRun) (h : List Entry) (out : List AuditEntry) → StateStandsFor tells d.state h → length (audit_waiting d) < 2 ^ 32 → out ≡ take 4294967295 (drop (audit_drained d) (audit_list h)) → out ≡ audit_waiting d
+pub drained_are : (d : OfflineRun) (h : List Entry) (out : List AuditEntry) → StateStandsFor sizes_tell d.state h → length (audit_waiting d) < 2 ^ 32 → out ≡ take 4294967295 (drop (audit_drained d) (audit_list h)) → out ≡ audit_waiting d
 drained_are d h out so few is = is ∙ ap (take 4294967295) (sym so.stands.audit.waiting) ∙ take_all 4294967295 (audit_waiting d) (omega (arith, few))
 
-pub quiet_after : (d e : OfflineRun) (h : List Entry) (out : List AuditEntry) → StateStandsFor tells d.state h → StateStandsFor tells e.state h → out ≡ audit_waiting d → audit_drained e ≡ audit_drained d + length out → audit_waiting e ≡ []
+pub quiet_after : (d e : OfflineRun) (h : List Entry) (out : List AuditEntry) → StateStandsFor sizes_tell d.state h → StateStandsFor sizes_tell e.state h → out ≡ audit_waiting d → audit_drained e ≡ audit_drained d + length out → audit_waiting e ≡ []
 quiet_after d e h out so then is count =
     then.stands.audit.waiting
     ∙ drop_all (audit_drained e) (audit_list h) (omega (arith, count, ap length is, ap length so.stands.audit.waiting, length-drop (audit_drained d) (audit_list h), so.stands.audit.within))
@@ -347,8 +347,8 @@ quiet_after d e h out so then is count =
 pub record Drains (d e : OfflineRun) (out : List AuditEntry) : Type 0 where
   pub same : SameButState d e
   pub sent : e.sent ≡ d.sent
-  pub places : (q : ℕ) → place_of e.state.engine q ≡ place_of d.state.engine q
-  pub oldest : (h : List Entry) → StateStandsFor tells d.state h → (out ≡ take 4294967295 (drop (audit_drained d) (audit_list h))) × StateStandsFor tells e.state h
+  pub places : (q : ℕ) → handed_place e.state.engine q ≡ handed_place d.state.engine q
+  pub oldest : (h : List Entry) → StateStandsFor sizes_tell d.state h → (out ≡ take 4294967295 (drop (audit_drained d) (audit_list h))) × StateStandsFor sizes_tell e.state h
   pub drained : audit_drained e ≡ audit_drained d + length out
 
 pub recorded : (d e : OfflineRun) (out : List AuditEntry) → RunHasHistory d → length (audit_waiting d) < 2 ^ 32 → Drains d e out → Records d e

@@ -3,7 +3,7 @@ use Rattle.std.proofs.Common.{◌≡◌, ℕ, List, [], ◌∷◌, ◌++◌, Opt
 use Rattle.std.proofs.lemmas.List.{take_all}
 use Rattle.ipfix_message.specs.declared.fault.Fault.{Fault as DecodeError}
 use Rattle.ipfix_message.specs.Framing.{IsFramed}
-use Rattle.subscriber_stream.specs.Parts.{parts, records_in}
+use Rattle.subscriber_stream.specs.Parts.{parts, records_of_parts}
 use Rattle.subscriber_stream.proofs.CallLaws.{parts_bring}
 use Rattle.stream_meaning.specs.Means.{Means}
 use Rattle.stream_meaning.proofs.Handing.{handed_means}
@@ -51,7 +51,7 @@ runs_on old d more before after r so = record { job = r.job; messages = r.messag
 -- what was written for a run means what its messages disclose
 means_of : (d : OfflineRun) (job : OfflineJob) (messages : List (List ℕ)) (before after : Outputs) → IsRunning d job messages before after → Means (due job messages) (disclosed_by job messages)
 means_of d job messages before after r =
-    subst (Means (due job messages)) (ap records_in (take_all (end_of (history_of job messages)) (parts (disclosed_by job messages)) (omega arith)) ∙ parts_bring (disclosed_by job messages))
+    subst (Means (due job messages)) (ap records_of_parts (take_all (end_of (history_of job messages)) (parts (disclosed_by job messages)) (omega arith)) ∙ parts_bring (disclosed_by job messages))
     (handed_means (due job messages) (disclosed_by job messages) (end_of (history_of job messages)) r.handed (streamable_of (history_of job messages) r.small))
 
 -- so its messages were filtered

@@ -26,7 +26,7 @@ use Rattle.flow_anonymize.specs.Reasons.{IsOfRules, IsByRules}
 use Rattle.flow_anonymize.proofs.ReasonLaws.{reasons_are_of_rules}
 use Rattle.flow_aggregate.specs.declared.timing.Timing.{Timing}
 use Rattle.flow_aggregate.specs.declared.timing.Timing.TheVariants.{Placed, NoTime, NoKey, Late}
-use Rattle.flow_aggregate.specs.Placing.{start_of, interval_start, closes_at, has_key, timing_of, timing_at as placed_at}
+use Rattle.flow_aggregate.specs.Placing.{flow_start, interval_start, closes_at, has_key, timing_of, timing_at as placed_at}
 use Rattle.event_journal.specs.declared.entry.Entry.{Entry}
 use Rattle.event_journal.specs.declared.entry.Entry.TheVariants.{Message, Edit, Advance, Cut}
 use Rattle.mediator_history.specs.Subscriptions.{policy_or_none, policy_from, policy_in_force, name_of, served}
@@ -36,7 +36,7 @@ use Rattle.mediator_history.specs.Disclosed.{given_at}
 use Rattle.mediator_history.specs.Auditing.{removed_of, told_of, kept_back, audit_entry, audit_of, audit_at, audit_list}
 use Rattle.mediator_history.specs.Cuts.{is_cut_by}
 use Rattle.mediator_offline.specs.declared.job.OfflineJob.{OfflineJob}
-use Rattle.mediator_offline.specs.Offline.{first_entries, stream_limits, next_message, cuts_by, after_message, history_of, disclosed_by}
+use Rattle.mediator_offline.specs.Offline.{first_entries, offline_stream_limits, next_message, cuts_by, after_message, history_of, disclosed_by}
 use Rattle.mediator_offline.specs.Unclosed.{passing_at, passing_by, IsNotLate}
 
 -- ---- the clock
@@ -48,7 +48,7 @@ none_cut (sub ∷ subs) = (refl, none_cut subs)
 none_more : (h : List Entry) (octets : List ℕ) → HasNone clock_in h → HasNone clock_in (after_message h octets)
 none_more h octets none =
     AllByRecursion-append (λ e. clock_in e ≡ None) h (cuts_by h octets ++ next_message h octets ∷ []) none
-    (AllByRecursion-append (λ e. clock_in e ≡ None) (cuts_by h octets) (next_message h octets ∷ []) (none_cut (filter (is_cut_by stream_limits h (next_message h octets) (λ sub. 0)) (served h))) (refl, tt))
+    (AllByRecursion-append (λ e. clock_in e ≡ None) (cuts_by h octets) (next_message h octets ∷ []) (none_cut (filter (is_cut_by offline_stream_limits h (next_message h octets) (λ sub. 0)) (served h))) (refl, tt))
 
 none_after : (messages : List (List ℕ)) (h : List Entry) → HasNone clock_in h → HasNone clock_in (fold after_message h messages)
 none_after [] h none = none
@@ -116,7 +116,7 @@ early_at a r (Some time) lasts late = by (nat_lt time (2 ^ 62)) (has_key a.key r
 
 timed_early : (a : Aggregate) (r : DataRecord) → 1 ≤ a.interval → timing_of a r 0 ≢ Late
 unfolding timing_of
-timed_early a r lasts = early_at a r (start_of r) lasts
+timed_early a r lasts = early_at a r (flow_start r) lasts
 
 timing_early : (aggregates : List Aggregate) (place : ℕ) (r : DataRecord) → HaveIntervals aggregates → timing_at aggregates place r 0 ≢ Late
 timing_early [] place r last late = absurd cc

@@ -10,19 +10,19 @@ use Rattle.mediator_state.specs.declared.fault.Fault.{Fault as MediatorFault}
 use Rattle.mediator_state.specs.declared.fault.Fault.TheVariants as fault
 use Rattle.mediator_state.specs.Calls.{HasMeaning}
 use Rattle.mediator_offline.specs.declared.job.OfflineJob.{OfflineJob}
-use Rattle.mediator_offline.specs.Offline.{audit_limit, journal_limits, next_message, cuts_by, after_message, history_of}
+use Rattle.mediator_offline.specs.Offline.{audit_limit, offline_journal_limits, next_message, cuts_by, after_message, history_of}
 
 -- the octets can be read as the next message of the session, and the journal has room for the cuts that it makes and for itself
 pub record AcceptsMessage (h : List Entry) (octets : List ℕ) : Type 0 where
   pub meaning : Meaning
   pub means : meaning_of (messages_of 1 h) octets ≡ Ok meaning
-  pub room : HasRoomAfter journal_limits h (cuts_by h octets ++ next_message h octets ∷ [])
+  pub room : HasRoomAfter offline_journal_limits h (cuts_by h octets ++ next_message h octets ∷ [])
 
 -- a message is refused so after a history, of which nothing waits in the audit: it is read first, then the journal's room is
 -- judged, and then the audit's
 abbrev pub RefusesOctets : MediatorFault → List Entry → List ℕ → Type 0
 RefusesOctets (fault.Malformed why) h octets = meaning_of (messages_of 1 h) octets ≡ Err why
-RefusesOctets fault.JournalFull h octets = HasMeaning h 1 octets × (HasRoomAfter journal_limits h (cuts_by h octets ++ next_message h octets ∷ []) → ⊥)
+RefusesOctets fault.JournalFull h octets = HasMeaning h 1 octets × (HasRoomAfter offline_journal_limits h (cuts_by h octets ++ next_message h octets ∷ []) → ⊥)
 RefusesOctets (fault.AuditFull need room) h octets =
     AcceptsMessage h octets × ((d : List AuditEntry) × (audit_list (after_message h octets) ≡ audit_list h ++ d) × (need ≡ length d)) × (room ≡ audit_limit) × (room < need)
 RefusesOctets fault.OutOfMemory h octets = Unit {0}

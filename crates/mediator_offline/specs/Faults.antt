@@ -5,8 +5,8 @@ use Rattle.ipfix_reader.specs.declared.fault.Fault.TheVariants as intake
 use Rattle.mediator_offline.specs.declared.job.Fault.{Fault}
 use Rattle.mediator_offline.specs.declared.job.Fault.TheVariants.{Read, Framing, Turns, Mediator}
 
-abbrev pub intake_refusal : IntakeFault → Fault
-intake_refusal intake.Read = Read
-intake_refusal (intake.Framing why) = Framing why
-intake_refusal intake.Turns = Turns
-intake_refusal intake.OutOfMemory = Mediator fault.OutOfMemory
+abbrev pub reading_fault : IntakeFault → Fault
+reading_fault intake.Read = Read
+reading_fault (intake.Framing why) = Framing why
+reading_fault intake.Turns = Turns
+reading_fault intake.OutOfMemory = Mediator fault.OutOfMemory

@@ -1,5 +1,5 @@
 -- What `offline` does with its ports: what it read, what it wrote, and where it stops.
-use Rattle.std.specs.Prelude.{◌≡◌, ◌⊎◌, ℕ, ◌+◌, ◌*◌, ◌<◌, ◌≤◌, true, List, [], ◌∷◌, ◌++◌, length, Option, Some, None}
+use Rattle.std.specs.Prelude.{◌≡◌, ◌⊎◌, ℕ, ◌+◌, ◌<◌, ◌≤◌, true, List, [], ◌∷◌, ◌++◌, length, Option, Some, None}
 use Rattle.std.specs.List.{concat}
 use Rattle.std.specs.Io.KnownBytes.{Appends, Consumes, IsAtEnd}
 use Rattle.octet_io.specs.Written.{WritesFront}
@@ -12,6 +12,7 @@ use Rattle.mediator_history.specs.Accepted.{accepted}
 use Rattle.mediator_state.specs.declared.fault.Fault.{Fault as MediatorFault}
 use Rattle.mediator_state.specs.declared.fault.Fault.TheVariants as fault
 use Rattle.ipfix_reader.specs.declared.fault.FramingFault.TheVariants as framing
+use Rattle.ipfix_reader.specs.Intake.{AreRead, AreReadBut}
 use Rattle.mediator_offline.specs.declared.job.OfflineJob.{OfflineJob}
 use Rattle.mediator_offline.specs.declared.job.OfflineReport.{OfflineReport}
 use Rattle.mediator_offline.specs.declared.job.Fault.{Fault}
@@ -19,22 +20,14 @@ use Rattle.mediator_offline.specs.declared.job.Fault.TheVariants.{Read, Write, F
 use Rattle.mediator_offline.specs.Ports.{Outputs, Ports}
 use Rattle.mediator_offline.specs.Lines.{WritesOn}
 use Rattle.mediator_offline.specs.Offline.{cuts_by, history_of, disclosed_by, audit_due}
-use Rattle.mediator_offline.specs.Due.{AreDue}
+use Rattle.mediator_offline.specs.Due.{IsWrittenFor}
 use Rattle.mediator_offline.specs.Opening.{IsAcceptedJob, RefusesJob}
 use Rattle.mediator_offline.specs.Accepting.{AcceptsMessage, RefusesOctets, AreAccepted}
-
--- so many reads, each of at most 65,536 octets, may have given these
-abbrev pub AreRead : ℕ → List ℕ → Type 0
-AreRead reads octets = length octets ≤ 65536 * reads
-
--- the same, where one of the reads gave none
-abbrev pub AreReadBut : ℕ → List ℕ → Type 0
-AreReadBut reads octets = length octets + 65536 ≤ 65536 * reads
 
 -- the messages are accepted, one after another, and these are due for them; they mean what is disclosed of them
 pub record Filters (job : OfflineJob) (messages written : List (List ℕ)) : Type 0 where
   pub accepted : AreAccepted job [] messages
-  pub due : AreDue job [] 0 messages written
+  pub due : IsWrittenFor job [] 0 messages written
   pub means : Means written (disclosed_by job messages)
 
 -- these messages were written, and these lines
@@ -69,7 +62,7 @@ pub record FiltersAll (job : OfflineJob) (report : OfflineReport) (before after 
 pub record WritesPart (job : OfflineJob) (messages written : List (List ℕ)) (octets : List ℕ) (before after : Outputs) : Type 0 where
   pub handed : List (List ℕ)
   pub others : List (List ℕ)
-  pub due : AreDue job [] 0 (messages ++ octets ∷ []) (written ++ (handed ++ others))
+  pub due : IsWrittenFor job [] 0 (messages ++ octets ∷ []) (written ++ (handed ++ others))
   pub stream : Appends before.written after.written (concat (written ++ handed))
   pub audit : WritesOn before.audited after.audited (audit_due job messages) (audit_due job (messages ++ octets ∷ []))
 
@@ -80,13 +73,13 @@ StopsAtMessage (Mediator fault.OutOfMemory) job messages written octets before a
 StopsAtMessage (Mediator why) job messages written octets before after = RefusesOctets why (history_of job messages) octets × Writes before after written (audit_due job messages)
 StopsAtMessage (Write sent) job messages written octets before after =
     AcceptsMessage (history_of job messages) octets
-    × ((all : List (List ℕ)) × AreDue job [] 0 (messages ++ octets ∷ []) all × WritesFront before.written after.written (concat all) sent after.writer_failed)
+    × ((all : List (List ℕ)) × IsWrittenFor job [] 0 (messages ++ octets ∷ []) all × WritesFront before.written after.written (concat all) sent after.writer_failed)
     × Appends before.audited after.audited (audit_due job messages)
 StopsAtMessage Cut job messages written octets before after =
     AcceptsMessage (history_of job messages) octets × (cuts_by (history_of job messages) octets ≡ CutEntry 1 ∷ []) × Writes before after written (audit_due job (messages ++ octets ∷ []))
 StopsAtMessage AuditWrite job messages written octets before after =
     AcceptsMessage (history_of job messages) octets
-    × ((all : List (List ℕ)) × AreDue job [] 0 (messages ++ octets ∷ []) all × Appends before.written after.written (concat all))
+    × ((all : List (List ℕ)) × IsWrittenFor job [] 0 (messages ++ octets ∷ []) all × Appends before.written after.written (concat all))
     × WritesOn before.audited after.audited (audit_due job messages) (audit_due job (messages ++ octets ∷ [])) × (after.audit_failed ≡ true)
 StopsAtMessage _ job messages written octets before after = ⊥
 

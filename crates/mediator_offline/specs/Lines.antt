@@ -3,15 +3,15 @@ use Rattle.std.specs.Prelude.{ℕ, ◌≤◌, Bool, List, [], length, take, Opti
 use Rattle.std.specs.List.{flat_map}
 use Rattle.std.specs.Io.KnownBytes.{Appends}
 use Rattle.disclosure_audit.specs.declared.entry.AuditEntry.{AuditEntry}
-use Rattle.disclosure_audit.specs.Lines.{line_of}
+use Rattle.disclosure_audit.specs.Lines.{audit_line}
 
 -- the lines of entries, one after another
-abbrev pub lines_of : List AuditEntry → List ℕ
-lines_of entries = flat_map line_of entries
+abbrev pub audit_text : List AuditEntry → List ℕ
+audit_text entries = flat_map audit_line entries
 
 -- none of them where the audit isn't asked for
 abbrev pub lines_for : Bool → List AuditEntry → List ℕ
-lines_for asked entries = if asked then lines_of entries else []
+lines_for asked entries = if asked then audit_text entries else []
 
 -- a front of these octets was written
 pub record WritesBeginning (held holds : Option (List ℕ)) (octets : List ℕ) : Type 0 where

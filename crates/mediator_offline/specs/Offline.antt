@@ -19,16 +19,16 @@ use Rattle.mediator_history.specs.Cuts.{cuts_before}
 use Rattle.mediator_state.specs.declared.state.TheConstants.{DEFAULT_AUDIT, DEFAULT_QUEUE}
 
 -- how many records may wait for a subscriber, and how many shapes its records may have
-abbrev pub stream_limits : StreamLimits
-stream_limits = record { queue = DEFAULT_QUEUE; shapes = MOST_SHAPES }
+abbrev pub offline_stream_limits : StreamLimits
+offline_stream_limits = record { queue = DEFAULT_QUEUE; shapes = MOST_SHAPES }
 
 -- how many audit entries may wait
 abbrev pub audit_limit : ℕ
 audit_limit = DEFAULT_AUDIT
 
 -- a history may be as long as any
-abbrev pub journal_limits : JournalLimits
-journal_limits = record { entries = MOST_ENTRIES; octets = MOST_OCTETS }
+abbrev pub offline_journal_limits : JournalLimits
+offline_journal_limits = record { entries = MOST_ENTRIES; octets = MOST_OCTETS }
 
 -- the policy comes first
 abbrev pub first_edit : OfflineJob → List Entry
@@ -44,7 +44,7 @@ next_message h octets = Message 1 (length (messages_of 1 h)) octets
 
 -- nothing waits for a subscriber where a message comes in: all that was disclosed before it was pulled
 abbrev pub cuts_by : List Entry → List ℕ → List Entry
-cuts_by h octets = cuts_before stream_limits h (next_message h octets) (λ sub. 0)
+cuts_by h octets = cuts_before offline_stream_limits h (next_message h octets) (λ sub. 0)
 
 -- the history with one message more, after the cuts that it makes
 abbrev pub after_message : List Entry → List ℕ → List Entry

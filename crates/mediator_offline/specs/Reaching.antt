@@ -8,7 +8,8 @@ use Rattle.mediator_offline.specs.declared.job.Fault.{Fault}
 use Rattle.mediator_offline.specs.declared.run.OfflineRun.{OfflineRun}
 use Rattle.mediator_offline.specs.Ports.{Outputs, Ports}
 use Rattle.mediator_offline.specs.Offline.{due}
-use Rattle.mediator_offline.specs.Filtering.{AreReadBut, Filters, StopsAtMessage}
+use Rattle.ipfix_reader.specs.Intake.{AreReadBut}
+use Rattle.mediator_offline.specs.Filtering.{Filters, StopsAtMessage}
 use Rattle.mediator_offline.specs.Running.{IsRunning}
 
 -- messages in a row were handled, whatever was before them

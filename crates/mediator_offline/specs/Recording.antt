@@ -5,16 +5,16 @@ use Rattle.mediator_offline.specs.declared.job.Fault.{Fault}
 use Rattle.mediator_offline.specs.declared.job.Fault.TheVariants.{Mediator, AuditWrite}
 use Rattle.event_journal.specs.declared.entry.Entry.{Entry}
 use Rattle.mediator_state.specs.Calls.{StateStandsFor}
-use Rattle.mediator_state.specs.Seen.{place_of}
+use Rattle.mediator_state.specs.Seen.{handed_place}
 use Rattle.mediator_offline.specs.declared.run.OfflineRun.{OfflineRun}
-use Rattle.mediator_offline.specs.Runs.{tells, audit_waiting, SameButState}
+use Rattle.mediator_offline.specs.Runs.{sizes_tell, audit_waiting, SameButState}
 
 -- the audit was drained
 pub record Records (old new : OfflineRun) : Type 0 where
   pub same : SameButState old new
   pub sent : new.sent ≡ old.sent
-  pub place : place_of new.state.engine 1 ≡ place_of old.state.engine 1
-  pub stands : (h : List Entry) → StateStandsFor tells old.state h → StateStandsFor tells new.state h
+  pub place : handed_place new.state.engine 1 ≡ handed_place old.state.engine 1
+  pub stands : (h : List Entry) → StateStandsFor sizes_tell old.state h → StateStandsFor sizes_tell new.state h
   pub quiet : audit_waiting new ≡ []
 
 -- lines stop where their writer failed, or memory ran out

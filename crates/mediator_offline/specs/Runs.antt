@@ -13,13 +13,13 @@ use Rattle.mediator_history.specs.Subscriptions.{is_served, subscribed_in}
 use Rattle.mediator_history.specs.Accepted.{accepted}
 use Rattle.mediator_history.specs.Disclosed.{disclosed}
 use Rattle.mediator_state.specs.Calls.{StateStandsFor}
-use Rattle.mediator_state.specs.Seen.{place_of}
+use Rattle.mediator_state.specs.Seen.{handed_place}
 use Rattle.mediator_offline.specs.declared.run.OfflineRun.{OfflineRun}
-use Rattle.mediator_offline.specs.Offline.{stream_limits, audit_limit, journal_limits}
+use Rattle.mediator_offline.specs.Offline.{offline_stream_limits, audit_limit, offline_journal_limits}
 
 -- sizes tell each history that has them
-abbrev pub tells : CountedEntries → List Entry → Type 0
-tells t h = IsCountOf h t.count t.octets
+abbrev pub sizes_tell : CountedEntries → List Entry → Type 0
+sizes_tell t h = IsCountOf h t.count t.octets
 
 -- the entries of the audit that wait
 abbrev pub audit_waiting : OfflineRun → List AuditEntry
@@ -31,15 +31,15 @@ audit_drained d = d.state.engine.audit.standing.drained
 
 -- how much the mediator may hold
 pub record IsLimited (d : OfflineRun) : Type 0 where
-  pub limits : d.state.engine.limits ≡ stream_limits
+  pub limits : d.state.engine.limits ≡ offline_stream_limits
   pub audit : d.state.engine.audit.limit ≡ audit_limit
-  pub journal : d.state.chronicle.limits ≡ journal_limits
+  pub journal : d.state.chronicle.limits ≡ offline_journal_limits
 
 -- the run stands for a history of the session 1 with the subscription 1 alone, which is served; the records up to place p of
 -- the parts of what is disclosed to it were handed out
 pub record RunStands (d : OfflineRun) (h : List Entry) (p : ℕ) : Type 0 where
-  pub state : StateStandsFor tells d.state h
-  pub place : place_of d.state.engine 1 ≡ p
+  pub state : StateStandsFor sizes_tell d.state h
+  pub place : handed_place d.state.engine 1 ≡ p
   pub serving : is_served 1 h ≡ true
   pub alone : flat_map subscribed_in h ≡ 1 ∷ []
   pub opened : is_open 1 h ≡ true
@@ -65,7 +65,7 @@ pub record IsServing (d : OfflineRun) : Type 0 where
 -- a run whose state stands for some history
 pub record RunHasHistory (d : OfflineRun) : Type 0 where
   pub history : List Entry
-  pub state : StateStandsFor tells d.state history
+  pub state : StateStandsFor sizes_tell d.state history
 
 -- all but the history, what was handed out and drained, and the octets written is the same
 pub record SameButState (d e : OfflineRun) : Type 0 where

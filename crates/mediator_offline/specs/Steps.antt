@@ -6,7 +6,7 @@ use Rattle.mediator_state.specs.declared.fault.Fault.{Fault as MediatorFault}
 use Rattle.mediator_state.specs.Calls.{StateStandsFor}
 use Rattle.mediator_offline.specs.declared.run.OfflineRun.{OfflineRun}
 use Rattle.mediator_offline.specs.Offline.{cuts_by, after_message}
-use Rattle.mediator_offline.specs.Runs.{tells, audit_waiting, audit_drained, RunStands, Small}
+use Rattle.mediator_offline.specs.Runs.{sizes_tell, audit_waiting, audit_drained, RunStands, Small}
 use Rattle.mediator_offline.specs.Offline.{end_of}
 use Rattle.mediator_offline.specs.Accepting.{AcceptsMessage}
 use Rattle.mediator_offline.specs.Accepting.{RefusesOctets}
@@ -22,7 +22,7 @@ pub record HasDelivered (d : OfflineRun) : Type 0 where
 -- the history with the message
 pub record TakesMessage (old : OfflineRun) (octets : List ℕ) (is_cut : Bool) (new : OfflineRun) : Type 0 where
   pub accepts : (h : List Entry) → RunStands old h (end_of h) → Small h → AcceptsMessage h octets
-  pub cuts : (h : List Entry) → RunStands old h (end_of h) → Small h → is_cut ≡ true → (cuts_by h octets ≡ Cut 1 ∷ []) × StateStandsFor tells new.state (after_message h octets)
+  pub cuts : (h : List Entry) → RunStands old h (end_of h) → Small h → is_cut ≡ true → (cuts_by h octets ≡ Cut 1 ∷ []) × StateStandsFor sizes_tell new.state (after_message h octets)
   pub drained : audit_drained new ≡ audit_drained old
   pub goes_on : (h : List Entry) → RunStands old h (end_of h) → Small h → is_cut ≡ false → (cuts_by h octets ≡ []) × RunStands new (after_message h octets) (end_of h) × Small (after_message h octets)
 

@@ -2,7 +2,7 @@
 ghost use Rattle.std.specs.Prelude.{◌≡◌, ◌≤◌, ◌<◌, ◌+◌, ◌^◌, ◌++◌, [], Some, length, IfOk, IfErr, OnOk};
 ghost use Rattle.mediator_state.specs.declared.fault.Fault.TheVariants.{OutOfMemory};
 ghost use Rattle.mediator_offline.specs.declared.job.Fault.TheVariants.{Mediator};
-ghost use Rattle.mediator_offline.specs.Failing.{writer_after};
+ghost use Rattle.mediator_offline.specs.Failing.{output_after};
 ghost use Rattle.mediator_offline.specs.Runs.{IsServing, SameButState, KeepsAudit};
 ghost use Rattle.mediator_offline.specs.Pulling.{IsDeliveringRun, PullsMessage, Delivers, FailsDelivery};
 
@@ -30,7 +30,7 @@ impl<'a> OfflineRun<'a> {
         ensures stays { OnOk result (W.has_failed writer.new ≡ W.has_failed writer.old) }
         // What was written where it fails, and by which cause.
         ensures fails { IfErr result (λ e. W.has_failed writer.new
-            ≡ writer_after e (W.has_failed writer.old)) }
+            ≡ output_after e (W.has_failed writer.old)) }
         ensures err { IfErr result (λ e. FailsDelivery e self.old
             (W.contents writer.old) (W.contents writer.new) (W.has_failed writer.new)) }
     {

@@ -110,7 +110,7 @@ impl<'a> OfflineRun<'a> {
 }
 
 ghost use Rattle.std.specs.Prelude.{ℕ, List, length, take};
-ghost use Rattle.subscriber_stream.specs.Parts.{parts, records_in};
+ghost use Rattle.subscriber_stream.specs.Parts.{parts, records_of_parts};
 ghost use Rattle.event_journal.specs.declared.entry.Entry.{Entry};
 ghost use Rattle.mediator_history.specs.Disclosed.{disclosed};
 ghost use Rattle.mediator_offline.specs.Runs.{IsServing, RunStands};
@@ -122,7 +122,7 @@ impl<'a> OfflineRun<'a> {
         ensures messages { result.messages ≡ self.now.messages }
         ensures records { result.records ≡ self.now.records }
         ensures disclosed { (h : List Entry) (p : ℕ) → RunStands self.now h p
-            → result.disclosed ≡ length (records_in (take p (parts (disclosed 1 h)))) }
+            → result.disclosed ≡ length (records_of_parts (take p (parts (disclosed 1 h)))) }
     {
         let disclosed = match self.state.status(SUBSCRIPTION) {
             Some(status) => status.handed,

@@ -86,9 +86,9 @@ impl From<MediatorFault> for Fault {
 
 impl From<IntakeFault> for Fault {
     ghost use Rattle.std.specs.Prelude.{◌≡◌};
-    ghost use Rattle.mediator_offline.specs.Faults.{intake_refusal};
+    ghost use Rattle.mediator_offline.specs.Faults.{reading_fault};
 
-    ghost from_gives = { λ f e. e ≡ intake_refusal f };
+    ghost from_gives = { λ f e. e ≡ reading_fault f };
 
     fn from(fault: IntakeFault) -> Fault {
         match fault {

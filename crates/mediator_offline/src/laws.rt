@@ -2,7 +2,7 @@
 ghost use Rattle.std.specs.Prelude.{◌≡◌, ℕ, List, []};
 ghost use Rattle.mediator_offline.specs.declared.job.OfflineJob.{OfflineJob};
 ghost use Rattle.mediator_offline.specs.Offline.{history_of, due};
-ghost use Rattle.mediator_offline.specs.Due.{AreDue};
+ghost use Rattle.mediator_offline.specs.Due.{IsWrittenFor};
 ghost use Rattle.mediator_offline.specs.Accepting.{AreAccepted};
 ghost use Rattle.mediator_offline.specs.PlainHistory.{plain_history};
 
@@ -11,9 +11,9 @@ ghost use Rattle.mediator_offline.specs.PlainHistory.{plain_history};
 /// disclosed by then. No other messages are built in this way.
 pub fn due_is_built()
     ensures found { (job : OfflineJob) (messages : List (List ℕ))
-        → AreDue job [] 0 messages (due job messages) }
+        → IsWrittenFor job [] 0 messages (due job messages) }
     ensures only { (job : OfflineJob) (messages written : List (List ℕ))
-        → AreDue job [] 0 messages written → written ≡ due job messages }
+        → IsWrittenFor job [] 0 messages written → written ≡ due job messages }
 {}
 
 /// Where each of the messages is accepted after those before it and cuts nobody, the history of a run is the policy, the

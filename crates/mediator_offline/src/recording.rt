@@ -2,7 +2,7 @@
 ghost use Rattle.std.specs.Prelude.{◌≡◌, IfOk, IfErr, OnOk, OnErr, string_bytes};
 ghost use Rattle.std.specs.Io.KnownBytes.{Appends};
 ghost use Rattle.mediator_offline.specs.Failing.{audit_after};
-ghost use Rattle.mediator_offline.specs.Lines.{lines_of, WritesBeginning};
+ghost use Rattle.mediator_offline.specs.Lines.{audit_text, WritesBeginning};
 ghost use Rattle.mediator_offline.specs.Recording.{StopsLines};
 
 use crate::job::Fault;
@@ -23,14 +23,14 @@ pub(crate) fn write_lines<A: Sink>(
 ) -> Result<(), Fault>
     // All lines were written.
     ensures ok { OnOk result (Appends (A.contents writer.old) (A.contents writer.new)
-        (lines_of entries.now)) }
+        (audit_text entries.now)) }
     ensures stays { OnOk result (A.has_failed writer.new ≡ A.has_failed writer.old) }
     // By which cause it stopped, and that a front of the lines was written.
     ensures cause { IfErr result (λ e. StopsLines e (A.has_failed writer.new)) }
     ensures fails { IfErr result (λ e. A.has_failed writer.new
         ≡ audit_after e (A.has_failed writer.old)) }
     ensures err { OnErr result (WritesBeginning (A.contents writer.old) (A.contents writer.new)
-        (lines_of entries.now)) }
+        (audit_text entries.now)) }
 {
     let Ok(text) = lines(alloc, entries) else {
         return Err(Fault::Mediator(MediatorFault::OutOfMemory));
@@ -46,7 +46,7 @@ pub(crate) fn write_lines<A: Sink>(
 /// # Errors
 /// Want of memory.
 fn lines(alloc: Global, entries: &[AuditEntry]) -> Result<String, AllocError>
-    ensures { IfOk result (λ text. string_bytes text ≡ lines_of entries.now) }
+    ensures { IfOk result (λ text. string_bytes text ≡ audit_text entries.now) }
 {
     let mut text = String::new(alloc);
     'entries: for entry in entries {

@@ -13,7 +13,9 @@ use ipfix_reader::FramingFault;
 use ipfix_session::Gap;
 use log::Log;
 use mediator_calls::SessionId;
-use mediator_connections::{Fault as ServeFault, Patience, Reception, Served, serve_exporter};
+use mediator_connections::{
+    Fault as ServeFault, Patience, Reception, ServedExporter, serve_exporter,
+};
 use mediator_state::Receipt;
 use octet_io::{Failed, Source};
 use shared_mediator::{EntryLedger, ExporterHandle, RecordLedger};
@@ -224,7 +226,7 @@ fn serve_stream<E: EntryLedger, H: RecordLedger, R: Threads + Wait + Clock + Log
 }
 
 /// Whether a stream ended with a message that wasn't accepted.
-fn is_refusal(ended: &Result<Served, (ServeFault, Served)>) -> bool {
+fn is_refusal(ended: &Result<ServedExporter, (ServeFault, ServedExporter)>) -> bool {
     match ended {
         Ok(_) | Err((ServeFault::Read | ServeFault::Write { .. } | ServeFault::Turns, _)) => false,
         Err((ServeFault::Framing(why), _)) => *why != FramingFault::CutOff,

@@ -37,7 +37,7 @@ mod time;
 
 pub use listening::{Ended, Fault, listen};
 pub use mediator_connections::{
-    Clock, Collector, Control, Fault as ServeFault, Patience, Reception, Served, deliver,
+    Clock, Collector, Control, Fault as ServeFault, Patience, Reception, ServedExporter, deliver,
     serve_admin, serve_exporter,
 };
 pub use plan::RunPlan;

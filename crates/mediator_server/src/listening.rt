@@ -65,8 +65,8 @@ impl Display for Fault {
 }
 
 impl Fault {
-    /// What a refusal at a door is called: memory ran out, or it isn't open.
-    pub(crate) fn at_door(fault: &io::Error) -> Fault {
+    /// What a refusal of a listener is called: memory ran out, or it isn't open.
+    pub(crate) fn on_listener(fault: &io::Error) -> Fault {
         match fault.kind() {
             ErrorKind::OutOfMemory => Fault::Mediator(MediatorFault::OutOfMemory),
             _ => Fault::Bind,

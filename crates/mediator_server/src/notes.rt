@@ -5,7 +5,7 @@ use crate::run_state::Dismissal;
 use ipfix_session::Gap;
 use log::{Log, error, info, warn};
 use mediator_calls::{Limits, SessionId};
-use mediator_connections::{Collector, Fault as ServeFault, Served};
+use mediator_connections::{Collector, Fault as ServeFault, ServedExporter};
 use mediator_state::{Fault as MediatorFault, Receipt};
 use shared_mediator::{Closed, Fill, Handed};
 use std::fmt::{self, Display, Formatter, Write};
@@ -28,11 +28,11 @@ impl Display for Cause {
 
 /// What an exporter brought, as notes tell it.
 #[derive(Clone, Copy)]
-struct Brought(Served);
+struct Brought(ServedExporter);
 
 impl Display for Brought {
     fn fmt<W: Write>(&self, f: &mut Formatter<W>) -> fmt::Result {
-        let Served {
+        let ServedExporter {
             messages,
             records,
             gaps,
@@ -99,7 +99,7 @@ pub(crate) fn exporter_refused(rt: &impl Log, peer: SocketAddr, why: MediatorFau
 pub(crate) fn exporter_ends(
     rt: &impl Log,
     peer: SocketAddr,
-    ended: Result<Served, (ServeFault, Served)>,
+    ended: Result<ServedExporter, (ServeFault, ServedExporter)>,
     why: WhyEnded,
 ) {
     match (why, ended) {

@@ -191,11 +191,11 @@ fn open_listeners<R: Net<Listener = TcpListener, Stream = TcpStream> + Log>(
 ) -> Result<(Listeners, Waker), Fault> {
     let listeners = match Listeners::open(rt, alloc, plan) {
         Ok(listeners) => listeners,
-        Err(fault) => return Err(Fault::at_door(&fault)),
+        Err(fault) => return Err(Fault::on_listener(&fault)),
     };
     match listeners.waker() {
         Ok(waker) => Ok((listeners, waker)),
-        Err(fault) => Err(Fault::at_door(&fault)),
+        Err(fault) => Err(Fault::on_listener(&fault)),
     }
 }
 
@@ -463,7 +463,7 @@ fn take_callers<
             Ok(None) => {}
             Err(why) => {
                 notes::cannot_accept(rt, &why);
-                return Err(Fault::at_door(&why));
+                return Err(Fault::on_listener(&why));
             }
         }
     }

@@ -15,7 +15,7 @@ use Rattle.mediator_shares.specs.InForce.{InForce}
 use Rattle.mediator_tables.specs.declared.share.Share.{Share}
 use Rattle.mediator_tables.specs.SubscriptionTable.{shown}
 use Rattle.mediator_shares.specs.Sharing.{blank}
-use Rattle.mediator_shares.specs.Judges.{Judges, for_of, given_to, plans_for, of_template, JudgeFor, JudgesAny, AreJudgesReady, AreFor, whose, without_records, is_of}
+use Rattle.mediator_shares.specs.Judges.{Judges, for_of, share_of_judge, plans_for, of_template, JudgeFor, JudgesAny, AreJudgesReady, AreFor, whose, without_records, is_judge_for}
 
 pub got_map : {A B : Type 0} (f : A → B) (xs : List A) (n : ℕ) (x other : A) → n < length xs → x ≡ get_or xs n other → slice_get (map f xs) n ≡ Some (f x)
 got_map f [] n x other l at = absurd (omega arith)
@@ -66,7 +66,7 @@ set_same f (x ∷ xs) (suc k) was now l at same = ap (λ ys. f x ∷ ys) (set_sa
 -- the first so many begin with records of a template
 pub record HaveBegun (t : Template) (old now : List Judge) (place : ℕ) : Type 0 where
   pub fors : map for_of now ≡ map (of_template t) (map for_of (take place old)) ++ map for_of (drop place old)
-  pub shares : map given_to now ≡ map given_to old
+  pub shares : map share_of_judge now ≡ map share_of_judge old
   pub many : length now ≡ length old
 
 pub begun_start : (t : Template) (js : List Judge) → HaveBegun t js js 0
@@ -104,11 +104,11 @@ length-set-same [] k x = refl
 length-set-same (y ∷ ys) zero x = refl
 length-set-same (y ∷ ys) (suc k) x = ap (λ n. suc n) (length-set-same ys k x)
 
-pub begun_step : (t : Template) (old now : List Judge) (place : ℕ) (was j : Judge) → HaveBegun t old now place → place < length now → was ≡ get_or now place was → for_of j ≡ of_template t (for_of was) → given_to j ≡ given_to was
+pub begun_step : (t : Template) (old now : List Judge) (place : ℕ) (was j : Judge) → HaveBegun t old now place → place < length now → was ≡ get_or now place was → for_of j ≡ of_template t (for_of was) → share_of_judge j ≡ share_of_judge was
     → HaveBegun t old (set now place j) (place + 1)
 begun_step t old now place was j so l at is given = record {
   fors = changed_at for_of (of_template t) old now place was j l so.fors at is (omega (arith, l, so.many)) ∙ ap (λ n. map (of_template t) (map for_of (take n old)) ++ map for_of (drop n old)) (one_more place);
-  shares = set_same given_to now place was j l at given ∙ so.shares;
+  shares = set_same share_of_judge now place was j l at given ∙ so.shares;
   many = length-set-same now place j ∙ so.many;
 }
 
@@ -134,8 +134,8 @@ begun_all t old now place so over = changed_all for_of (of_template t) old now p
 
 pub record HaveGiven (old now : List Judge) (taken : List Share) (place : ℕ) : Type 0 where
   pub fors : map for_of now ≡ map for_of old
-  pub given : map given_to now ≡ map without_records (map given_to (take place old)) ++ map given_to (drop place old)
-  pub shares : map shown taken ≡ map given_to (take place old)
+  pub given : map share_of_judge now ≡ map without_records (map share_of_judge (take place old)) ++ map share_of_judge (drop place old)
+  pub shares : map shown taken ≡ map share_of_judge (take place old)
   pub many : length now ≡ length old
 
 pub given_start : (js : List Judge) → HaveGiven js js [] 0
@@ -154,36 +154,36 @@ got_back {B} f g (o ∷ old) (n ∷ now) (suc place) was other all l l2 at = got
   tail_is e = cc
 
 pub given_step : (old now : List Judge) (shares shares2 : List Share) (place : ℕ) (was j : Judge) (share : Share) → HaveGiven old now shares place → place < length now → was ≡ get_or now place was
-    → for_of j ≡ for_of was → given_to j ≡ without_records (given_to was) → shown share ≡ given_to was → shares2 ≡ shares ++ share ∷ [] → HaveGiven old (set now place j) shares2 (place + 1)
+    → for_of j ≡ for_of was → share_of_judge j ≡ without_records (share_of_judge was) → shown share ≡ share_of_judge was → shares2 ≡ shares ++ share ∷ [] → HaveGiven old (set now place j) shares2 (place + 1)
 given_step old now shares shares2 place was j share so l at for given shows more =
     let l2 : place < length old = omega (arith, l, so.many) in
     record {
       fors = set_same for_of now place was j l at for ∙ so.fors;
-      given = changed_at given_to without_records old now place was j l so.given at given l2 ∙ ap (λ n. map without_records (map given_to (take n old)) ++ map given_to (drop n old)) (one_more place);
+      given = changed_at share_of_judge without_records old now place was j l so.given at given l2 ∙ ap (λ n. map without_records (map share_of_judge (take n old)) ++ map share_of_judge (drop n old)) (one_more place);
       shares = ap (map shown) more ∙ map-append shown shares (share ∷ []) ∙ ap (λ s. s ++ shown share ∷ []) so.shares
-          ∙ ap (λ s. map given_to (take place old) ++ s ∷ []) (shows ∙ got_back given_to without_records old now place was was so.given l l2 at)
-          ∙ sym (map-append given_to (take place old) (get_or old place was ∷ [])) ∙ ap (map given_to) (sym (take_more old place was l2));
+          ∙ ap (λ s. map share_of_judge (take place old) ++ s ∷ []) (shows ∙ got_back share_of_judge without_records old now place was was so.given l l2 at)
+          ∙ sym (map-append share_of_judge (take place old) (get_or old place was ∷ [])) ∙ ap (map share_of_judge) (sym (take_more old place was l2));
       many = length-set-same now place j ∙ so.many;
     }
 
-pub given_taken : (old now : List Judge) (shares : List Share) (place : ℕ) → HaveGiven old now shares place → length now ≤ place → map given_to now ≡ map without_records (map given_to old)
-given_taken old now shares place so over = changed_all given_to without_records old now place so.given (omega (arith, over, so.many))
+pub given_taken : (old now : List Judge) (shares : List Share) (place : ℕ) → HaveGiven old now shares place → length now ≤ place → map share_of_judge now ≡ map without_records (map share_of_judge old)
+given_taken old now shares place so over = changed_all share_of_judge without_records old now place so.given (omega (arith, over, so.many))
 
-pub given_shares : (old now : List Judge) (shares : List Share) (place : ℕ) → HaveGiven old now shares place → length now ≤ place → map shown shares ≡ map given_to old
-given_shares old now shares place so over = so.shares ∙ ap (map given_to) (take_all place old (omega (arith, over, so.many)))
+pub given_shares : (old now : List Judge) (shares : List Share) (place : ℕ) → HaveGiven old now shares place → length now ≤ place → map shown shares ≡ map share_of_judge old
+given_shares old now shares place so over = so.shares ∙ ap (map share_of_judge) (take_all place old (omega (arith, over, so.many)))
 
 -- ---- those that are for the subscriptions that are served
 
 -- the first so many are
 pub record AreAlike (judges : List Judge) (domain : ℕ) (served : List Served) (place : ℕ) : Type 0 where
   pub whose_they_are : map whose (map for_of (take place judges)) ≡ map (λ who. (domain, who.name.now)) (take place served)
-  pub subs : map (λ s. s.0) (map given_to (take place judges)) ≡ map (λ who. who.sub) (take place served)
+  pub subs : map (λ s. s.0) (map share_of_judge (take place judges)) ≡ map (λ who. who.sub) (take place served)
 
 pub alike_start : (judges : List Judge) (domain : ℕ) (served : List Served) → AreAlike judges domain served 0
 alike_start judges domain served = record { whose_they_are = refl; subs = refl }
 
 pub alike_step : (judges : List Judge) (domain : ℕ) (served : List Served) (place : ℕ) (judge : Judge) (who other : Served) → AreAlike judges domain served place → place < length judges → place < length served
-    → judge ≡ get_or judges place judge → who ≡ get_or served place other → is_of who.sub domain who.name.now judge ≡ true → AreAlike judges domain served (place + 1)
+    → judge ≡ get_or judges place judge → who ≡ get_or served place other → is_judge_for who.sub domain who.name.now judge ≡ true → AreAlike judges domain served (place + 1)
 alike_step judges domain served place judge who other so l l2 at at2 is =
     let first = and_parts (judge.sub == who.sub) _ is in
     let second = and_parts (judge.plans.for.domain == domain) _ first.1 in
@@ -192,13 +192,13 @@ alike_step judges domain served place judge who other so l l2 at at2 is =
     let name : judge.plans.for.name ≡ who.name.now = (bytes_eq-Decides judge.plans.for.name who.name.now).0 second.1 in
     let W : Served → ℕ × List ℕ = λ who. (domain, who.name.now) in
     let J : Judge → ℕ × List ℕ = λ j. whose (for_of j) in
-    let S : Judge → ℕ = λ j. (given_to j).0 in
+    let S : Judge → ℕ = λ j. (share_of_judge j).0 in
     let T : Served → ℕ = λ who. who.sub in
     record {
       whose_they_are = map_twice for_of whose (take (place + 1) judges)
           ∙ grown_alike J W judges served place judge who other l l2 at at2 (sym (map_twice for_of whose (take place judges)) ∙ so.whose_they_are) (pair_is in_domain name);
-      subs = map_twice given_to (λ (s : ℕ × List DataRecord). s.0) (take (place + 1) judges)
-          ∙ grown_alike S T judges served place judge who other l l2 at at2 (sym (map_twice given_to (λ (s : ℕ × List DataRecord). s.0) (take place judges)) ∙ so.subs) sub;
+      subs = map_twice share_of_judge (λ (s : ℕ × List DataRecord). s.0) (take (place + 1) judges)
+          ∙ grown_alike S T judges served place judge who other l l2 at at2 (sym (map_twice share_of_judge (λ (s : ℕ × List DataRecord). s.0) (take place judges)) ∙ so.subs) sub;
     }
   where
     pair_is : {a b : ℕ} {n m : List ℕ} → a ≡ b → n ≡ m → ◌≡◌ {A = ℕ × List ℕ} (a, n) (b, m)
@@ -217,9 +217,9 @@ alike_whose judges domain served place so over many =
     ap (λ js. map whose (map for_of js)) (sym (take_all place judges over)) ∙ so.whose_they_are ∙ ap (map (λ (who : Served). (domain, who.name.now))) (take_all place served (omega (arith, over, many)))
 
 pub alike_subs : (judges : List Judge) (domain : ℕ) (served : List Served) (place : ℕ) → AreAlike judges domain served place → length judges ≤ place → length judges ≡ length served
-    → map (λ s. s.0) (map given_to judges) ≡ map (λ who. who.sub) served
+    → map (λ s. s.0) (map share_of_judge judges) ≡ map (λ who. who.sub) served
 alike_subs judges domain served place so over many =
-    ap (λ js. map (λ (s : ℕ × List DataRecord). s.0) (map given_to js)) (sym (take_all place judges over)) ∙ so.subs ∙ ap (map (λ (who : Served). who.sub)) (take_all place served (omega (arith, over, many)))
+    ap (λ js. map (λ (s : ℕ × List DataRecord). s.0) (map share_of_judge js)) (sym (take_all place judges over)) ∙ so.subs ∙ ap (map (λ (who : Served). who.sub)) (take_all place served (omega (arith, over, many)))
 
 -- those that are kept, where they are for these
 pub ready_judges : (j : Judges) (f : InForce) (domain : ℕ) (served : List Served) → AreJudgesReady f.policy.rules j → AreFor j domain served → JudgesAny j f domain served

@@ -2,7 +2,7 @@
 use Rattle.std.proofs.Common.{◌≡◌, ℕ, zero, suc, ◌+◌, ◌-◌, ◌<◌, ◌≤◌, List, [], ◌∷◌, ◌++◌, length, take, refl, sym, ap, ◌∙◌, arith, append_assoc, append-nil, length-append}
 use Rattle.std.proofs.lemmas.List.{take_all}
 use Rattle.disclosure_audit.specs.declared.entry.Note.{Note}
-use Rattle.mediator_shares.specs.Noting.{KeptNotes, kept_of, and_more}
+use Rattle.mediator_shares.specs.Noting.{KeptNotes, kept_notes, and_more}
 
 abbrev kept_as : ℕ → List Note → ℕ → KeptNotes
 kept_as most notes count = record { notes = notes; count = count; most = most }
@@ -47,11 +47,11 @@ more_more k a b =
     kept_same k.most (front ++ take (k.most - length front) b) (k.notes ++ take m (a ++ b)) (k.count + length a + length b) (k.count + length (a ++ b))
     (append_assoc k.notes (take m a) (take (k.most - length front) b) ∙ ap (λ n. k.notes ++ (take m a ++ take n b)) rest ∙ ap (λ l. k.notes ++ l) (sym (taken_of_both a b m))) all
 
-pub kept_more : (most : ℕ) (a b : List Note) → and_more (kept_of most a) b ≡ kept_of most (a ++ b)
+pub kept_more : (most : ℕ) (a b : List Note) → and_more (kept_notes most a) b ≡ kept_notes most (a ++ b)
 kept_more most a b =
     kept_same most (take most a ++ take (most - length (take most a)) b) (take most (a ++ b)) (length a + length b) (length (a ++ b))
     (ap (λ n. take most a ++ take n b) (left_over most a) ∙ sym (taken_of_both a b most)) (sym (length-append a b))
 
 -- from none on
-pub kept_from_none : (most : ℕ) (all : List Note) (k l : KeptNotes) → k ≡ kept_of most [] → l ≡ and_more k all → l ≡ kept_of most all
+pub kept_from_none : (most : ℕ) (all : List Note) (k l : KeptNotes) → k ≡ kept_notes most [] → l ≡ and_more k all → l ≡ kept_notes most all
 kept_from_none most all k l start grown = grown ∙ ap (λ n. and_more n all) start ∙ kept_more most [] all

@@ -8,7 +8,7 @@ use Rattle.std.proofs.lemmas.List.Concat.{flat_map-append, flat_map-cons}
 use Rattle.std.proofs.Math.Seq.{set-append_seam, get_or-append_seam, drop-cons}
 use Rattle.mediator_history.proofs.HistoryLaws.{flat_map-push}
 use Rattle.ipfix_template.specs.DataRecord.{DataRecord, kept_record}
-use Rattle.ipfix_records.specs.Runs.{RunOf, records_of, records_in}
+use Rattle.ipfix_records.specs.Runs.{RunOf, run_records, records_of_runs}
 use Rattle.flow_aggregate.specs.Counts.{count_of}
 use Rattle.policy_text.specs.Policies.{Aggregate}
 use Rattle.flow_anonymize.specs.Outcome as outcome
@@ -19,7 +19,7 @@ use Rattle.mediator_history.specs.Auditing.{kept_back}
 use Rattle.mediator_shares.specs.InForce.{InForce}
 use Rattle.mediator_tables.specs.declared.served.Served.{Served}
 use Rattle.mediator_tables.specs.declared.tally.Tally.{Tally}
-use Rattle.mediator_shares.specs.Noting.{KeptNotes, kept_of, and_more}
+use Rattle.mediator_shares.specs.Noting.{KeptNotes, kept_notes, and_more}
 use Rattle.mediator_shares.proofs.NotingLaws.{none_more, more_more, kept_more}
 use Rattle.mediator_tables.specs.Adding.{tallied}
 use Rattle.mediator_shares.specs.Sharing.{outcome_by, given_by, added_by, kept_by, kept_back_by, counts_by, blank, share_by, shares_of, tallies_of, note_of, notes_on, noted_of_each, notes_of}
@@ -241,10 +241,10 @@ has_run old new told tnew before notes domain f first rs served place so over =
 
 -- the shares of the records of the first so many runs
 pub record AreShares (shares : List (ℕ × List DataRecord)) (tallies : List Tally) (start notes : KeptNotes) (domain : ℕ) (f : InForce) (runs : List RunOf) (served : List Served) (place before : ℕ) : Type 0 where
-  pub sharing : shares ≡ shares_of domain f (records_in (take place runs)) served
-  pub tallying : map tallied tallies ≡ tallies_of domain f (records_in (take place runs)) served
-  pub noting : notes ≡ and_more start (notes_of domain f (records_in (take place runs)) served)
-  pub counted : before ≡ length (records_in (take place runs))
+  pub sharing : shares ≡ shares_of domain f (records_of_runs (take place runs)) served
+  pub tallying : map tallied tallies ≡ tallies_of domain f (records_of_runs (take place runs)) served
+  pub noting : notes ≡ and_more start (notes_of domain f (records_of_runs (take place runs)) served)
+  pub counted : before ≡ length (records_of_runs (take place runs))
   pub stay : length shares ≡ length served
   pub stay_tallies : length tallies ≡ length served
 
@@ -260,41 +260,41 @@ shares_start s t n domain f runs served blanks empty = record {
 }
 
 pub shares_step : (s s2 : List (ℕ × List DataRecord)) (t t2 : List Tally) (begin n n2 : KeptNotes) (domain : ℕ) (f : InForce) (runs : List RunOf) (served : List Served) (place before more : ℕ) (run other : RunOf)
-    → AreShares s t begin n domain f runs served place before → place < length runs → run ≡ get_or runs place other → more ≡ length run.texts → HasRun s s2 t t2 n n2 domain f before (records_of run) served
+    → AreShares s t begin n domain f runs served place before → place < length runs → run ≡ get_or runs place other → more ≡ length run.texts → HasRun s s2 t t2 n n2 domain f before (run_records run) served
     → length s2 ≡ length served → length t2 ≡ length served → AreShares s2 t2 begin n2 domain f runs served (place + 1) (before + more)
 shares_step s s2 t t2 begin n n2 domain f runs served place before more run other so within at many adds same same_too = record {
-  sharing = adds.shares (records_in (take place runs)) so.sharing ∙ ap (λ l. shares_of domain f l served) (sym grows);
-  tallying = adds.tallies (records_in (take place runs)) so.tallying ∙ ap (λ l. tallies_of domain f l served) (sym grows);
-  noting = adds.noting ∙ ap (λ l. and_more l (flat_map (noted_of_each domain f served) (enumerate_from before (records_of run)))) so.noting
-      ∙ more_more begin (notes_of domain f (records_in (take place runs)) served) (flat_map (noted_of_each domain f served) (enumerate_from before (records_of run)))
+  sharing = adds.shares (records_of_runs (take place runs)) so.sharing ∙ ap (λ l. shares_of domain f l served) (sym grows);
+  tallying = adds.tallies (records_of_runs (take place runs)) so.tallying ∙ ap (λ l. tallies_of domain f l served) (sym grows);
+  noting = adds.noting ∙ ap (λ l. and_more l (flat_map (noted_of_each domain f served) (enumerate_from before (run_records run)))) so.noting
+      ∙ more_more begin (notes_of domain f (records_of_runs (take place runs)) served) (flat_map (noted_of_each domain f served) (enumerate_from before (run_records run)))
       ∙ ap (λ l. and_more begin l) (
-      ap (λ i. notes_of domain f (records_in (take place runs)) served ++ flat_map (noted_of_each domain f served) (enumerate_from i (records_of run))) start
-      ∙ sym (flat_map-append (noted_of_each domain f served) (enumerate_from 0 (records_in (take place runs))) (enumerate_from (0 + length (records_in (take place runs))) (records_of run)))
-      ∙ ap (flat_map (noted_of_each domain f served)) (sym (enumerate-append 0 (records_in (take place runs)) (records_of run)))
+      ap (λ i. notes_of domain f (records_of_runs (take place runs)) served ++ flat_map (noted_of_each domain f served) (enumerate_from i (run_records run))) start
+      ∙ sym (flat_map-append (noted_of_each domain f served) (enumerate_from 0 (records_of_runs (take place runs))) (enumerate_from (0 + length (records_of_runs (take place runs))) (run_records run)))
+      ∙ ap (flat_map (noted_of_each domain f served)) (sym (enumerate-append 0 (records_of_runs (take place runs)) (run_records run)))
       ∙ ap (λ l. notes_of domain f l served) (sym grows)
       );
-  counted = omega (arith, so.counted, many, ap length grows, length-append (records_in (take place runs)) (records_of run), length-map run.texts (kept_record run.template));
+  counted = omega (arith, so.counted, many, ap length grows, length-append (records_of_runs (take place runs)) (run_records run), length-map run.texts (kept_record run.template));
   stay = same;
   stay_tallies = same_too;
 }
   where
-    grows : records_in (take (place + 1) runs) ≡ records_in (take place runs) ++ records_of run
-    grows = ap records_in (take_more runs place other within ∙ ap (λ x. take place runs ++ x ∷ []) (sym at)) ∙ flat_map-push records_of (take place runs) run
+    grows : records_of_runs (take (place + 1) runs) ≡ records_of_runs (take place runs) ++ run_records run
+    grows = ap records_of_runs (take_more runs place other within ∙ ap (λ x. take place runs ++ x ∷ []) (sym at)) ∙ flat_map-push run_records (take place runs) run
 
-    start : before ≡ 0 + length (records_in (take place runs))
+    start : before ≡ 0 + length (records_of_runs (take place runs))
     start = omega (arith, so.counted)
 
 -- there are not more records in some runs than in all
-pub fewer_records : (runs : List RunOf) (place : ℕ) (run other : RunOf) → place < length runs → run ≡ get_or runs place other → length (records_in (take place runs)) + length run.texts ≤ length (records_in runs)
+pub fewer_records : (runs : List RunOf) (place : ℕ) (run other : RunOf) → place < length runs → run ≡ get_or runs place other → length (records_of_runs (take place runs)) + length run.texts ≤ length (records_of_runs runs)
 fewer_records [] place run other within at = absurd (omega arith)
 fewer_records (r ∷ runs) zero run other within at =
-    let one = length-append (records_of r) (records_in runs) in
-    let all = ap length (flat_map-cons records_of r runs) in
+    let one = length-append (run_records r) (records_of_runs runs) in
+    let all = ap length (flat_map-cons run_records r runs) in
     omega (arith, one, all, length-map r.texts (kept_record r.template), ap (λ (x : RunOf). length x.texts) at)
 fewer_records (r ∷ runs) (suc place) run other within at =
     let rest = fewer_records runs place run other (omega (arith, within)) at in
-    let all = ap length (flat_map-cons records_of r runs) ∙ length-append (records_of r) (records_in runs) in
-    let some = ap length (flat_map-cons records_of r (take place runs)) ∙ length-append (records_of r) (records_in (take place runs)) in
+    let all = ap length (flat_map-cons run_records r runs) ∙ length-append (run_records r) (records_of_runs runs) in
+    let some = ap length (flat_map-cons run_records r (take place runs)) ∙ length-append (run_records r) (records_of_runs (take place runs)) in
     omega (arith, rest, all, some)
 
 -- the shares of all records
@@ -304,7 +304,7 @@ pub record HasShares (shares : List (ℕ × List DataRecord)) (tallies : List Ta
   pub notes_are : notes ≡ and_more begin (notes_of domain f records served)
 
 pub has_shares : (s : List (ℕ × List DataRecord)) (t : List Tally) (begin n : KeptNotes) (domain : ℕ) (f : InForce) (runs : List RunOf) (served : List Served) (place before : ℕ)
-    → AreShares s t begin n domain f runs served place before → length runs ≤ place → HasShares s t begin n domain f (records_in runs) served
+    → AreShares s t begin n domain f runs served place before → length runs ≤ place → HasShares s t begin n domain f (records_of_runs runs) served
 has_shares s t begin n domain f runs served place before so over =
-    let P : List RunOf → Type 0 = λ l. HasShares s t begin n domain f (records_in l) served in
+    let P : List RunOf → Type 0 = λ l. HasShares s t begin n domain f (records_of_runs l) served in
     subst P (take_all place runs over) (record { shares_are = so.sharing; tallies_are = so.tallying; notes_are = so.noting })

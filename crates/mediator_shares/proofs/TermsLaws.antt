@@ -17,7 +17,7 @@ use Rattle.disclosure_audit.specs.declared.entry.Note.{Note}
 use Rattle.mediator_shares.specs.declared.shares.Shares.{Shares}
 use Rattle.mediator_shares.specs.InForce.{InForce}
 use Rattle.mediator_shares.specs.Sharing.{given_by, added_by, kept_by, note_of, noted_of_each, shares_of, tallies_of, notes_of}
-use Rattle.mediator_shares.specs.Noting.{kept_of}
+use Rattle.mediator_shares.specs.Noting.{kept_notes}
 use Rattle.mediator_shares.specs.Terms.{Terms, terms_of}
 use Rattle.mediator_shares.specs.Judgements.{AreSharesOf}
 use Rattle.mediator_shares.proofs.JudgeLaws.{got_map, map_twice}
@@ -100,5 +100,5 @@ judged_alike domain records f a most terms s force those many are g b n is =
     subst P (sym force ∙ ap (λ (t : Terms). t.in_force) is) (record {
       shares_are = are.shares_are ∙ shares_alike domain f records a b same;
       tallies_are = are.tallies_are ∙ tallies_alike domain f records a b same;
-      notes_are = are.notes_are ∙ ap (kept_of most) (notes_alike domain f records a b same) ∙ ap (λ m. kept_of m (notes_of domain f records b)) (sym many ∙ ap (λ (t : Terms). t.most) is);
+      notes_are = are.notes_are ∙ ap (kept_notes most) (notes_alike domain f records a b same) ∙ ap (λ m. kept_notes m (notes_of domain f records b)) (sym many ∙ ap (λ (t : Terms). t.most) is);
     })

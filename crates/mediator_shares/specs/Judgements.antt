@@ -7,7 +7,7 @@ use Rattle.mediator_tables.specs.SubscriptionTable.{shown}
 use Rattle.mediator_tables.specs.Adding.{tallied}
 use Rattle.mediator_shares.specs.InForce.{InForce}
 use Rattle.mediator_shares.specs.Sharing.{shares_of, tallies_of, notes_of}
-use Rattle.mediator_shares.specs.Noting.{kept_of}
+use Rattle.mediator_shares.specs.Noting.{kept_notes}
 use Rattle.mediator_shares.specs.Terms.{terms_of}
 use Rattle.mediator_shares.specs.declared.shares.Shares.{Shares}
 use Rattle.mediator_shares.specs.declared.judgement.Judgement.{Judgement}
@@ -16,7 +16,7 @@ use Rattle.mediator_shares.specs.declared.judgement.Judgement.{Judgement}
 pub record AreSharesOf (domain : ℕ) (records : List DataRecord) (f : InForce) (served : List Served) (most : ℕ) (s : Shares) : Type 0 where
   pub shares_are : map shown s.shares.items ≡ shares_of domain f records served
   pub tallies_are : map tallied s.tallies.items ≡ tallies_of domain f records served
-  pub notes_are : s.notes ≡ kept_of most (notes_of domain f records served)
+  pub notes_are : s.notes ≡ kept_notes most (notes_of domain f records served)
 
 -- what was judged are the shares by its terms
 pub record IsJudgementOf (domain : ℕ) (records : List DataRecord) (j : Judgement) : Type 0 where

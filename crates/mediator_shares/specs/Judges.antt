@@ -23,11 +23,11 @@ pub record Judges : Type 0 where
 abbrev pub for_of : Judge → PlansFor
 for_of j = j.plans.for
 
-abbrev pub given_to : Judge → ℕ × List DataRecord
-given_to j = (j.sub, j.plans.given)
+abbrev pub share_of_judge : Judge → ℕ × List DataRecord
+share_of_judge j = (j.sub, j.plans.given)
 
 abbrev pub judges_of : List Rule → List ℕ → ℕ → Option Template → List Judge → Judges
-judges_of rules cuts domain template judges = record { rules = rules; cuts = cuts; domain = domain; template = template; fors = map for_of judges; shares = map given_to judges }
+judges_of rules cuts domain template judges = record { rules = rules; cuts = cuts; domain = domain; template = template; fors = map for_of judges; shares = map share_of_judge judges }
 
 -- plans by these, for the records of a template, if one is named, and the subscriber of a name
 abbrev pub plans_for : List Rule → List ℕ → ℕ → Option Template → List ℕ → PlansFor
@@ -68,5 +68,5 @@ pub record AreFor (j : Judges) (domain : ℕ) (served : List Served) : Type 0 wh
   pub subs : map (λ s. s.0) j.shares ≡ map (λ who. who.sub) served
 
 -- one of them is
-abbrev pub is_of : ℕ → ℕ → List ℕ → Judge → Bool
-is_of sub domain name j = j.sub == sub && (j.plans.for.domain == domain && bytes_eq j.plans.for.name name)
+abbrev pub is_judge_for : ℕ → ℕ → List ℕ → Judge → Bool
+is_judge_for sub domain name j = j.sub == sub && (j.plans.for.domain == domain && bytes_eq j.plans.for.name name)

@@ -10,8 +10,8 @@ pub record KeptNotes : Type 0 where
   pub most : ℕ
 
 -- of a whole list its front is kept
-abbrev pub kept_of : ℕ → List Note → KeptNotes
-kept_of most all = record { notes = take most all; count = length all; most = most }
+abbrev pub kept_notes : ℕ → List Note → KeptNotes
+kept_notes most all = record { notes = take most all; count = length all; most = most }
 
 -- with more notes behind them
 abbrev pub and_more : KeptNotes → List Note → KeptNotes

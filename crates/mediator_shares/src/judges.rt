@@ -212,7 +212,7 @@ impl Judges {
     }
 }
 
-ghost use Rattle.mediator_shares.specs.Judges.{Judges as JudgesOf, AreFor, for_of, given_to, of_template, is_of, whose, without_records};
+ghost use Rattle.mediator_shares.specs.Judges.{Judges as JudgesOf, AreFor, for_of, share_of_judge, of_template, is_judge_for, whose, without_records};
 
 /// The place in `kept` of the first that judge the records of the Observation Domain `domain` for the subscriptions
 /// `served`, and are ready for a message with these `runs`; or `None`.
@@ -241,7 +241,7 @@ pub(crate) fn place_for(
 fn begin_each(judges: &mut Vec<Judge>, template: &Arc<Template>) -> Result<(), AllocError>
     ensures fors { OnOk result (map for_of judges.new.items
         ≡ map (of_template (arc_value template.now)) (map for_of judges.old.items)) }
-    ensures shares { OnOk result (map given_to judges.new.items ≡ map given_to judges.old.items) }
+    ensures shares { OnOk result (map share_of_judge judges.new.items ≡ map share_of_judge judges.old.items) }
 {
     'judges: for place in 0..judges.len() {
         judges[place].plans.begin(template)?;
@@ -255,10 +255,10 @@ fn begin_each(judges: &mut Vec<Judge>, template: &Arc<Template>) -> Result<(), A
 /// Want of memory.
 fn take_shares(alloc: Global, judges: &mut Vec<Judge>) -> Result<Vec<Share>, AllocError>
     ensures shares { IfOk result (λ shares.
-        map shown shares.items ≡ map given_to judges.old.items) }
+        map shown shares.items ≡ map share_of_judge judges.old.items) }
     ensures fors { OnOk result (map for_of judges.new.items ≡ map for_of judges.old.items) }
-    ensures taken { OnOk result (map given_to judges.new.items
-        ≡ map without_records (map given_to judges.old.items)) }
+    ensures taken { OnOk result (map share_of_judge judges.new.items
+        ≡ map without_records (map share_of_judge judges.old.items)) }
 {
     let mut shares = Vec::new(alloc);
     'judges: for place in 0..judges.len() {
@@ -274,7 +274,7 @@ fn are_for(judges: &[Judge], domain: u32, served: &[Served<'_>]) -> bool
     ensures whose { result ≡ true
         → map whose (map for_of judges.now) ≡ map (λ who. (domain, who.name.now)) served.now }
     ensures subs { result ≡ true
-        → map (λ s. s.0) (map given_to judges.now) ≡ map (λ who. who.sub) served.now }
+        → map (λ s. s.0) (map share_of_judge judges.now) ≡ map (λ who. who.sub) served.now }
 {
     if judges.len() != served.len() {
         return false;
@@ -292,7 +292,7 @@ impl Judge {
     /// Whether it judges the records of the Observation Domain `domain`, for the subscription with the number `sub` and
     /// the subscriber's `name`.
     fn is_of(&self, sub: u64, domain: u32, name: &str) -> bool
-        ensures { result ≡ is_of sub domain name.now self.now }
+        ensures { result ≡ is_judge_for sub domain name.now self.now }
     {
         self.sub == sub
             && self.plans.domain() == domain
@@ -304,9 +304,9 @@ impl Judge {
     /// # Errors
     /// Want of memory.
     fn take_share(&mut self) -> Result<Share, AllocError>
-        ensures share { IfOk result (λ share. shown share ≡ given_to self.old) }
+        ensures share { IfOk result (λ share. shown share ≡ share_of_judge self.old) }
         ensures plans { OnOk result (for_of self.new ≡ for_of self.old) }
-        ensures taken { OnOk result (given_to self.new ≡ without_records (given_to self.old)) }
+        ensures taken { OnOk result (share_of_judge self.new ≡ without_records (share_of_judge self.old)) }
     {
         let given = self.plans.take_records()?;
         Ok(Share {

@@ -1,6 +1,6 @@
 //! What the audit is to note of a message: as much of it as an audit may hold, and the number of all.
 ghost use Rattle.std.specs.Prelude.{◌≡◌, ◌<◌, ◌^◌, ◌∷◌, [], OnOk};
-ghost use Rattle.mediator_shares.specs.Noting.{kept_of, and_more};
+ghost use Rattle.mediator_shares.specs.Noting.{kept_notes, and_more};
 
 use disclosure_audit::Note;
 use std::alloc::{AllocError, Global};
@@ -32,7 +32,7 @@ impl Model for Notes {
 impl Notes {
     /// No note; of those to come at most `most` are kept, in memory from `alloc`.
     pub(crate) fn new(alloc: Global, most: u64) -> Notes
-        ensures { result ≡ kept_of most [] }
+        ensures { result ≡ kept_notes most [] }
     {
         Notes {
             kept: Vec::new(alloc),

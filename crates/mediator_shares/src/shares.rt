@@ -2,7 +2,7 @@
 ghost use Rattle.std.specs.Prelude.{◌≡◌, ◌++◌, ◌∷◌, ◌≤◌, ◌<◌, ◌+◌, ◌^◌, ℕ, List, [], Some, None, length, map, IfOk, OnOk};
 ghost use Rattle.std.specs.List.{flat_map, enumerate_from};
 ghost use Rattle.ipfix_template.specs.DataRecord.{DataRecord};
-ghost use Rattle.ipfix_records.specs.Runs.{records_of, records_in};
+ghost use Rattle.ipfix_records.specs.Runs.{run_records, records_of_runs};
 ghost use Rattle.flow_aggregate.specs.Counts.{Count as OneCount, count_of};
 ghost use Rattle.mediator_history.specs.Auditing.{removed_of, told_of};
 ghost use Rattle.mediator_shares.specs.InForce.{count_by, timing_by, as_list};
@@ -10,7 +10,7 @@ ghost use Rattle.mediator_shares.specs.Judges.{JudgeFor, JudgesAny};
 ghost use Rattle.mediator_tables.specs.SubscriptionTable.{shown};
 ghost use Rattle.mediator_tables.specs.Adding.{tallied};
 ghost use Rattle.mediator_shares.specs.Sharing.{blank, counts_by, kept_back_by, shares_of, tallies_of, notes_of, note_of, noted_of_each};
-ghost use Rattle.mediator_shares.specs.Noting.{kept_of, and_more};
+ghost use Rattle.mediator_shares.specs.Noting.{kept_notes, and_more};
 
 use crate::in_force::InForce;
 use crate::judges::Judges;
@@ -57,7 +57,7 @@ impl Shares {
         ensures tallies { IfOk result (λ s.
             map tallied s.tallies.items ≡ tallies_of domain in_force.old records.now served.now) }
         ensures notes { IfOk result (λ s.
-            s.notes ≡ kept_of most (notes_of domain in_force.old records.now served.now)) }
+            s.notes ≡ kept_notes most (notes_of domain in_force.old records.now served.now)) }
         // The policy and the clock stay.
         ensures unchanged { in_force.new ≡ in_force.old }
     {
@@ -90,7 +90,7 @@ impl Sums {
     /// Want of memory.
     fn of_none(alloc: Global, served: &[Served<'_>], most: u64) -> Result<Sums, AllocError>
         ensures tallies { IfOk result (λ s. map tallied s.tallies.items ≡ map blank served.now) }
-        ensures notes { IfOk result (λ s. s.notes ≡ kept_of most []) }
+        ensures notes { IfOk result (λ s. s.notes ≡ kept_notes most []) }
     {
         let mut tallies = Vec::new(alloc);
         'served: for who in served {
@@ -120,17 +120,17 @@ impl Sums {
         runs: &[Run],
         served: &[Served<'_>],
     ) -> Result<(), AllocError>
-        requires few { length (records_in runs.now) ≤ 2 ^ 32 }
+        requires few { length (records_of_runs runs.now) ≤ 2 ^ 32 }
         requires judges { JudgesAny judges.old in_force.now domain served.now }
         requires blank { judges.old.shares ≡ map blank served.now }
         requires blank_tallies { map tallied self.old.tallies.items ≡ map blank served.now }
         // All is that of the records of the runs.
         ensures shares { OnOk result (judges.new.shares
-            ≡ shares_of domain in_force.now (records_in runs.now) served.now) }
+            ≡ shares_of domain in_force.now (records_of_runs runs.now) served.now) }
         ensures tallies { OnOk result (map tallied self.new.tallies.items
-            ≡ tallies_of domain in_force.now (records_in runs.now) served.now) }
+            ≡ tallies_of domain in_force.now (records_of_runs runs.now) served.now) }
         ensures notes { OnOk result (self.new.notes ≡ and_more self.old.notes
-            (notes_of domain in_force.now (records_in runs.now) served.now)) }
+            (notes_of domain in_force.now (records_of_runs runs.now) served.now)) }
         // The judges are fit for what comes next.
         ensures judges { OnOk result (JudgesAny judges.new in_force.now domain served.now) }
     {
@@ -165,14 +165,14 @@ impl Sums {
         ensures shares { (done : List DataRecord)
             → judges.old.shares ≡ shares_of domain in_force.now done served.now
             → OnOk result (judges.new.shares
-            ≡ shares_of domain in_force.now (done ++ records_of run.now) served.now) }
+            ≡ shares_of domain in_force.now (done ++ run_records run.now) served.now) }
         ensures tallies { (done : List DataRecord)
             → map tallied self.old.tallies.items ≡ tallies_of domain in_force.now done served.now
             → OnOk result (map tallied self.new.tallies.items
-            ≡ tallies_of domain in_force.now (done ++ records_of run.now) served.now) }
+            ≡ tallies_of domain in_force.now (done ++ run_records run.now) served.now) }
         ensures notes { OnOk result (self.new.notes
             ≡ and_more self.old.notes (flat_map (noted_of_each domain in_force.now served.now)
-            (enumerate_from before (records_of run.now)))) }
+            (enumerate_from before (run_records run.now)))) }
         // The judges are fit for what comes next, with a place for each subscription.
         ensures judges { OnOk result (JudgesAny judges.new in_force.now domain served.now) }
         ensures stay { OnOk result (length judges.new.shares ≡ length served.now) }

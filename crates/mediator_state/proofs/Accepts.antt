@@ -8,7 +8,7 @@ use Rattle.ipfix_template.specs.DataRecord.{DataRecord}
 use Rattle.ipfix_session.specs.Keeping.{at_key}
 use Rattle.ipfix_session.specs.ReadAhead.{Ahead, IsReadingOf, HasRoomFor}
 use Rattle.subscriber_stream.specs.declared.limits.StreamLimits.{StreamLimits}
-use Rattle.subscriber_stream.specs.Parts.{parts, records_in}
+use Rattle.subscriber_stream.specs.Parts.{parts, records_of_parts}
 use Rattle.subscriber_stream.specs.Standing.{StreamStanding, StandsAt, HasStreamRoom, queue_size}
 use Rattle.subscriber_stream.proofs.CallLaws.{parts_bring}
 use Rattle.subscriber_stream.proofs.Standings.{records_in-append}
@@ -39,7 +39,8 @@ use Rattle.mediator_tables.specs.SubscriptionTable.{at, cut_off, HasSpare, IsRea
 use Rattle.mediator_state.specs.declared.engine.Engine.{Engine}
 use Rattle.mediator_state.specs.declared.closing.Closing.{Closing}
 use Rattle.mediator_state.specs.declared.plan.MessagePlan.{MessagePlan}
-use Rattle.mediator_state.specs.Standing.{Stands, place, IsSession, IsLiveAs, AreEngineLimits}
+use Rattle.mediator_tables.specs.Sessions.{IsSession}
+use Rattle.mediator_state.specs.Standing.{Stands, place, IsLiveAs, AreEngineLimits}
 use Rattle.mediator_state.specs.Steps.{CutsInARow, HasAuditRoom}
 use Rattle.mediator_tables.specs.Adding.{AllReady, NoneTwice}
 use Rattle.mediator_shares.specs.Noting.{KeptNotes}
@@ -56,12 +57,12 @@ use Rattle.subscriber_stream.specs.declared.limits.TheConstants.{MOST_QUEUE}
 -- what was handed out and what waits is the whole list
 whole : (s : StreamStanding) (records : List DataRecord) → StandsAt s records (place s) → s.handed + queue_size s ≡ length records
 whole s records so =
-    omega (arith, so.handed, ap (λ ps. length (records_in ps)) so.waiting, streamed records (place s))
+    omega (arith, so.handed, ap (λ ps. length (records_of_parts ps)) so.waiting, streamed records (place s))
   where
-    streamed : (records : List DataRecord) (p : ℕ) → length (records_in (take p (parts records))) + length (records_in (drop p (parts records))) ≡ length records
+    streamed : (records : List DataRecord) (p : ℕ) → length (records_of_parts (take p (parts records))) + length (records_of_parts (drop p (parts records))) ≡ length records
     streamed records p =
-        sym (length-append (records_in (take p (parts records))) (records_in (drop p (parts records))))
-        ∙ ap (λ (rs : List DataRecord). length rs) (sym (records_in-append (take p (parts records)) (drop p (parts records))) ∙ ap records_in (take-append-drop p (parts records)) ∙ parts_bring records)
+        sym (length-append (records_of_parts (take p (parts records))) (records_of_parts (drop p (parts records))))
+        ∙ ap (λ (rs : List DataRecord). length rs) (sym (records_in-append (take p (parts records)) (drop p (parts records))) ∙ ap records_of_parts (take-append-drop p (parts records)) ∙ parts_bring records)
 
 -- the audit counts no more than the history allows
 pub audit_count : (e : Engine) (h : List Entry) → Stands e h → e.audit.standing.drained + length e.audit.standing.entries ≤ MOST_AUDITED * length h

@@ -30,8 +30,9 @@ use Rattle.mediator_shares.specs.InForce.{InForce, in_force_with}
 use Rattle.mediator_tables.specs.GroupTable.{groups_at}
 use Rattle.mediator_state.specs.declared.engine.Engine.{Engine}
 use Rattle.mediator_state.specs.Ascending.{Ascend}
-use Rattle.mediator_state.specs.Standing.{Stands, place, IsSession, IsLiveAs, AreNumbered, AreEngineLimits}
-use Rattle.mediator_state.specs.Seen.{place_in, place_of}
+use Rattle.mediator_tables.specs.Sessions.{IsSession}
+use Rattle.mediator_state.specs.Standing.{Stands, place, IsLiveAs, AreNumbered, AreEngineLimits}
+use Rattle.mediator_state.specs.Seen.{place_in, handed_place}
 use Rattle.mediator_state.specs.Advancing.{AreClosings}
 use Rattle.mediator_state.proofs.CutSteps.{no_entry, session_stays, unopened_stays, unbegun_stays}
 use Rattle.mediator_state.proofs.MessageSteps.{GivesServedOnly, given_is, small_given}
@@ -136,7 +137,7 @@ advance_step d e h t shares so ahead is did = record {
     gives sub = ap (given_to sub) is.shares_are ∙ given_is h (Advance t) sub so.numbered (closes_served_only h t)
 
 -- the places stay
-pub places_closed : (d e : Engine) (h : List Entry) (shares : List (ℕ × List DataRecord)) → Stands d h → ((sub : ℕ) → Related (TakesGiven (given_to sub shares)) (at d.subscriptions sub) (at e.subscriptions sub)) → (sub : ℕ) → place_of e sub ≡ place_of d sub
+pub places_closed : (d e : Engine) (h : List Entry) (shares : List (ℕ × List DataRecord)) → Stands d h → ((sub : ℕ) → Related (TakesGiven (given_to sub shares)) (at d.subscriptions sub) (at e.subscriptions sub)) → (sub : ℕ) → handed_place e sub ≡ handed_place d sub
 places_closed d e h shares so each sub = at_one (given_to sub shares) (at d.subscriptions sub) (at e.subscriptions sub) (each sub) (so.subscriptions sub) where
   at_one : (more : List DataRecord) (old new : Option Subscription) → Related (TakesGiven more) old new → IsLiveAs h d.limits sub old → place_in new ≡ place_in old
   at_one more None None takes is = refl

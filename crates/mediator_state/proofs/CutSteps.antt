@@ -33,7 +33,8 @@ use Rattle.mediator_shares.specs.InForce.{InForce}
 use Rattle.mediator_tables.specs.GroupTable.{groups_at}
 use Rattle.mediator_state.specs.declared.engine.Engine.{Engine}
 use Rattle.mediator_state.specs.Ascending.{Ascend}
-use Rattle.mediator_state.specs.Standing.{Stands, place, IsSession, IsLiveAs, IsUnopened, IsUnbegun, AreNumbered, IsSmall, AreEngineLimits}
+use Rattle.mediator_tables.specs.Sessions.{IsSession, IsUnopened}
+use Rattle.mediator_state.specs.Standing.{Stands, place, IsLiveAs, IsUnbegun, AreNumbered, IsSmall, AreEngineLimits}
 use Rattle.mediator_state.specs.Steps.{KeepsRest}
 use Rattle.mediator_state.proofs.GroupLaws.{clock_kept, groups_ended}
 

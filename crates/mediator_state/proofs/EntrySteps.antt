@@ -39,7 +39,8 @@ use Rattle.mediator_tables.specs.GroupTable.{groups_at}
 use Rattle.mediator_state.specs.declared.engine.Engine.{Engine}
 use Rattle.mediator_state.proofs.GroupLaws.{clock_stays, clock_kept, none_stand, groups_kept, groups_ended}
 use Rattle.mediator_state.specs.Ascending.{Ascend}
-use Rattle.mediator_state.specs.Standing.{place, IsSession, IsSubscription, IsLiveAs, IsUnopened, IsUnbegun, AreNumbered, IsSmall, AreEngineLimits, Stands, StandsSomewhere}
+use Rattle.mediator_tables.specs.Sessions.{IsSession, IsUnopened}
+use Rattle.mediator_state.specs.Standing.{place, IsSubscription, IsLiveAs, IsUnbegun, AreNumbered, IsSmall, AreEngineLimits, Stands, StandsSomewhere}
 use Rattle.mediator_state.proofs.AscendLaws.{ascend_push, all_below}
 
 -- ---- what stays where an entry has no word in it

@@ -54,7 +54,7 @@ use Rattle.mediator_tables.specs.declared.tally.Tally.{Tally}
 use Rattle.mediator_shares.specs.InForce.{InForce, in_force_with}
 use Rattle.mediator_tables.specs.SubscriptionTable.{shown}
 use Rattle.mediator_tables.specs.Adding.{tallied}
-use Rattle.mediator_shares.specs.Noting.{KeptNotes, kept_of}
+use Rattle.mediator_shares.specs.Noting.{KeptNotes, kept_notes}
 use Rattle.mediator_shares.specs.Sharing.{given_by, added_by, kept_by, share_of, shares_of, tallies_of, note_of, notes_on, noted_of_each, notes_of}
 use Rattle.mediator_tables.specs.declared.open_session.OpenSession.{OpenSession}
 use Rattle.mediator_tables.specs.declared.subscription.Subscription.{Subscription}
@@ -64,7 +64,8 @@ use Rattle.mediator_state.specs.declared.engine.Engine.{Engine}
 use Rattle.mediator_state.specs.declared.fault.Fault.TheVariants as fault
 use Rattle.mediator_state.specs.declared.plan.Judged.{Judged}
 use Rattle.mediator_state.specs.declared.plan.MessagePlan.{MessagePlan}
-use Rattle.mediator_state.specs.Standing.{Stands, IsSession, IsLiveAs}
+use Rattle.mediator_tables.specs.Sessions.{IsSession}
+use Rattle.mediator_state.specs.Standing.{Stands, IsLiveAs}
 use Rattle.mediator_state.specs.Seen.{waiting_in, waiting_of}
 use Rattle.mediator_state.specs.Planning.{lacks, has, share_at, tally_at, AreTallied, HasRoomIn, AreStreamed, IsJudged, IsJudgedAs, IsJudgedFor, IsInTurn, IsNextReading, IsPlan, RefusesPrepared}
 
@@ -495,13 +496,13 @@ meaning_header older octets m e = found (contents_of older octets) e where
 pub judges : (e : Engine) (position : ℕ) (m : Meaning) (domain : ℕ) (records : List DataRecord) (all : List Served) (cuts : List ℕ) (left lent : List Served) (shares : List Share) (tallies : List Tally) (notes : KeptNotes) (j : Judged)
     → domain ≡ m.header.domain → records ≡ m.records → map told all ≡ map (told_in e.subscriptions) e.subscriptions.served
     → IsSplitOf e.subscriptions domain e.in_force records all cuts left → lent ≡ left
-    → map shown shares ≡ shares_of domain e.in_force records lent → map tallied tallies ≡ tallies_of domain e.in_force records lent → notes ≡ kept_of e.audit.limit (notes_of domain e.in_force records lent)
+    → map shown shares ≡ shares_of domain e.in_force records lent → map tallied tallies ≡ tallies_of domain e.in_force records lent → notes ≡ kept_notes e.audit.limit (notes_of domain e.in_force records lent)
     → j.cuts.items ≡ cuts → j.shares.items ≡ shares → j.tallies.items ≡ tallies → j.position ≡ position + length cuts → j.notes ≡ notes
     → AllByRecursion AreStreamed (map shown j.shares.items)
     → (h : List Entry) → Stands e h → length h ≡ position → IsJudgedFor e h m j
 judges e position m domain records all cuts left lent shares tallies notes j in_domain means tells so lending gives adds noting cut shared counted_too at noted_too streamable = λ h stands counted session number octets meant. record {
   named = named;
-  kept = noted_too ∙ noting ∙ ap (λ l. kept_of e.audit.limit (notes_of domain e.in_force records l)) (lending ∙ so.leaving);
+  kept = noted_too ∙ noting ∙ ap (λ l. kept_notes e.audit.limit (notes_of domain e.in_force records l)) (lending ∙ so.leaving);
   judged = is_judged e h session number octets domain e.in_force records all position j.cuts.items (map shown j.shares.items) (map (stamp j.position) named) stands (asked h stands session octets meant) (sym counted) tells (cut ∙ so.cutting)
       (ap (map shown) shared ∙ gives ∙ ap (shares_of domain e.in_force records) (lending ∙ so.leaving))
       (ap (λ n. map (stamp n) named) at ∙ ap (λ c. map (stamp (position + length c)) named) (sym cut))

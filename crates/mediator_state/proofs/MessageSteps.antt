@@ -41,8 +41,9 @@ use Rattle.mediator_shares.specs.InForce.{InForce}
 use Rattle.mediator_tables.specs.GroupTable.{groups_at}
 use Rattle.mediator_state.specs.declared.engine.Engine.{Engine}
 use Rattle.mediator_state.specs.Ascending.{Ascend}
-use Rattle.mediator_state.specs.Standing.{Stands, place, IsSession, IsLiveAs, AreNumbered, IsSmall, AreEngineLimits}
-use Rattle.mediator_state.specs.Seen.{place_in, place_of}
+use Rattle.mediator_tables.specs.Sessions.{IsSession}
+use Rattle.mediator_state.specs.Standing.{Stands, place, IsLiveAs, AreNumbered, IsSmall, AreEngineLimits}
+use Rattle.mediator_state.specs.Seen.{place_in, handed_place}
 use Rattle.mediator_tables.specs.Adding.{added_to}
 use Rattle.mediator_state.specs.Planning.{share_at, tally_at, HasRoomIn, AreStreamed}
 use Rattle.mediator_state.proofs.GroupLaws.{clock_kept}
@@ -313,7 +314,7 @@ message_step d e h session number octets reading shares tallies entries so is di
         (subst (IsSession h q) (sym (did.others q (eqb-false q session here))) (so.sessions q))
 
 -- the places stay
-pub places_taken : (d e : Engine) (h : List Entry) (session : ℕ) (reading : Ahead) (shares : List (ℕ × List DataRecord)) (tallies : List (ℕ × List Count)) (entries : List AuditEntry) → Stands d h → TakesMessage d e session reading shares tallies entries → (sub : ℕ) → place_of e sub ≡ place_of d sub
+pub places_taken : (d e : Engine) (h : List Entry) (session : ℕ) (reading : Ahead) (shares : List (ℕ × List DataRecord)) (tallies : List (ℕ × List Count)) (entries : List AuditEntry) → Stands d h → TakesMessage d e session reading shares tallies entries → (sub : ℕ) → handed_place e sub ≡ handed_place d sub
 places_taken d e h session reading shares tallies entries so did sub = at_one (given_to sub shares) (at d.subscriptions sub) (at e.subscriptions sub) (did.each sub) (so.subscriptions sub) where
   at_one : (more : List DataRecord) (old new : Option Subscription) → Related (TakesGiven more) old new → IsLiveAs h d.limits sub old → place_in new ≡ place_in old
   at_one more None None takes so = refl

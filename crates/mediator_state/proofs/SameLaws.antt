@@ -28,9 +28,10 @@ use Rattle.mediator_shares.specs.InForce.{InForce}
 use Rattle.flow_aggregate.specs.Running.{Entries, SumsStand as StandsForRecords}
 use Rattle.mediator_state.specs.declared.engine.Engine.{Engine}
 use Rattle.mediator_state.specs.declared.plan.MessagePlan.{MessagePlan}
-use Rattle.mediator_state.specs.Standing.{place, IsSession, IsLiveAs, AreEngineLimits, Stands}
+use Rattle.mediator_tables.specs.Sessions.{IsSession}
+use Rattle.mediator_state.specs.Standing.{place, IsLiveAs, AreEngineLimits, Stands}
 use Rattle.mediator_state.specs.Seen.{place_in, waiting_in, waiting_of, IsUntouched, IsSameEngine}
-use Rattle.mediator_shares.specs.Noting.{kept_of}
+use Rattle.mediator_shares.specs.Noting.{kept_notes}
 use Rattle.mediator_state.specs.Planning.{HasRoomIn, IsJudged, IsPlan}
 
 some_same : {A : Type 0} (x y : A) → Some x ≡ Some y → x ≡ y
@@ -141,7 +142,7 @@ plan_same d e h number octets p same plan = record {
   turn = plan.turn;
   read = plan.read;
   named = plan.named;
-  kept = plan.kept ∙ ap (λ n. kept_of n plan.named) (sym same.audit_limit);
+  kept = plan.kept ∙ ap (λ n. kept_notes n plan.named) (sym same.audit_limit);
   judged = judged_same d e h (Message p.session.0 number octets) p.cuts.items _ _ same plan.judged;
   tallied_are = plan.tallied_are;
 }

@@ -10,7 +10,7 @@ use Rattle.policy_text.specs.Naming.{is_name}
 use Rattle.subscriber_stream.specs.declared.limits.TheConstants.{MOST_QUEUE, MOST_SHAPES}
 use Rattle.subscriber_stream.specs.declared.limits.StreamLimits.{StreamLimits}
 use Rattle.subscriber_stream.specs.Shapes.{shapes_of}
-use Rattle.subscriber_stream.specs.Parts.{parts, records_in}
+use Rattle.subscriber_stream.specs.Parts.{parts, records_of_parts}
 use Rattle.subscriber_stream.specs.Message.{built, place_after}
 use Rattle.disclosure_audit.specs.declared.audit.TheConstants.{MOST_ENTRIES as MOST_AUDITED}
 use Rattle.disclosure_audit.specs.declared.entry.AuditEntry.{AuditEntry}
@@ -31,7 +31,7 @@ use Rattle.mediator_state.specs.declared.fault.Fault.{Fault}
 use Rattle.mediator_state.specs.declared.fault.Fault.TheVariants as fault
 use Rattle.mediator_state.specs.declared.state.State.{State}
 use Rattle.mediator_state.specs.Standing.{Stands}
-use Rattle.mediator_state.specs.Seen.{place_of, waiting_of, IsUntouched}
+use Rattle.mediator_state.specs.Seen.{handed_place, waiting_of, IsUntouched}
 use Rattle.mediator_state.specs.Planning.{IsNext, RefusesMessage}
 use Rattle.mediator_state.specs.Accepting.{receipt_of}
 
@@ -238,8 +238,8 @@ RefusesUnsubscribe e limits h sub = (is_live sub h ≡ true) × LacksRoomAfter e
 -- the message built at the place up to which the parts of what is disclosed were handed out, which then moves past it
 pub record PullsAfter (old new : Engine) (sub now target : ℕ) (answer : Option (List ℕ)) (h : List Entry) : Type 0 where
   pub live : is_live sub h ≡ true
-  pub message : answer ≡ built (disclosed sub h) (place_of old sub) now target
-  pub moved : place_of new sub ≡ place_after (disclosed sub h) (place_of old sub) target
+  pub message : answer ≡ built (disclosed sub h) (handed_place old sub) now target
+  pub moved : handed_place new sub ≡ place_after (disclosed sub h) (handed_place old sub) target
 
 abbrev pub RefusesPull : Fault → List Entry → ℕ → Type 0
 RefusesPull fault.UnknownSub h sub = is_live sub h ≡ false
@@ -249,7 +249,7 @@ RefusesPull _ h sub = ⊥
 -- what waits, what was handed out, the templates, and whether it was cut
 pub record IsStatus (h : List Entry) (sub place : ℕ) (s : Status) : Type 0 where
   pub live : is_live sub h ≡ true
-  pub queued : s.queued ≡ length (records_in (drop place (parts (disclosed sub h))))
-  pub handed : s.handed ≡ length (records_in (take place (parts (disclosed sub h))))
+  pub queued : s.queued ≡ length (records_of_parts (drop place (parts (disclosed sub h))))
+  pub handed : s.handed ≡ length (records_of_parts (take place (parts (disclosed sub h))))
   pub shapes : s.shapes ≡ length (shapes_of (disclosed sub h))
   pub cut : s.cut ≡ not (is_served sub h)

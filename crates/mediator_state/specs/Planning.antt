@@ -24,7 +24,7 @@ use Rattle.mediator_shares.specs.InForce.{InForce}
 use Rattle.mediator_tables.specs.SubscriptionTable.{shown}
 use Rattle.mediator_tables.specs.Adding.{tallied}
 use Rattle.mediator_shares.specs.Sharing.{share_of}
-use Rattle.mediator_shares.specs.Noting.{kept_of}
+use Rattle.mediator_shares.specs.Noting.{kept_notes}
 use Rattle.mediator_tables.specs.declared.open_session.OpenSession.{OpenSession}
 use Rattle.mediator_tables.specs.SubscriptionTable.{SubscriptionRows, at, lacks_room_at}
 use Rattle.prepared_message.specs.Preparation.{Preparation, AgreesWith}
@@ -73,7 +73,7 @@ pub record IsJudged (e : Engine) (h : List Entry) (entry : Entry) (cuts : List �
 -- and this it names, of which is kept what the audit may hold
 pub record IsJudgedAs (e : Engine) (h : List Entry) (entry : Entry) (j : Judged) : Type 0 where
   pub named : List Note
-  pub kept : j.notes ≡ kept_of e.audit.limit named
+  pub kept : j.notes ≡ kept_notes e.audit.limit named
   pub judged : IsJudged e h entry j.cuts.items (map shown j.shares.items) (map (stamp j.position) named)
   pub tallied_are : AreTallied (after_cuts h j.cuts.items) entry (map tallied j.tallies.items)
 
@@ -86,7 +86,7 @@ pub record IsPlan (e : Engine) (h : List Entry) (number : ℕ) (octets : List �
   pub turn : number ≡ length (messages_of p.session.0 h)
   pub read : IsReadingOf (messages_of p.session.0 h) octets p.reading
   pub named : List Note
-  pub kept : p.notes ≡ kept_of e.audit.limit named
+  pub kept : p.notes ≡ kept_notes e.audit.limit named
   pub judged : IsJudged e h (Message p.session.0 number octets) p.cuts.items (map shown p.shares.items) (map (stamp p.position) named)
   pub tallied_are : AreTallied (after_cuts h p.cuts.items) (Message p.session.0 number octets) (map tallied p.tallies.items)
 

@@ -7,10 +7,10 @@ use Rattle.policy_text.specs.Results.{is_memory}
 use Rattle.mediator_state.specs.declared.fault.Fault.{Fault}
 use Rattle.mediator_state.specs.declared.fault.Fault.TheVariants.{Malformed, Policy, OutOfMemory}
 
-abbrev pub refusal_of : ReadError → Fault
-refusal_of read.OutOfMemory = OutOfMemory
-refusal_of (read.Malformed why) = Malformed (read.Malformed why)
-refusal_of read.RecordOverrun = Malformed read.RecordOverrun
+abbrev pub reading_refusal : ReadError → Fault
+reading_refusal read.OutOfMemory = OutOfMemory
+reading_refusal (read.Malformed why) = Malformed (read.Malformed why)
+reading_refusal read.RecordOverrun = Malformed read.RecordOverrun
 
 -- want of memory is no fault of a policy
 abbrev pub policy_refusal : PolicyFault → Fault

@@ -15,8 +15,8 @@ place_in None = 0
 place_in (Some s) = place s.stream.standing
 
 -- the place up to which a live subscription's parts were handed out
-abbrev pub place_of : Engine → ℕ → ℕ
-place_of e sub = place_in (at e.subscriptions sub)
+abbrev pub handed_place : Engine → ℕ → ℕ
+handed_place e sub = place_in (at e.subscriptions sub)
 
 abbrev pub waiting_in : Option Subscription → ℕ
 waiting_in None = 0
@@ -28,7 +28,7 @@ waiting_of e sub = waiting_in (at e.subscriptions sub)
 
 -- nothing is handed out or drained, and the limits stay
 pub record IsUntouched (old new : Engine) : Type 0 where
-  pub places : (sub : ℕ) → place_of new sub ≡ place_of old sub
+  pub places : (sub : ℕ) → handed_place new sub ≡ handed_place old sub
   pub drained : new.audit.standing.drained ≡ old.audit.standing.drained
   pub limits : new.limits ≡ old.limits
   pub audit_limit : new.audit.limit ≡ old.audit.limit

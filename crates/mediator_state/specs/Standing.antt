@@ -17,6 +17,7 @@ use Rattle.mediator_history.specs.Subscriptions.{policy_in_force, edits_made, na
 use Rattle.mediator_history.specs.Counting.{clock_of, counted, running}
 use Rattle.mediator_history.specs.Disclosed.{disclosed}
 use Rattle.mediator_history.specs.Auditing.{audit_list}
+use Rattle.mediator_tables.specs.Sessions.{IsSession, IsUnopened}
 use Rattle.mediator_tables.specs.GroupTable.{groups_at}
 use Rattle.mediator_tables.specs.declared.open_session.OpenSession.{OpenSession}
 use Rattle.mediator_tables.specs.declared.subscription.Subscription.{Subscription}
@@ -27,11 +28,6 @@ use Rattle.mediator_state.specs.Ascending.{Ascend}
 -- the place up to which a stream's parts were handed out
 abbrev pub place : StreamStanding → ℕ
 place s = s.handed + s.announced
-
--- the session is open, and stands for its messages; or it isn't
-abbrev pub IsSession : List Entry → ℕ → Option OpenSession → Type 0
-IsSession h session None = is_open session h ≡ false
-IsSession h session (Some o) = (is_open session h ≡ true) × (o.accepted ≡ length (messages_of session h)) × StandsFor o.session (messages_of session h)
 
 -- the subscription is live, and its stream stands in what is disclosed to it
 pub record IsSubscription (h : List Entry) (limits : StreamLimits) (sub : ℕ) (s : Subscription) : Type 0 where
@@ -45,11 +41,6 @@ pub record IsSubscription (h : List Entry) (limits : StreamLimits) (sub : ℕ) (
 abbrev pub IsLiveAs : List Entry → StreamLimits → ℕ → Option Subscription → Type 0
 IsLiveAs h limits sub None = is_live sub h ≡ false
 IsLiveAs h limits sub (Some s) = IsSubscription h limits sub s
-
--- a session that was never opened
-pub record IsUnopened (h : List Entry) (session : ℕ) : Type 0 where
-  pub closed : is_open session h ≡ false
-  pub silent : messages_of session h ≡ []
 
 -- a subscription that never began
 pub record IsUnbegun (h : List Entry) (sub : ℕ) : Type 0 where

@@ -79,7 +79,7 @@ impl Drop for Engine {
 impl Engine {
     ghost use Rattle.mediator_tables.specs.SubscriptionTable.{at};
     ghost use Rattle.mediator_state.specs.Standing.{Stands, GoesOnWith, StandsSomewhere, HasHistory, AreEngineLimits};
-    ghost use Rattle.mediator_state.specs.Seen.{IsSameEngine, IsUntouched, place_of};
+    ghost use Rattle.mediator_state.specs.Seen.{IsSameEngine, IsUntouched, handed_place};
     ghost use Rattle.mediator_state.specs.Calls.{IsSnapshot, RefusesSnapshot};
     ghost use Rattle.std.specs.Prelude.{IfErr};
 
@@ -291,7 +291,7 @@ impl Engine {
 
 impl Engine {
     ghost use Rattle.mediator_state.specs.Standing.{Stands, GoesOnWith};
-    ghost use Rattle.mediator_state.specs.Seen.{place_of};
+    ghost use Rattle.mediator_state.specs.Seen.{handed_place};
     ghost use Rattle.mediator_tables.specs.SubscriptionTable.{cut_off};
     ghost use Rattle.std.specs.Prelude.{filter, if◌then◌else◌, ◌==◌};
     ghost use Rattle.std.specs.Option.{option_map};
@@ -302,7 +302,7 @@ impl Engine {
     pub(crate) fn unsubscribe(&mut self, sub: SubId)
         ensures stands { GoesOnWith (Unsubscribe sub.0 ∷ []) self.old self.new }
         // Other subscriptions keep their places, and the audit and the limits stay.
-        ensures others { (q : ℕ) → q ≢ sub.0 → place_of self.new q ≡ place_of self.old q }
+        ensures others { (q : ℕ) → q ≢ sub.0 → handed_place self.new q ≡ handed_place self.old q }
         ensures drained { self.new.audit.standing.drained ≡ self.old.audit.standing.drained }
         ensures limits { self.new.limits ≡ self.old.limits }
         ensures audit_limit { self.new.audit.limit ≡ self.old.audit.limit }

@@ -87,10 +87,10 @@ impl From<AllocError> for Fault {
 }
 
 impl From<ReadError> for Fault {
-    ghost use Rattle.mediator_state.specs.Refusals.{refusal_of};
+    ghost use Rattle.mediator_state.specs.Refusals.{reading_refusal};
     ghost use Rattle.std.specs.Prelude.{◌≡◌};
 
-    ghost from_gives = { λ r e. e ≡ refusal_of r };
+    ghost from_gives = { λ r e. e ≡ reading_refusal r };
 
     fn from(fault: ReadError) -> Fault {
         match fault {

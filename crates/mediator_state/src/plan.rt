@@ -9,7 +9,7 @@ ghost use Rattle.event_journal.specs.declared.entry.Entry.{Entry};
 ghost use Rattle.mediator_tables.specs.SubscriptionTable.{shown};
 ghost use Rattle.mediator_tables.specs.Adding.{tallied};
 ghost use Rattle.mediator_shares.specs.Sharing.{shares_of, tallies_of, notes_of};
-ghost use Rattle.mediator_shares.specs.Noting.{kept_of};
+ghost use Rattle.mediator_shares.specs.Noting.{kept_notes};
 ghost use Rattle.mediator_shares.specs.Judgements.{IsJudgementOf};
 ghost use Rattle.std.specs.List.{AllByRecursion};
 ghost use Rattle.mediator_state.specs.Planning.{AreStreamed};
@@ -233,7 +233,7 @@ fn shares_of_all(
     ensures tallies { IfOk result (λ s.
         map tallied s.tallies.items ≡ tallies_of domain in_force.old records.now served.now) }
     ensures notes { IfOk result (λ s.
-        s.notes ≡ kept_of most (notes_of domain in_force.old records.now served.now)) }
+        s.notes ≡ kept_notes most (notes_of domain in_force.old records.now served.now)) }
     // The policy and the clock stay.
     ensures unchanged { in_force.new ≡ in_force.old }
 {
@@ -325,14 +325,14 @@ fn share_left(
     requires tallies { cuts.now ≡ []
         → map tallied all.tallies.items ≡ tallies_of domain in_force.old records.now left.now }
     requires notes { cuts.now ≡ []
-        → all.notes ≡ kept_of most (notes_of domain in_force.old records.now left.now) }
+        → all.notes ≡ kept_notes most (notes_of domain in_force.old records.now left.now) }
     // What the definitions give of these records, for each subscription.
     ensures shares { IfOk result (λ s.
         map shown s.shares.items ≡ shares_of domain in_force.old records.now left.now) }
     ensures tallies { IfOk result (λ s.
         map tallied s.tallies.items ≡ tallies_of domain in_force.old records.now left.now) }
     ensures notes { IfOk result (λ s.
-        s.notes ≡ kept_of most (notes_of domain in_force.old records.now left.now)) }
+        s.notes ≡ kept_notes most (notes_of domain in_force.old records.now left.now)) }
     // The policy and the clock stay.
     ensures unchanged { in_force.new ≡ in_force.old }
 {

@@ -169,7 +169,7 @@ impl<C: Chronicle + Drop> State<C> {
 
 impl<C: Chronicle + Drop> State<C> {
     ghost use Rattle.mediator_state.specs.Calls.{StandsForSome, ForEachHistory, GoesOnBy, Proceeds, StaysSame, ReceivesAfter, RefusesReceiveAfter, RefusesReceivePreparedAfter, IsSnapshot, RefusesSnapshot, EditsAfter, RefusesEdit, SubscribesAfter, RefusesSubscribe, UnsubscribesAfter, RefusesUnsubscribe, AdvancesAfter, RefusesAdvanceAfter};
-    ghost use Rattle.mediator_state.specs.Seen.{place_of};
+    ghost use Rattle.mediator_state.specs.Seen.{handed_place};
     ghost use Rattle.mediator_state.specs.Planning.{IsNextReading};
 
     /// Accepts `message` as the next one of the session with the number `session`. `number` is to be how many messages
@@ -428,7 +428,7 @@ impl<C: Chronicle + Drop> State<C> {
         ensures ok { OnOk result (GoesOnBy C.tells C.limits self.old self.new
             (UnsubscribesAfter sub.0)) }
         ensures others { (q : ℕ) → q ≢ sub.0
-            → place_of self.new.engine q ≡ place_of self.old.engine q }
+            → handed_place self.new.engine q ≡ handed_place self.old.engine q }
         ensures drained { self.new.engine.audit.standing.drained
             ≡ self.old.engine.audit.standing.drained }
         ensures journaled { C.limits self.new.chronicle ≡ C.limits self.old.chronicle }
@@ -500,7 +500,7 @@ impl<C: Chronicle + Drop> State<C> {
 
 impl<C: Chronicle + Drop> State<C> {
     ghost use Rattle.mediator_state.specs.Calls.{StateStandsFor, ForEachHistory, KeepsHistories, StaysSame, PullsAfter, RefusesPull, IsStatus};
-    ghost use Rattle.mediator_state.specs.Seen.{place_of};
+    ghost use Rattle.mediator_state.specs.Seen.{handed_place};
     ghost use Rattle.disclosure_audit.specs.Queue.{DrainsOldest};
 
     /// Builds the next message of the live subscription with the number `sub`, out of what waits for it; or answers
@@ -517,7 +517,7 @@ impl<C: Chronicle + Drop> State<C> {
         ensures ok { IfOk result (λ m. ForEachHistory C.tells self.old
             (PullsAfter self.old.engine self.new.engine sub.0 now target m)) }
         ensures others { (q : ℕ) → q ≢ sub.0
-            → place_of self.new.engine q ≡ place_of self.old.engine q }
+            → handed_place self.new.engine q ≡ handed_place self.old.engine q }
         ensures drained { self.new.engine.audit.standing.drained
             ≡ self.old.engine.audit.standing.drained }
         // The history stays in any case, and so do the limits of the journal.
@@ -541,7 +541,7 @@ impl<C: Chronicle + Drop> State<C> {
     /// no memory.
     pub fn status(&self, sub: SubId) -> Option<Status>
         ensures some { IfSome result (λ s. ForEachHistory C.tells self.now
-            (λ h. IsStatus h sub.0 (place_of self.now.engine sub.0) s)) }
+            (λ h. IsStatus h sub.0 (handed_place self.now.engine sub.0) s)) }
         ensures none { IfNone result (ForEachHistory C.tells self.now
             (λ h. is_live sub.0 h ≡ false)) }
     {
@@ -600,7 +600,7 @@ impl<C: Chronicle + Drop> State<C> {
         ensures ok { IfOk result (λ out. ForEachHistory C.tells self.old (λ h.
             (out.items ≡ take most (drop self.old.engine.audit.standing.drained (audit_list h)))
             × StateStandsFor C.tells self.new h)) }
-        ensures places { (q : ℕ) → place_of self.new.engine q ≡ place_of self.old.engine q }
+        ensures places { (q : ℕ) → handed_place self.new.engine q ≡ handed_place self.old.engine q }
         ensures drained { IfOk result (λ out. self.new.engine.audit.standing.drained
             ≡ self.old.engine.audit.standing.drained + length out.items) }
         ensures journaled { C.limits self.new.chronicle ≡ C.limits self.old.chronicle }

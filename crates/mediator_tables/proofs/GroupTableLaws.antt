@@ -14,12 +14,12 @@ use Rattle.flow_aggregate.specs.declared.addition.Addition.{Addition}
 use Rattle.flow_aggregate.specs.declared.sums.Sums.{Sums}
 use Rattle.flow_aggregate.specs.Groups.{Group, Sample, group_of}
 use Rattle.flow_aggregate.specs.GroupOrder.{same_group, same_group-itself}
-use Rattle.flow_aggregate.specs.Running.{Entries, HeldGroups, nothing_held, places, SumsStand, sums_over, of_group}
+use Rattle.flow_aggregate.specs.Running.{Entries, HeldGroups, nothing_held, group_places, SumsStand, sums_over, of_group}
 use Rattle.flow_aggregate.specs.Counts.{count_of}
 use Rattle.flow_aggregate.specs.Additions.{AreReadyToAdd}
 use Rattle.flow_aggregate.specs.Closing.{closed_by}
 use Rattle.mediator_tables.specs.declared.ids.SubId.{SubId}
-use Rattle.mediator_tables.specs.GroupTable.{held_at, groups_at, IsHeldAt, is_kept}
+use Rattle.mediator_tables.specs.GroupTable.{held_at, groups_at, IsHeldAt, holds_groups}
 
 abbrev pub Table : Type 0
 Table = List (ℕ × HeldGroups)
@@ -233,7 +233,7 @@ closed_nowhere table sub t items counted none is stands =
 -- ---- of each subscription
 
 -- what is not kept is nothing
-pub none_kept : (h : HeldGroups) → is_kept h ≡ false → h ≡ nothing_held
+pub none_kept : (h : HeldGroups) → holds_groups h ≡ false → h ≡ nothing_held
 none_kept h none = by h.groups h.ready refl refl none where
   by : (gs : Entries) (rs : List Group) → h.groups ≡ gs → h.ready ≡ rs → nat_lt 0 (length (keys_of gs ++ rs)) ≡ false → h ≡ nothing_held
   by [] [] groups ready is = λ i. record { groups = groups i; ready = ready i }
@@ -242,7 +242,7 @@ none_kept h none = by h.groups h.ready refl refl none where
 
 -- what relates what is held before to what is after, where each was written and those that are nothing went
 module _ {F : Type 0} (T : F → ℕ → HeldGroups → Bool → HeldGroups → F → Type 0) (R : HeldGroups → HeldGroups → Type 0) (nothing : R nothing_held nothing_held) (f : F)
-    (says : (k : ℕ) (v : HeldGroups) (b : Bool) (w : HeldGroups) (g : F) → T f k v b w g → (b ≡ is_kept w) × R v w × (g ≡ f)) where
+    (says : (k : ℕ) (v : HeldGroups) (b : Bool) (w : HeldGroups) (g : F) → T f k v b w g → (b ≡ holds_groups w) × R v w × (g ≡ f)) where
   gone : (es kept : Table) → RetainsPairs T f es kept → (q : ℕ) → AllByRecursion (λ k. eqb q k ≡ false) (keys_of es) → lookup (eqb q) kept ≡ None
   gone [] kept ran q apart = ap (lookup (eqb q)) ran
   gone (e ∷ es) kept ran q apart =
@@ -263,7 +263,7 @@ module _ {F : Type 0} (T : F → ℕ → HeldGroups → Bool → HeldGroups → 
       let rest = all_written es ran.3 distinct.1 left q in
       subst (λ (gs : Table). R (held_at (e ∷ es) q) (held_at gs q)) (sym ran.6) (by ran.0 (eqb q e.0) refl (sym s.0) s.1 rest left)
     where
-      by : (b same : Bool) → eqb q e.0 ≡ same → is_kept ran.1 ≡ b → R e.1 ran.1 → R (held_at es q) (held_at ran.3 q) → RetainsPairs T f es ran.3
+      by : (b same : Bool) → eqb q e.0 ≡ same → holds_groups ran.1 ≡ b → R e.1 ran.1 → R (held_at es q) (held_at ran.3 q) → RetainsPairs T f es ran.3
           → R (held_at (e ∷ es) q) (held_at (cond b ((e.0, ran.1) ∷ ran.3) ran.3) q)
       by true true is kept here rest left =
           subst (λ c. R (unwrap_or (cond c (Some e.1) (lookup (eqb q) es)) nothing_held) (unwrap_or (cond c (Some ran.1) (lookup (eqb q) ran.3)) nothing_held)) (sym is) here

@@ -14,7 +14,7 @@ use Rattle.ipfix_template.specs.DataRecord.{DataRecord}
 use Rattle.ipfix_session.specs.Keeping.{at_key}
 use Rattle.mediator_tables.specs.declared.subscription.Subscription.{Subscription}
 use Rattle.mediator_tables.specs.SubscriptionTable.{SeenSubscription, seen_subscription, SameLive, Related, TakesGiven, HasName}
-use Rattle.mediator_tables.specs.Naming.{AreNamed, name_at}
+use Rattle.mediator_tables.specs.Naming.{AreNamed, name_of_sub}
 
 -- the same names
 pub named_same : (numbers numbers2 : List ℕ → Option ℕ) (names names2 : ℕ → Option (List ℕ)) → ((n : List ℕ) → numbers2 n ≡ numbers n) → ((q : ℕ) → names2 q ≡ names q)
@@ -96,7 +96,7 @@ name_seen : (o : Option Subscription) → option_map (λ (v : SeenSubscription).
 name_seen None = refl
 name_seen (Some s) = refl
 
-pub names_seen : (es es2 : List (ℕ × Subscription)) → SameLive es es2 → (q : ℕ) → name_at es2 q ≡ name_at es q
+pub names_seen : (es es2 : List (ℕ × Subscription)) → SameLive es es2 → (q : ℕ) → name_of_sub es2 q ≡ name_of_sub es q
 names_seen es es2 same q = sym (name_seen (at_key q es2)) ∙ ap (option_map (λ (v : SeenSubscription). v.name)) (same q) ∙ name_seen (at_key q es)
 
 pub name_given : (more : List DataRecord) (o p : Option Subscription) → Related (TakesGiven more) o p → name_in p ≡ name_in o
@@ -110,7 +110,7 @@ name_put true s o = refl
 name_put false s o = refl
 
 pub names_more : (es es2 : List (ℕ × Subscription)) (sub : ℕ) (s : Subscription) → ((q : ℕ) → at_key q es2 ≡ cond (eqb q sub) (Some s) (at_key q es))
-    → (q : ℕ) → name_at es2 q ≡ cond (eqb q sub) (Some s.name) (name_at es q)
+    → (q : ℕ) → name_of_sub es2 q ≡ cond (eqb q sub) (Some s.name) (name_of_sub es q)
 names_more es es2 sub s puts q = ap name_in (puts q) ∙ name_put (eqb q sub) s (at_key q es)
 
 name_out : (here : Bool) (o : Option Subscription) → name_in (cond here None o) ≡ cond here None (name_in o)
@@ -130,29 +130,29 @@ at_is sub q =
     let tied : is_at (nat_cmp sub) q ≡ eqb sub q = unsigned_tied sub q in
     tied ∙ turned sub q
 
-pub names_less : (es es2 : List (ℕ × Subscription)) (sub : ℕ) → ((q : ℕ) → at_key q es2 ≡ cond (is_at (nat_cmp sub) q) None (at_key q es)) → (q : ℕ) → name_at es2 q ≡ cond (eqb q sub) None (name_at es q)
-names_less es es2 sub takes q = ap name_in (takes q) ∙ name_out (is_at (nat_cmp sub) q) (at_key q es) ∙ ap (λ (here : Bool). cond here None (name_at es q)) (at_is sub q)
+pub names_less : (es es2 : List (ℕ × Subscription)) (sub : ℕ) → ((q : ℕ) → at_key q es2 ≡ cond (is_at (nat_cmp sub) q) None (at_key q es)) → (q : ℕ) → name_of_sub es2 q ≡ cond (eqb q sub) None (name_of_sub es q)
+names_less es es2 sub takes q = ap name_in (takes q) ∙ name_out (is_at (nat_cmp sub) q) (at_key q es) ∙ ap (λ (here : Bool). cond here None (name_of_sub es q)) (at_is sub q)
 
 names_written : (es es2 : List (ℕ × Subscription)) (sub : ℕ) (s t : Subscription) → Some s ≡ at_key sub es → t.name ≡ s.name → ((q : ℕ) → at_key q es2 ≡ cond (is_at (nat_cmp sub) q) (Some t) (at_key q es))
-    → (q : ℕ) → name_at es2 q ≡ name_at es q
+    → (q : ℕ) → name_of_sub es2 q ≡ name_of_sub es q
 names_written es es2 sub s t there same written q = ap name_in (written q) ∙ by (is_at (nat_cmp sub) q) refl
   where
-    by : (here : Bool) → is_at (nat_cmp sub) q ≡ here → name_in (cond here (Some t) (at_key q es)) ≡ name_at es q
+    by : (here : Bool) → is_at (nat_cmp sub) q ≡ here → name_in (cond here (Some t) (at_key q es)) ≡ name_of_sub es q
     by true is =
         let one : q ≡ sub = eqb-true q sub (sym (at_is sub q) ∙ is) in
-        ap (λ (n : List ℕ). Some n) same ∙ ap name_in there ∙ ap (λ (k : ℕ). name_at es k) (sym one)
+        ap (λ (n : List ℕ). Some n) same ∙ ap name_in there ∙ ap (λ (k : ℕ). name_of_sub es k) (sym one)
     by false is = refl
 
 -- the names stay tied where one is written over by one of the same name
 pub named_written : (numbers : List ℕ → Option ℕ) (m n : BTreeMap ℕ Subscription) (sub : ℕ) (s t : Subscription) → Some s ≡ at_key sub m.entries → t.name ≡ s.name → WritesThrough nat_cmp (nat_cmp sub) m t n
-    → AreNamed numbers (name_at m.entries) → AreNamed numbers (name_at n.entries)
+    → AreNamed numbers (name_of_sub m.entries) → AreNamed numbers (name_of_sub n.entries)
 named_written numbers m n sub s t there same written so =
     let found : IsSome (at_key sub m.entries) = subst (λ (o : Option Subscription). IsSome o) there refl in
-    named_same numbers numbers (name_at m.entries) (name_at n.entries) (λ k. refl) (names_written m.entries n.entries sub s t there same (written.3 found).0) so
+    named_same numbers numbers (name_of_sub m.entries) (name_of_sub n.entries) (λ k. refl) (names_written m.entries n.entries sub s t there same (written.3 found).0) so
 
 -- so they do where nothing was lent
-pub named_unwritten : (numbers : List ℕ → Option ℕ) (m n : BTreeMap ℕ Subscription) → n ≡ m → AreNamed numbers (name_at m.entries) → AreNamed numbers (name_at n.entries)
-named_unwritten numbers m n same so = subst (λ (k : BTreeMap ℕ Subscription). AreNamed numbers (name_at k.entries)) (sym same) so
+pub named_unwritten : (numbers : List ℕ → Option ℕ) (m n : BTreeMap ℕ Subscription) → n ≡ m → AreNamed numbers (name_of_sub m.entries) → AreNamed numbers (name_of_sub n.entries)
+named_unwritten numbers m n same so = subst (λ (k : BTreeMap ℕ Subscription). AreNamed numbers (name_of_sub k.entries)) (sym same) so
 
 pub name_free : (name : List ℕ) (o : Option Subscription) → IfSome o (λ s. s.name ≢ name) → name_in o ≡ Some name → ⊥
 name_free name None free is = none-some name is
@@ -164,7 +164,7 @@ has_name : (name : List ℕ) (o : Option Subscription) → name_in o ≡ Some na
 has_name name None is = none-some name is
 has_name name (Some s) is = same_Some s.name name is
 
-pub named_found : (numbers : List ℕ → Option ℕ) (es : List (ℕ × Subscription)) (name : List ℕ) (found : Option ℕ) → found ≡ numbers name → AreNamed numbers (name_at es)
+pub named_found : (numbers : List ℕ → Option ℕ) (es : List (ℕ × Subscription)) (name : List ℕ) (found : Option ℕ) → found ≡ numbers name → AreNamed numbers (name_of_sub es)
     → IfSome found (λ sub. IsSomeAnd (at_key sub es) (HasName name))
 named_found numbers es name None is so = tt
 named_found numbers es name (Some sub) is so = has_name name (at_key sub es) (so.only sub name (sym is))
@@ -173,7 +173,7 @@ other_named : (name : List ℕ) (o : Option Subscription) → (name_in o ≡ Som
 other_named name None apart = tt
 other_named name (Some s) apart = λ same. apart (ap (λ (n : List ℕ). Some n) same)
 
-pub named_none : (numbers : List ℕ → Option ℕ) (es : List (ℕ × Subscription)) (name : List ℕ) (found : Option ℕ) → found ≡ numbers name → AreNamed numbers (name_at es)
+pub named_none : (numbers : List ℕ → Option ℕ) (es : List (ℕ × Subscription)) (name : List ℕ) (found : Option ℕ) → found ≡ numbers name → AreNamed numbers (name_of_sub es)
     → IfNone found ((sub : ℕ) → IfSome (at_key sub es) (λ s. s.name ≢ name))
 named_none numbers es name None is so = λ sub. other_named name (at_key sub es) (λ has. none-some sub (is ∙ so.each sub name has))
 named_none numbers es name (Some sub) is so = tt

@@ -14,3 +14,4 @@ pub mod GroupTable
 pub mod Adding
 pub mod SubscriptionTable
 pub mod Naming
+pub mod Sessions

@@ -8,12 +8,12 @@ use Rattle.mediator_tables.specs.declared.names.Names.{Names}
 use Rattle.mediator_tables.specs.SubscriptionTable.{Related}
 
 -- the number under a name
-abbrev pub number_of : Names → List ℕ → Option ℕ
-number_of names name = get_by_text names.by_name name
+abbrev pub number_under : Names → List ℕ → Option ℕ
+number_under names name = get_by_text names.by_name name
 
 -- the name of the subscription with this number
-abbrev pub name_at : List (ℕ × Subscription) → ℕ → Option (List ℕ)
-name_at live sub = option_map (λ s. s.name) (at_key sub live)
+abbrev pub name_of_sub : List (ℕ × Subscription) → ℕ → Option (List ℕ)
+name_of_sub live sub = option_map (λ s. s.name) (at_key sub live)
 
 -- each subscription's name has its number, and each number is that of a subscription with the name
 pub record AreNamed (numbers : List ℕ → Option ℕ) (names : ℕ → Option (List ℕ)) : Type 0 where

@@ -3,11 +3,11 @@ ghost use Rattle.std.specs.Prelude.{◌≡◌, ◌≢◌, ◌≤◌, ◌+◌, �
 ghost use Rattle.std.specs.List.{AllByRecursion, IsDistinct};
 ghost use Rattle.std.specs.Map.{keys_of};
 ghost use Rattle.flow_aggregate.specs.Groups.{Sample};
-ghost use Rattle.flow_aggregate.specs.Running.{places, nothing_held, SumsStand, staying, HeldGroups};
+ghost use Rattle.flow_aggregate.specs.Running.{group_places, nothing_held, SumsStand, staying, HeldGroups};
 ghost use Rattle.flow_aggregate.specs.Counts.{Count, count_of};
 ghost use Rattle.flow_aggregate.specs.Additions.{AreReadyToAdd};
 ghost use Rattle.flow_aggregate.specs.Closing.{record_of, closed_by};
-ghost use Rattle.mediator_tables.specs.GroupTable.{held_at, groups_at, IsHeldAt, is_kept};
+ghost use Rattle.mediator_tables.specs.GroupTable.{held_at, groups_at, IsHeldAt, holds_groups};
 ghost use Rattle.mediator_tables.specs.Adding.{tallied, reserved_for, IsReadyFor, AllReady, NoneTwice, AreCountable, added_to};
 
 use crate::ids::SubId;
@@ -53,7 +53,7 @@ impl Model for RunningGroups {
 
     ghost view = { λ r. r.by_number.entries };
 
-    // No subscription has two places.
+    // No subscription has two group_places.
     ghost invariant = { λ r. IsDistinct eqb (keys_of r.by_number.entries) };
 }
 
@@ -79,7 +79,7 @@ impl RunningGroups {
     /// How many groups are kept for the subscription `sub`, with those that were made for what is
     /// yet to be added. There are no more than records that count or are to be added.
     pub fn len(&self, sub: SubId) -> usize
-        ensures value { result ≡ length (places (held_at self.now sub.0)) }
+        ensures value { result ≡ length (group_places (held_at self.now sub.0)) }
         ensures few { (counted : List Sample) → SumsStand (groups_at self.now sub.0) counted
             → result ≤ length counted + length (held_at self.now sub.0).ready }
     {
@@ -134,7 +134,7 @@ impl RunningGroups {
     {
         self.by_number.retain(
             |_sub: &u64, groups: &mut Running| -> bool
-                ensures { (result ≡ is_kept groups.new)
+                ensures { (result ≡ holds_groups groups.new)
                     × (groups.new ≡ record { groups = groups.old.groups; ready = [] }) }
             {
                 groups.release();
@@ -190,7 +190,7 @@ impl RunningGroups {
     {
         self.by_number.retain(
             |_sub: &u64, groups: &mut Running| -> bool
-                ensures { (result ≡ is_kept groups.new)
+                ensures { (result ≡ holds_groups groups.new)
                     × ((counted : List Sample) → SumsStand groups.old.groups counted
                     → SumsStand groups.new.groups (staying t counted)) × (groups.new.ready ≡ []) }
             {

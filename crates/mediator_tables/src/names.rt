@@ -13,7 +13,7 @@ pub(crate) struct Names {
 }
 
 impl Names {
-    ghost use Rattle.mediator_tables.specs.Naming.{number_of};
+    ghost use Rattle.mediator_tables.specs.Naming.{number_under};
 
     /// No name. What comes to be kept is in memory from `alloc`.
     pub(crate) fn new(alloc: Global) -> Names
@@ -26,7 +26,7 @@ impl Names {
 
     /// The number under `name`, or `None`.
     pub(crate) fn get(&self, name: &str) -> Option<u64>
-        ensures { result ≡ number_of self.now name.now }
+        ensures { result ≡ number_under self.now name.now }
     {
         self.by_name.get(name).copied()
     }
@@ -37,7 +37,7 @@ impl Names {
     /// Want of memory, and then nothing has changed.
     pub(crate) fn insert(&mut self, alloc: Global, name: &str, sub: u64) -> Result<(), AllocError>
         ensures ok { OnOk result ((n : List ℕ)
-            → number_of self.new n ≡ update bytes_eq (number_of self.old) name.now (Some sub) n) }
+            → number_under self.new n ≡ update bytes_eq (number_under self.old) name.now (Some sub) n) }
         ensures err { OnErr result (self.new.by_name.entries ≡ self.old.by_name.entries) }
     {
         let key = String::from_str(alloc, name)?;
@@ -48,7 +48,7 @@ impl Names {
     /// Takes out `name` with its number, if it is there. It takes no memory.
     pub(crate) fn remove(&mut self, name: &str)
         ensures { (n : List ℕ)
-            → number_of self.new n ≡ update bytes_eq (number_of self.old) name.now None n }
+            → number_under self.new n ≡ update bytes_eq (number_under self.old) name.now None n }
     {
         let _ = self.by_name.remove(name);
     }

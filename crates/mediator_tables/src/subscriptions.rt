@@ -47,11 +47,11 @@ impl Model for Subscriptions {
 
     ghost Value = { SubscriptionRows };
 
-    ghost use Rattle.mediator_tables.specs.Naming.{AreNamed, number_of, name_at};
+    ghost use Rattle.mediator_tables.specs.Naming.{AreNamed, number_under, name_of_sub};
 
     ghost view = { λ s. record { live = s.by_number.entries; served = s.served.items } };
 
-    ghost invariant = { λ s. AreNamed (number_of s.names) (name_at s.by_number.entries) };
+    ghost invariant = { λ s. AreNamed (number_under s.names) (name_of_sub s.by_number.entries) };
 }
 
 impl Subscriptions {

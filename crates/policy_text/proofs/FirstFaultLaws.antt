@@ -15,7 +15,7 @@ use Rattle.policy_text.specs.declared.version.Version.TheVariants.{One, Two}
 use Rattle.policy_text.specs.Words.{Word, words_of, lines_of, is_skipped}
 use Rattle.policy_text.specs.Policies.{PolicyMeaning, without_lines, with_rule, with_aggregate, Aggregate as Definition}
 use Rattle.policy_text.specs.Results.{at_line, then_read}
-use Rattle.policy_text.specs.Lines.{next_of, rule_of, aggregate_of, rule_line, aggregate_line, line_of}
+use Rattle.policy_text.specs.Lines.{next_of, rule_of, aggregate_of, rule_line, aggregate_line, policy_after_line}
 use Rattle.policy_text.specs.Parsing.{numbered_version, version_of, after_header, step, line_step, read_lines, policy_of}
 use Rattle.policy_text.specs.Grammar.{IsAggregate, IsPolicy}
 use Rattle.policy_text.specs.Printing.{version_word, header}
@@ -31,31 +31,31 @@ use Rattle.policy_text.proofs.KindLaws.{bound_err}
 use Rattle.policy_text.proofs.LinePlaceLaws.{rule_reads, aggregate_reads}
 
 -- lines that may stand are those that are read
-pub stands_read : (policy : PolicyMeaning) (words : List Word) → MayStand (Some policy) words → (new : PolicyMeaning) × (line_of policy words ≡ Ok new)
+pub stands_read : (policy : PolicyMeaning) (words : List Word) → MayStand (Some policy) words → (new : PolicyMeaning) × (policy_after_line policy words ≡ Ok new)
 stands_read policy words h = (h.0, line_of-only policy h.0 words h.1)
 
-pub read_stands : (policy new : PolicyMeaning) (words : List Word) → line_of policy words ≡ Ok new → MayStand (Some policy) words
+pub read_stands : (policy new : PolicyMeaning) (words : List Word) → policy_after_line policy words ≡ Ok new → MayStand (Some policy) words
 read_stands policy new words e = (new, line_of-found policy new words e)
 
 -- behind `rule`
-rule_room : (policy : PolicyMeaning) (words : List Word) → length policy.rules < 4096 → line_of policy (codes "rule" ∷ words) ≡ (rule_of policy.version policy.aggregates words >>= λ r. Ok (with_rule policy r))
-unfolding line_of next_of rule_line
+rule_room : (policy : PolicyMeaning) (words : List Word) → length policy.rules < 4096 → policy_after_line policy (codes "rule" ∷ words) ≡ (rule_of policy.version policy.aggregates words >>= λ r. Ok (with_rule policy r))
+unfolding policy_after_line next_of rule_line
 rule_room policy words room = rw (lt-leb 4096 (length policy.rules) room) refl
 
-rule_full : (policy : PolicyMeaning) (words : List Word) → 4096 ≤ length policy.rules → line_of policy (codes "rule" ∷ words) ≡ Err TooMany
-unfolding line_of next_of rule_line
+rule_full : (policy : PolicyMeaning) (words : List Word) → 4096 ≤ length policy.rules → policy_after_line policy (codes "rule" ∷ words) ≡ Err TooMany
+unfolding policy_after_line next_of rule_line
 rule_full policy words full = rw (le-leb 4096 (length policy.rules) full) refl
 
-aggregate_room : (policy : PolicyMeaning) (words : List Word) → length policy.aggregates < 256 → line_of policy (codes "aggregate" ∷ words) ≡ (aggregate_of policy.aggregates words >>= λ a. Ok (with_aggregate policy a))
-unfolding line_of next_of aggregate_line
+aggregate_room : (policy : PolicyMeaning) (words : List Word) → length policy.aggregates < 256 → policy_after_line policy (codes "aggregate" ∷ words) ≡ (aggregate_of policy.aggregates words >>= λ a. Ok (with_aggregate policy a))
+unfolding policy_after_line next_of aggregate_line
 aggregate_room policy words room = rw (lt-leb 256 (length policy.aggregates) room) refl
 
-aggregate_full : (policy : PolicyMeaning) (words : List Word) → 256 ≤ length policy.aggregates → line_of policy (codes "aggregate" ∷ words) ≡ Err TooMany
-unfolding line_of next_of aggregate_line
+aggregate_full : (policy : PolicyMeaning) (words : List Word) → 256 ≤ length policy.aggregates → policy_after_line policy (codes "aggregate" ∷ words) ≡ Err TooMany
+unfolding policy_after_line next_of aggregate_line
 aggregate_full policy words full = rw (le-leb 256 (length policy.aggregates) full) refl
 
-unknown_word : (policy : PolicyMeaning) (word : Word) (words : List Word) → bytes_eq word (codes "rule") ≡ false → bytes_eq word (codes "aggregate") ≡ false → line_of policy (word ∷ words) ≡ Err UnknownWord
-unfolding line_of next_of
+unknown_word : (policy : PolicyMeaning) (word : Word) (words : List Word) → bytes_eq word (codes "rule") ≡ false → bytes_eq word (codes "aggregate") ≡ false → policy_after_line policy (word ∷ words) ≡ Err UnknownWord
+unfolding policy_after_line next_of
 unknown_word policy word words r a = rw (r, a) refl
 
 -- a rule's line begins with `rule`
@@ -96,7 +96,7 @@ rule_goes policy words room c =
     inr (later.0, a, later.2, read.0, read.1))
     c
 
-rule_of_line : (policy new : PolicyMeaning) (words : List Word) → length policy.rules < 4096 → line_of policy (codes "rule" ∷ words) ≡ Ok new → (r : Rule) × (rule_of policy.version policy.aggregates words ≡ Ok r)
+rule_of_line : (policy new : PolicyMeaning) (words : List Word) → length policy.rules < 4096 → policy_after_line policy (codes "rule" ∷ words) ≡ Ok new → (r : Rule) × (rule_of policy.version policy.aggregates words ≡ Ok r)
 rule_of_line policy new words room e =
     let read = bind_Ok (rule_of policy.version policy.aggregates words) (λ r. Ok (with_rule policy r)) new (sym (rule_room policy words room) ∙ e) in
     (read.0, read.1)
@@ -180,7 +180,7 @@ aggregate_fault policy words kind room p =
       kind_is = kind_behind (first_word policy.version) [] (codes "aggregate") p.front p.rest kind p.kind_is;
     }
 
-first_word_fault : (policy : PolicyMeaning) (word : Word) (words : List Word) (kind : FaultKind) → ((more : List Word) → line_of policy (word ∷ more) ≡ Err kind) → ((a : Definition) (more : List Word) (new : PolicyMeaning) → AddsRule (with_aggregate policy a) (word ∷ more) new → ⊥) → IsKindOf (first_word policy.version) word kind → IsLineFault (Some policy) (word ∷ words) kind
+first_word_fault : (policy : PolicyMeaning) (word : Word) (words : List Word) (kind : FaultKind) → ((more : List Word) → policy_after_line policy (word ∷ more) ≡ Err kind) → ((a : Definition) (more : List Word) (new : PolicyMeaning) → AddsRule (with_aggregate policy a) (word ∷ more) new → ⊥) → IsKindOf (first_word policy.version) word kind → IsLineFault (Some policy) (word ∷ words) kind
 first_word_fault policy word words kind fails no_rule kind_is = record {
   front = [];
   rest = word ∷ words;
@@ -189,14 +189,14 @@ first_word_fault policy word words kind fails no_rule kind_is = record {
   faulty = λ begins.
       ⊎_elim (λ (now : MayStand (Some policy) (word ∷ begins.0)).
       let read = stands_read policy (word ∷ begins.0) now in
-      ok_or_err (line_of policy (word ∷ begins.0)) kind read.0 (fails begins.0) read.1)
+      ok_or_err (policy_after_line policy (word ∷ begins.0)) kind read.0 (fails begins.0) read.1)
       (λ (later : AwaitsAggregate (Some policy) (word ∷ begins.0)). no_rule later.1 (begins.0 ++ later.1.name ∷ []) later.3 later.4)
       begins.1;
   kind_is = kind_is;
 }
 
 -- one line
-rule_line_fault : (policy : PolicyMeaning) (words : List Word) (kind : FaultKind) → IsPolicy policy → line_of policy (codes "rule" ∷ words) ≡ Err kind → IsLineFault (Some policy) (codes "rule" ∷ words) kind
+rule_line_fault : (policy : PolicyMeaning) (words : List Word) (kind : FaultKind) → IsPolicy policy → policy_after_line policy (codes "rule" ∷ words) ≡ Err kind → IsLineFault (Some policy) (codes "rule" ∷ words) kind
 rule_line_fault policy words kind valid e =
     ⊎_elim (λ (full : leb 4096 (length policy.rules) ≡ true).
     let many = leb-true 4096 (length policy.rules) full in
@@ -210,7 +210,7 @@ rule_line_fault policy words kind valid e =
     (bound_err (rule_of policy.version policy.aggregates words) (λ r. Ok (with_rule policy r)) kind (sym (rule_room policy words room) ∙ e)))
     (cases_Bool (leb 4096 (length policy.rules)))
 
-aggregate_line_fault : (policy : PolicyMeaning) (words : List Word) (kind : FaultKind) → line_of policy (codes "aggregate" ∷ words) ≡ Err kind → IsLineFault (Some policy) (codes "aggregate" ∷ words) kind
+aggregate_line_fault : (policy : PolicyMeaning) (words : List Word) (kind : FaultKind) → policy_after_line policy (codes "aggregate" ∷ words) ≡ Err kind → IsLineFault (Some policy) (codes "aggregate" ∷ words) kind
 aggregate_line_fault policy words kind e =
     ⊎_elim (λ (full : leb 256 (length policy.aggregates) ≡ true).
     let many = leb-true 256 (length policy.aggregates) full in
@@ -224,16 +224,16 @@ aggregate_line_fault policy words kind e =
     (bound_err (aggregate_of policy.aggregates words) (λ a. Ok (with_aggregate policy a)) kind (sym (aggregate_room policy words room) ∙ e)))
     (cases_Bool (leb 256 (length policy.aggregates)))
 
-other_line_fault : (policy : PolicyMeaning) (word : Word) (words : List Word) (kind : FaultKind) → bytes_eq word (codes "rule") ≡ false → bytes_eq word (codes "aggregate") ≡ false → line_of policy (word ∷ words) ≡ Err kind → IsLineFault (Some policy) (word ∷ words) kind
+other_line_fault : (policy : PolicyMeaning) (word : Word) (words : List Word) (kind : FaultKind) → bytes_eq word (codes "rule") ≡ false → bytes_eq word (codes "aggregate") ≡ false → policy_after_line policy (word ∷ words) ≡ Err kind → IsLineFault (Some policy) (word ∷ words) kind
 other_line_fault policy word words kind r a e =
     let same = same_Err UnknownWord kind (sym (unknown_word policy word words r a) ∙ e) in
     let P : FaultKind → Type 0 = λ k. IsLineFault (Some policy) (word ∷ words) k in
     subst P same (first_word_fault policy word words UnknownWord (λ more. unknown_word policy word more r a) (λ b more new adds. rule_first word more adds.tail r adds.words_are) (rw (r, a) refl))
 
-pub line_fault : (policy : PolicyMeaning) (words : List Word) (kind : FaultKind) → IsPolicy policy → is_skipped words ≡ false → line_of policy words ≡ Err kind → IsLineFault (Some policy) words kind
+pub line_fault : (policy : PolicyMeaning) (words : List Word) (kind : FaultKind) → IsPolicy policy → is_skipped words ≡ false → policy_after_line policy words ≡ Err kind → IsLineFault (Some policy) words kind
 line_fault policy [] kind valid counts e = absurd (false≢true (sym counts))
 line_fault policy (word ∷ words) kind valid counts e =
-    let P : Word → Type 0 = λ w. line_of policy (w ∷ words) ≡ Err kind → IsLineFault (Some policy) (w ∷ words) kind in
+    let P : Word → Type 0 = λ w. policy_after_line policy (w ∷ words) ≡ Err kind → IsLineFault (Some policy) (w ∷ words) kind in
     ⊎_elim (λ (t : bytes_eq word (codes "rule") ≡ true). subst P (sym ((bytes_eq-Decides word (codes "rule")).0 t)) (λ f. rule_line_fault policy words kind valid f) e)
     (λ (r : bytes_eq word (codes "rule") ≡ false).
     ⊎_elim (λ (t : bytes_eq word (codes "aggregate") ≡ true). subst P (sym ((bytes_eq-Decides word (codes "aggregate")).0 t)) (λ f. aggregate_line_fault policy words kind f) e)
@@ -387,16 +387,16 @@ lead_on p mid line h before (Some q) lead = (mid, h, lead)
 
 record LineFailed (p : PolicyMeaning) (line : List ℕ) (kind : FaultKind) : Type 0 where
   counts : is_skipped (words_of line) ≡ false
-  failed : line_of p (words_of line) ≡ Err kind
+  failed : policy_after_line p (words_of line) ≡ Err kind
 
 line_failed : (p : PolicyMeaning) (line : List ℕ) (kind : FaultKind) → line_step (Some p) line ≡ Err kind → LineFailed p line kind
 unfolding line_step step
 line_failed p line kind e =
     ⊎_elim (λ (skip : is_skipped (words_of line) ≡ true). absurd (Err-Ok kind (Some p) (sym (rw skip at e))))
     (λ (kept : is_skipped (words_of line) ≡ false).
-    ⊎_elim (λ (failed : line_of p (words_of line) ≡ Err kind). record { counts = kept; failed = failed })
-    (λ (read : (q : PolicyMeaning) × (line_of p (words_of line) ≡ Ok q) × (Ok (Some q) ≡ Err kind)). absurd (Err-Ok kind (Some read.0) (sym read.2)))
-    (bound_err (line_of p (words_of line)) (λ q. Ok (Some q)) kind (rw kept at e)))
+    ⊎_elim (λ (failed : policy_after_line p (words_of line) ≡ Err kind). record { counts = kept; failed = failed })
+    (λ (read : (q : PolicyMeaning) × (policy_after_line p (words_of line) ≡ Ok q) × (Ok (Some q) ≡ Err kind)). absurd (Err-Ok kind (Some read.0) (sym read.2)))
+    (bound_err (policy_after_line p (words_of line)) (λ q. Ok (Some q)) kind (rw kept at e)))
     (cases_Bool (is_skipped (words_of line)))
 
 lines_by : (p : PolicyMeaning) (n : ℕ) (line : List ℕ) (lines : List (List ℕ)) (fault : Fault) → IsPolicy p → ((q : PolicyMeaning) → IsPolicy q → read_lines (Some q) (n + 1) lines ≡ Err fault → FaultIn (LeadTo q) (n + 1) lines fault) → (r : Result (Option PolicyMeaning) FaultKind) → line_step (Some p) line ≡ r → then_read (at_line n r) (λ x. read_lines x (n + 1) lines) ≡ Err fault → FaultIn (LeadTo p) n (line ∷ lines) fault

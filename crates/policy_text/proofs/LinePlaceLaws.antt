@@ -18,7 +18,7 @@ use Rattle.policy_text.specs.Words.{Word}
 use Rattle.policy_text.specs.Naming.{is_name}
 use Rattle.policy_text.specs.Policies.{has_degrade, Aggregate as Definition}
 use Rattle.policy_text.specs.Classes.{name, number, element, prefix, star, or_star, with_key, key_of, width_at, is_time_at, aggregate_place, new_name, interval, bits_within}
-use Rattle.policy_text.specs.Lines.{next_of, next, end_of_words, truncate_of, degrade_of, element_action, aggregate_action, on_element, action_of, rule_of, aggregate_of}
+use Rattle.policy_text.specs.Lines.{next_of, next, end_of_words, truncate_of, degrade_of, read_element_action, aggregate_action, on_element, action_of, rule_of, aggregate_of}
 use Rattle.policy_text.specs.Grammar.{IsAggregate, AreAggregates}
 use Rattle.policy_text.specs.Printing.{key_text}
 use Rattle.policy_text.specs.LineParts.{LinePart, parts_after, rule_parts, aggregate_parts}
@@ -53,7 +53,7 @@ abbrev of_seconds : ℕ × List Word → Result (Action × List Word) FaultKind
 of_seconds done = Ok (Degrade done.0, done.1)
 
 abbrev treated : {B : Type 0} → Version → Option Element → (Option Element × Action → B) → Reader B
-treated version e make q words = (element_action version e words >>= of_element e) >>= finish make
+treated version e make q words = (read_element_action version e words >>= of_element e) >>= finish make
 
 truncate_agrees : {B : Type 0} (e : Option Element) (make : Option Element × Action → B) (r : Result (ℕ × List Word) FaultKind) →
     (((r >>= of_bits) >>= of_element e) >>= finish make) ≡ (r >>= finish (λ b. make (e, Truncate b)))
@@ -61,7 +61,7 @@ truncate_agrees e make (Ok x) = refl
 truncate_agrees e make (Err kind) = refl
 
 truncate_branch : {B : Type 0} (here : List Definition) (version : Version) (e : Option Element) (make : Option Element × Action → B) (width : Option ℕ) → width_at e ≡ width → Branch here (treatment version) [] (treated version e make) (codes "truncate")
-unfolding element_action next_of truncate_of
+unfolding read_element_action next_of truncate_of
 truncate_branch here version e make None is = inl (dead here (treatment version) (treated version e make) (codes "truncate") BadTruncate (λ q words. rw is refl) refl)
 truncate_branch {B} here version e make (Some width) is =
     let inner : List Definition → ℕ × List Word → Result B FaultKind = λ q done. finish (λ b. make (e, Truncate b)) done in
@@ -75,7 +75,7 @@ degrade_agrees e make (Ok x) = refl
 degrade_agrees e make (Err kind) = refl
 
 degrade_branch : {B : Type 0} (here : List Definition) (version : Version) (e : Option Element) (make : Option Element × Action → B) → has_degrade version ≡ true → (is_time : Bool) → is_time_at e ≡ is_time → Branch here (treatment version) [] (treated version e make) (codes "degrade")
-unfolding element_action next_of degrade_of
+unfolding read_element_action next_of degrade_of
 degrade_branch here version e make known false is = inl (dead here (treatment version) (treated version e make) (codes "degrade") BadDegrade (λ q words. rw (known, is) refl) (rw known refl))
 degrade_branch {B} here version e make known true is =
     let inner : List Definition → ℕ × List Word → Result B FaultKind = λ q done. finish (λ n. make (e, Degrade n)) done in
@@ -84,11 +84,11 @@ degrade_branch {B} here version e make known true is =
     (class_step here interval seconds [] (λ word. refl) interval_kind (decimal 1) 1 (interval-printed 1 (omega arith) (omega arith)) inner (λ n. end_reads here (make (e, Degrade n)))))
 
 other_treatment : {B : Type 0} (here : List Definition) (version : Version) (e : Option Element) (make : Option Element × Action → B) (word : Word) → bytes_eq word (codes "keep") ≡ false → bytes_eq word (codes "remove") ≡ false → bytes_eq word (codes "truncate") ≡ false → (has_degrade version && bytes_eq word (codes "degrade")) ≡ false → Branch here (treatment version) [] (treated version e make) word
-unfolding element_action next_of
+unfolding read_element_action next_of
 other_treatment here version e make word k r t d = inl (dead here (treatment version) (treated version e make) word UnknownWord (λ q words. rw (k, r, t, d) refl) (rw (t, d) refl))
 
 treatment_branch : {B : Type 0} (here : List Definition) (version : Version) (e : Option Element) (make : Option Element × Action → B) (word : Word) → Branch here (treatment version) [] (treated version e make) word
-unfolding element_action next_of
+unfolding read_element_action next_of
 treatment_branch {B} here version e make word =
     let read : Reader B = treated version e make in
     let P : Word → Type 0 = λ w. Branch here (treatment version) [] read w in
@@ -109,12 +109,12 @@ treatment_branch {B} here version e make word =
     (cases_Bool (bytes_eq word (codes "keep")))
 
 treatment_reads : {B : Type 0} (here : List Definition) (version : Version) (e : Option Element) (make : Option Element × Action → B) → Reads here (treatment version ∷ []) (treated version e make)
-unfolding element_action next_of end_of_words
+unfolding read_element_action next_of end_of_words
 treatment_reads here version e make = word_step here (treatment version) [] (treated version e make) refl (codes "keep" ∷ [], inl (make (e, Keep), refl)) (treatment_branch here version e make)
 
 -- behind `element`
 element_agrees : {B : Type 0} (version : Version) (make : Option Element × Action → B) (q : List Definition) (r : Result (Option Element × List Word) FaultKind) →
-    ((r >>= λ e. element_action version e.0 e.1 >>= of_element e.0) >>= finish make) ≡ (r >>= λ e. treated version e.0 make q e.1)
+    ((r >>= λ e. read_element_action version e.0 e.1 >>= of_element e.0) >>= finish make) ≡ (r >>= λ e. treated version e.0 make q e.1)
 element_agrees version make q (Ok e) = refl
 element_agrees version make q (Err kind) = refl
 

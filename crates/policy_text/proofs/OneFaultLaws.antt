@@ -14,7 +14,7 @@ use Rattle.policy_text.specs.Words.{Word, words_of, lines_of, is_skipped}
 use Rattle.policy_text.specs.Policies.{PolicyMeaning, without_lines}
 use Rattle.policy_text.specs.Results.{at_line, then_read, Parses, is_memory}
 use Rattle.policy_text.specs.Classes.{element, with_key, add_piece, add_pieces, key_of}
-use Rattle.policy_text.specs.Lines.{line_of}
+use Rattle.policy_text.specs.Lines.{policy_after_line}
 use Rattle.policy_text.specs.Parsing.{version_of, step, line_step, read_lines, policy_of}
 use Rattle.policy_text.specs.Grammar.{IsKey, IsPolicy}
 use Rattle.policy_text.specs.Printing.{header}
@@ -174,7 +174,7 @@ not_standing so_far front (word ∷ rest) faulty stands = let P : List Word → 
 faulty_line : (so_far : Option PolicyMeaning) (words : List Word) (kind : FaultKind) → IsLineFault so_far words kind → MayStand so_far words → ⊥
 faulty_line so_far words kind f stands = let P : List Word → Type 0 = λ ws. MayStand so_far ws in not_standing so_far f.front f.rest f.faulty (subst P f.words_are stands)
 
-line_refused : (policy : PolicyMeaning) (words : List Word) (kind : FaultKind) → IsPolicy policy → is_skipped words ≡ false → IsLineFault (Some policy) words kind → (r : Result PolicyMeaning FaultKind) → line_of policy words ≡ r → line_of policy words ≡ Err kind
+line_refused : (policy : PolicyMeaning) (words : List Word) (kind : FaultKind) → IsPolicy policy → is_skipped words ≡ false → IsLineFault (Some policy) words kind → (r : Result PolicyMeaning FaultKind) → policy_after_line policy words ≡ r → policy_after_line policy words ≡ Err kind
 line_refused policy words kind valid counts f (Ok new) e = absurd (faulty_line (Some policy) words kind f (read_stands policy new words e))
 line_refused policy words kind valid counts f (Err k) e = e ∙ ap (λ (l : FaultKind). Err l) (one_line_fault (Some policy) words k kind (line_fault policy words k valid counts e) f)
 
@@ -228,7 +228,7 @@ spelled_kept q (line ∷ lines) h =
     h
 
 -- the faulty line is refused
-step_refused : (p : PolicyMeaning) (line : List ℕ) (kind : FaultKind) → is_skipped (words_of line) ≡ false → line_of p (words_of line) ≡ Err kind → line_step (Some p) line ≡ Err kind
+step_refused : (p : PolicyMeaning) (line : List ℕ) (kind : FaultKind) → is_skipped (words_of line) ≡ false → policy_after_line p (words_of line) ≡ Err kind → line_step (Some p) line ≡ Err kind
 unfolding line_step step
 step_refused p line kind counts e = rw (counts, e) refl
 
@@ -245,7 +245,7 @@ fault_by None before others line n kind number spelled counts f =
     let e = header_step_refused line counts (header_refused (words_of line) kind f) ∙ ap (λ (k : FaultKind). Err k) (sym f.kind_is) in
     skipped_read 1 before (line ∷ others) spelled ∙ fault_line None (1 + length before) n line others kind e number
 fault_by (Some q) before others line n kind number spelled counts f =
-    let e = step_refused q line kind counts (line_refused q (words_of line) kind (spelled_kept q before spelled) counts f (line_of q (words_of line)) refl) in
+    let e = step_refused q line kind counts (line_refused q (words_of line) kind (spelled_kept q before spelled) counts f (policy_after_line q (words_of line)) refl) in
     spelled_read q 1 before (line ∷ others) spelled ∙ fault_line (Some q) (1 + length before) n line others kind e number
 
 fault_only : (text : List ℕ) (fault : Fault) → IsFirstFault text fault → policy_of text ≡ Err fault

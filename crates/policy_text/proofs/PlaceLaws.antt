@@ -8,7 +8,7 @@ use Rattle.policy_text.specs.declared.fault.FaultKind.{FaultKind}
 use Rattle.policy_text.specs.declared.fault.FaultKind.TheVariants.{UnknownWord}
 use Rattle.policy_text.specs.Words.{Word}
 use Rattle.policy_text.specs.Policies.{Aggregate as Definition}
-use Rattle.policy_text.specs.Lines.{next_of, next, after, end_of_words}
+use Rattle.policy_text.specs.Lines.{next_of, next, behind_word, end_of_words}
 use Rattle.policy_text.specs.Grammar.{IsAggregate}
 use Rattle.policy_text.specs.LineParts.{LinePart, parts_after, IsKindOf, IsKindBehind}
 use Rattle.policy_text.specs.LineParts.LinePart.{keyword, line_end}
@@ -159,16 +159,16 @@ pub next-err : {A : Type 0} (class : Word → Result A FaultKind) (word : Word) 
 unfolding next next_of
 next-err class word words kind e = ap (λ r. r >>= λ x. Ok (x, words)) e
 
-after-nil : (key : Word) → after key [] ≡ Err UnknownWord
-unfolding after next_of
+after-nil : (key : Word) → behind_word key [] ≡ Err UnknownWord
+unfolding behind_word next_of
 after-nil key = refl
 
-after-ok : (key word : Word) (words : List Word) → bytes_eq word key ≡ true → after key (word ∷ words) ≡ Ok words
-unfolding after next_of
+after-ok : (key word : Word) (words : List Word) → bytes_eq word key ≡ true → behind_word key (word ∷ words) ≡ Ok words
+unfolding behind_word next_of
 after-ok key word words e = rw e refl
 
-after-err : (key word : Word) (words : List Word) → bytes_eq word key ≡ false → after key (word ∷ words) ≡ Err UnknownWord
-unfolding after next_of
+after-err : (key word : Word) (words : List Word) → bytes_eq word key ≡ false → behind_word key (word ∷ words) ≡ Err UnknownWord
+unfolding behind_word next_of
 after-err key word words e = rw e refl
 
 -- a reader behind the word that it took
@@ -195,9 +195,9 @@ class_step {A} {B} here class part parts plain kinds word a e inner reads =
     (word ∷ rest.0, Completes-behind here whole (λ q words. inner q (a, words)) word (λ q words. ap (λ r. r >>= inner q) (next-ok class word words a e)) rest.0 rest.1)
     (λ w. class_word here class part parts plain kinds inner reads w (class w) refl)
 
-pub keyword_step : {B : Type 0} (here : List Definition) (key : Word) (parts : List LinePart) (inner : Reader B) → Reads here parts inner → Reads here (keyword ∷ parts) (λ q words. after key words >>= inner q)
+pub keyword_step : {B : Type 0} (here : List Definition) (key : Word) (parts : List LinePart) (inner : Reader B) → Reads here parts inner → Reads here (keyword ∷ parts) (λ q words. behind_word key words >>= inner q)
 keyword_step {B} here key parts inner reads =
-    let whole : Reader B = λ q words. after key words >>= inner q in
+    let whole : Reader B = λ q words. behind_word key words >>= inner q in
     let rest = reads.opens in
     let same : bytes_eq key key ≡ true = (bytes_eq-Decides key key).1 refl in
     word_step here keyword parts whole (ap (λ r. r >>= inner here) (after-nil key))

@@ -19,7 +19,7 @@ use Rattle.policy_text.specs.Words.{Word, words_of, is_skipped}
 use Rattle.policy_text.specs.Naming.{is_name}
 use Rattle.policy_text.specs.Policies.{PolicyMeaning, without_lines, Aggregate as Definition}
 use Rattle.policy_text.specs.Classes.{name, number, element, prefix, or_star, width_at, is_time_at}
-use Rattle.policy_text.specs.Lines.{next_of, next, after, end_of_words, truncate_of, degrade_of, element_action, aggregate_action, on_element, action_of, rule_of, aggregate_of, rule_line, aggregate_line, line_of}
+use Rattle.policy_text.specs.Lines.{next_of, next, behind_word, end_of_words, truncate_of, degrade_of, read_element_action, aggregate_action, on_element, action_of, rule_of, aggregate_of, rule_line, aggregate_line, policy_after_line}
 use Rattle.policy_text.specs.Parsing.{version_of, step, line_step, read_lines, policy_of}
 use Rattle.policy_text.specs.Grammar.{name_at, IsAction, IsRule, IsAggregate, AreAggregates, AreRules}
 use Rattle.policy_text.specs.Printing.{word_or_star, itself, version_word, action_words, rule_words, key_text, aggregate_words, header, policy_text, PoliciesReadBack}
@@ -111,7 +111,7 @@ no_element : {A : Type 0} (e : Option Element) (action : Action) (rest : A) → 
 no_element e action rest none = ap (λ (x : Option Element). Ok ((x, action), rest)) (sym none)
 
 pub action_back : (version : Version) (aggregates : List Definition) (e : Option Element) (action : Action) → IfSome e IsElement → IsAction version aggregates e action → action_of version aggregates (action_words aggregates e action) ≡ Ok ((e, action), [])
-unfolding action_of aggregate_action on_element element_action next next_of
+unfolding action_of aggregate_action on_element read_element_action next next_of
 action_back version aggregates e Pass ok h = no_element e Pass [] h
 action_back version aggregates e Withhold ok h = no_element e Withhold [] h
 action_back version aggregates e (Aggregate place) ok h =
@@ -132,7 +132,7 @@ rule_tail aggregates r =
     ∷ action_words aggregates r.element r.action
 
 rule_back : (version : Version) (aggregates : List Definition) (r : Rule) → IsRule version aggregates r → rule_of version aggregates (rule_tail aggregates r) ≡ Ok r
-unfolding rule_of next next_of after end_of_words
+unfolding rule_of next next_of behind_word end_of_words
 rule_back version aggregates r h =
     rw (
       or_star-printed name BadName itself (λ w. is_name w ≡ true) name-printed name-star r.who h.who,
@@ -143,20 +143,20 @@ rule_back version aggregates r h =
     ) refl
 
 pub aggregate_back : (before : List Definition) (a : Definition) → IsAggregate before a → aggregate_of before (a.name ∷ codes "key" ∷ key_text a.key ∷ codes "interval" ∷ decimal a.interval ∷ codes "grace" ∷ decimal a.grace ∷ []) ≡ Ok a
-unfolding aggregate_of next next_of after end_of_words
+unfolding aggregate_of next next_of behind_word end_of_words
 aggregate_back before a h =
     rw (new_name-printed before a.name h.name h.other, key-printed a.key h.key h.ranged.elements.0, interval-printed a.interval h.ranged.interval_low h.ranged.interval_high, number-printed 86400 a.grace (omega arith) h.ranged.grace_high) refl
 
 -- lines that lead from one policy to another
 abbrev Adds : PolicyMeaning → List (List Word) → PolicyMeaning → Type 0
 Adds p [] q = p ≡ q
-Adds p (words ∷ lines) q = (m : PolicyMeaning) × (is_skipped words ≡ false) × (line_of p words ≡ Ok m) × Adds m lines q
+Adds p (words ∷ lines) q = (m : PolicyMeaning) × (is_skipped words ≡ false) × (policy_after_line p words ≡ Ok m) × Adds m lines q
 
 adds_append : (p m q : PolicyMeaning) (xs ys : List (List Word)) → Adds p xs m → Adds m ys q → Adds p (xs ++ ys) q
 adds_append p m q [] ys h k = let P : PolicyMeaning → Type 0 = λ x. Adds x ys q in subst P (sym h) k
 adds_append p m q (words ∷ xs) ys h k = (h.0, h.1, h.2, adds_append h.0 m q xs ys h.3 k)
 
-step_printed : (p m : PolicyMeaning) (words : List Word) (line : Word) → words_of line ≡ words → is_skipped words ≡ false → line_of p words ≡ Ok m → line_step (Some p) line ≡ Ok (Some m)
+step_printed : (p m : PolicyMeaning) (words : List Word) (line : Word) → words_of line ≡ words → is_skipped words ≡ false → policy_after_line p words ≡ Ok m → line_step (Some p) line ≡ Ok (Some m)
 unfolding line_step step
 step_printed p m words line e kept read = rw (e, kept, read) refl
 
@@ -170,8 +170,8 @@ read_printed p q n (words ∷ lines) plain h =
     read_lines-cons (Some p) n (join_with_byte 32 words) (map (join_with_byte 32) lines ++ [] ∷ [])
     ∙ rw (step_printed p h.0 words (join_with_byte 32 words) (words_of-joined words plain.0) h.1 h.2) (read_printed h.0 q (n + 1) lines plain.1 h.3)
 
-aggregate_added : (version : Version) (before : List Definition) (a : Definition) → IsAggregate before a → length before < 256 → line_of (record { version = version; aggregates = before; rules = [] }) (aggregate_words a) ≡ Ok (record { version = version; aggregates = before ++ a ∷ []; rules = [] })
-unfolding line_of aggregate_line next_of
+aggregate_added : (version : Version) (before : List Definition) (a : Definition) → IsAggregate before a → length before < 256 → policy_after_line (record { version = version; aggregates = before; rules = [] }) (aggregate_words a) ≡ Ok (record { version = version; aggregates = before ++ a ∷ []; rules = [] })
+unfolding policy_after_line aggregate_line next_of
 aggregate_added version before a h room = rw (lt-leb 256 (length before) room, aggregate_back before a h) refl
 
 aggregates_added : (version : Version) (before rest : List Definition) → AreAggregates before rest → length before + length rest ≤ 256 → Adds (record { version = version; aggregates = before; rules = [] }) (map aggregate_words rest) (record { version = version; aggregates = before ++ rest; rules = [] })
@@ -184,8 +184,8 @@ aggregates_added version before (a ∷ rest) h room =
       subst P (append_assoc before (a ∷ []) rest) (aggregates_added version (before ++ a ∷ []) rest h.1 (omega (arith, length-append before (a ∷ [])))),
     )
 
-rule_added : (version : Version) (aggregates : List Definition) (before : List Rule) (r : Rule) → IsRule version aggregates r → length before < 4096 → line_of (record { version = version; aggregates = aggregates; rules = before }) (rule_words aggregates r) ≡ Ok (record { version = version; aggregates = aggregates; rules = before ++ r ∷ [] })
-unfolding line_of rule_line next_of
+rule_added : (version : Version) (aggregates : List Definition) (before : List Rule) (r : Rule) → IsRule version aggregates r → length before < 4096 → policy_after_line (record { version = version; aggregates = aggregates; rules = before }) (rule_words aggregates r) ≡ Ok (record { version = version; aggregates = aggregates; rules = before ++ r ∷ [] })
+unfolding policy_after_line rule_line next_of
 rule_added version aggregates before r h room = rw (lt-leb 4096 (length before) room, rule_back version aggregates r h) refl
 
 rules_added : (version : Version) (aggregates : List Definition) (before rest : List Rule) → AreRules version aggregates rest → length before + length rest ≤ 4096 → Adds (record { version = version; aggregates = aggregates; rules = before }) (map (rule_words aggregates) rest) (record { version = version; aggregates = aggregates; rules = before ++ rest })

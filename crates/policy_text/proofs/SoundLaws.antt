@@ -30,7 +30,7 @@ use Rattle.policy_text.specs.Elements.{element_of}
 use Rattle.policy_text.specs.Policies.{has_degrade, IsKeyLength, Aggregate as Definition}
 use Rattle.policy_text.specs.Results.{or_fault}
 use Rattle.policy_text.specs.Classes.{name, number, element, prefix, prefix_or_fault, star, some_of, or_star, is_key_kind, width_at, is_time_at, with_key, add_piece, add_pieces, key_of, place_of, aggregate_place, new_name, interval, bits_within}
-use Rattle.policy_text.specs.Lines.{next_of, next, after, end_of_words, truncate_of, degrade_of, element_action, aggregate_action, on_element, action_of, rule_of, aggregate_of}
+use Rattle.policy_text.specs.Lines.{next_of, next, behind_word, end_of_words, truncate_of, degrade_of, read_element_action, aggregate_action, on_element, action_of, rule_of, aggregate_of}
 use Rattle.policy_text.specs.Grammar.{name_at, IsAction, IsRule, IsKey, IsAggregate}
 use Rattle.policy_text.specs.declared.fault.FaultKind.TheVariants.{UnknownWord, BadName, BadNumber, BadPrefix, BadTruncate, UnknownAggregate, DoubleAggregate, BadKey, BadDegrade}
 use Rattle.policy_text.proofs.ElementLaws.{element_of-found}
@@ -213,8 +213,8 @@ degraded-sound version aggregates e w x h =
     (λ (f : degrade_word version w.0 ≡ false). absurd (Err-Ok UnknownWord x (rw f at h)))
     (cases_Bool (degrade_word version w.0))
 
-element_action-sound : (version : Version) (aggregates : List Definition) (e : Option Element) (words : List Word) (x : Action × List Word) → element_action version e words ≡ Ok x → IsAction version aggregates e x.0
-unfolding element_action
+element_action-sound : (version : Version) (aggregates : List Definition) (e : Option Element) (words : List Word) (x : Action × List Word) → read_element_action version e words ≡ Ok x → IsAction version aggregates e x.0
+unfolding read_element_action
 element_action-sound version aggregates e words x h =
     let first = bind_Ok (next_of words) (λ w. on_treatment version e w) x h in
     let w = first.0 in
@@ -232,8 +232,8 @@ element_action-sound version aggregates e words x h =
 on_element-sound : (version : Version) (aggregates : List Definition) (words : List Word) (x : (Option Element × Action) × List Word) → on_element version words ≡ Ok x → ActionSound version aggregates x.0.0 x.0.1
 unfolding on_element
 on_element-sound version aggregates words x h =
-    let first = bind_Ok (next (or_star element) words) (λ e. element_action version e.0 e.1 >>= λ action. Ok ((e.0, action.0), action.1)) x h in
-    let second = bind_Ok (element_action version first.0.0 first.0.1) (λ action. Ok ((first.0.0, action.0), action.1)) x first.2 in
+    let first = bind_Ok (next (or_star element) words) (λ e. read_element_action version e.0 e.1 >>= λ action. Ok ((e.0, action.0), action.1)) x h in
+    let second = bind_Ok (read_element_action version first.0.0 first.0.1) (λ action. Ok ((first.0.0, action.0), action.1)) x first.2 in
     let P : (Option Element × Action) × List Word → Type 0 = λ y. ActionSound version aggregates y.0.0 y.0.1 in
     subst P (same_Ok ((first.0.0, second.0.0), second.0.1) x second.2)
     (record { element_is = next_given IsElement element element-sound words first.0 first.1; action_is = element_action-sound version aggregates first.0.0 first.0.1 second.0 second.1 })
@@ -274,19 +274,19 @@ abbrev pub rule_to : Version → List Definition → Option Word → Option ℕ 
 rule_to version aggregates who domain from d = next (or_star prefix) d >>= λ to. rule_action version aggregates who domain from to
 
 abbrev pub rule_behind_from : Version → List Definition → Option Word → Option ℕ → Option Prefix × List Word → Result Rule FaultKind
-rule_behind_from version aggregates who domain from = after (codes "to") from.1 >>= λ d. rule_to version aggregates who domain from.0 d
+rule_behind_from version aggregates who domain from = behind_word (codes "to") from.1 >>= λ d. rule_to version aggregates who domain from.0 d
 
 abbrev pub rule_from : Version → List Definition → Option Word → Option ℕ → List Word → Result Rule FaultKind
 rule_from version aggregates who domain c = next (or_star prefix) c >>= λ from. rule_behind_from version aggregates who domain from
 
 abbrev pub rule_behind_domain : Version → List Definition → Option Word → Option ℕ × List Word → Result Rule FaultKind
-rule_behind_domain version aggregates who domain = after (codes "from") domain.1 >>= λ c. rule_from version aggregates who domain.0 c
+rule_behind_domain version aggregates who domain = behind_word (codes "from") domain.1 >>= λ c. rule_from version aggregates who domain.0 c
 
 abbrev pub rule_domain : Version → List Definition → Option Word → List Word → Result Rule FaultKind
 rule_domain version aggregates who b = next (or_star (number 4294967295)) b >>= λ domain. rule_behind_domain version aggregates who domain
 
 abbrev pub rule_behind_who : Version → List Definition → Option Word × List Word → Result Rule FaultKind
-rule_behind_who version aggregates who = after (codes "in") who.1 >>= λ b. rule_domain version aggregates who.0 b
+rule_behind_who version aggregates who = behind_word (codes "in") who.1 >>= λ b. rule_domain version aggregates who.0 b
 
 abbrev pub rule_who : Version → List Definition → List Word → Result Rule FaultKind
 rule_who version aggregates a = next (or_star name) a >>= λ who. rule_behind_who version aggregates who
@@ -296,13 +296,13 @@ the_rule who domain from to what = record { who = who; domain = domain; from = f
 
 -- the steps in which a rule is read
 pub record RuleSteps (version : Version) (aggregates : List Definition) (words : List Word) (r : Rule) : Type 0 where
-  pub behind_for : (a : List Word) × (after (codes "for") words ≡ Ok a) × (rule_who version aggregates a ≡ Ok r)
+  pub behind_for : (a : List Word) × (behind_word (codes "for") words ≡ Ok a) × (rule_who version aggregates a ≡ Ok r)
   pub who : (x : Option Word × List Word) × (next (or_star name) behind_for.0 ≡ Ok x) × (rule_behind_who version aggregates x ≡ Ok r)
-  pub behind_in : (b : List Word) × (after (codes "in") who.0.1 ≡ Ok b) × (rule_domain version aggregates who.0.0 b ≡ Ok r)
+  pub behind_in : (b : List Word) × (behind_word (codes "in") who.0.1 ≡ Ok b) × (rule_domain version aggregates who.0.0 b ≡ Ok r)
   pub domain : (x : Option ℕ × List Word) × (next (or_star (number 4294967295)) behind_in.0 ≡ Ok x) × (rule_behind_domain version aggregates who.0.0 x ≡ Ok r)
-  pub behind_from : (c : List Word) × (after (codes "from") domain.0.1 ≡ Ok c) × (rule_from version aggregates who.0.0 domain.0.0 c ≡ Ok r)
+  pub behind_from : (c : List Word) × (behind_word (codes "from") domain.0.1 ≡ Ok c) × (rule_from version aggregates who.0.0 domain.0.0 c ≡ Ok r)
   pub from : (x : Option Prefix × List Word) × (next (or_star prefix) behind_from.0 ≡ Ok x) × (rule_behind_from version aggregates who.0.0 domain.0.0 x ≡ Ok r)
-  pub behind_to : (d : List Word) × (after (codes "to") from.0.1 ≡ Ok d) × (rule_to version aggregates who.0.0 domain.0.0 from.0.0 d ≡ Ok r)
+  pub behind_to : (d : List Word) × (behind_word (codes "to") from.0.1 ≡ Ok d) × (rule_to version aggregates who.0.0 domain.0.0 from.0.0 d ≡ Ok r)
   pub to : (x : Option Prefix × List Word) × (next (or_star prefix) behind_to.0 ≡ Ok x) × (rule_action version aggregates who.0.0 domain.0.0 from.0.0 x ≡ Ok r)
   pub action : (x : (Option Element × Action) × List Word) × (action_of version aggregates to.0.1 ≡ Ok x) × (rule_end who.0.0 domain.0.0 from.0.0 to.0.0 x ≡ Ok r)
   pub end : (nothing_more : Unit {0}) × (end_of_words action.0.1 ≡ Ok nothing_more)
@@ -311,13 +311,13 @@ pub record RuleSteps (version : Version) (aggregates : List Definition) (words :
 pub rule_steps : (version : Version) (aggregates : List Definition) (words : List Word) (r : Rule) → rule_of version aggregates words ≡ Ok r → RuleSteps version aggregates words r
 unfolding rule_of
 rule_steps version aggregates words r h =
-    let s0 = bind_Ok (after (codes "for") words) (λ a. rule_who version aggregates a) r h in
+    let s0 = bind_Ok (behind_word (codes "for") words) (λ a. rule_who version aggregates a) r h in
     let who = bind_Ok (next (or_star name) s0.0) (λ x. rule_behind_who version aggregates x) r s0.2 in
-    let s1 = bind_Ok (after (codes "in") who.0.1) (λ b. rule_domain version aggregates who.0.0 b) r who.2 in
+    let s1 = bind_Ok (behind_word (codes "in") who.0.1) (λ b. rule_domain version aggregates who.0.0 b) r who.2 in
     let domain = bind_Ok (next (or_star (number 4294967295)) s1.0) (λ x. rule_behind_domain version aggregates who.0.0 x) r s1.2 in
-    let s2 = bind_Ok (after (codes "from") domain.0.1) (λ c. rule_from version aggregates who.0.0 domain.0.0 c) r domain.2 in
+    let s2 = bind_Ok (behind_word (codes "from") domain.0.1) (λ c. rule_from version aggregates who.0.0 domain.0.0 c) r domain.2 in
     let from = bind_Ok (next (or_star prefix) s2.0) (λ x. rule_behind_from version aggregates who.0.0 domain.0.0 x) r s2.2 in
-    let s3 = bind_Ok (after (codes "to") from.0.1) (λ d. rule_to version aggregates who.0.0 domain.0.0 from.0.0 d) r from.2 in
+    let s3 = bind_Ok (behind_word (codes "to") from.0.1) (λ d. rule_to version aggregates who.0.0 domain.0.0 from.0.0 d) r from.2 in
     let to = bind_Ok (next (or_star prefix) s3.0) (λ x. rule_action version aggregates who.0.0 domain.0.0 from.0.0 x) r s3.2 in
     let done = bind_Ok (action_of version aggregates to.0.1) (λ x. rule_end who.0.0 domain.0.0 from.0.0 to.0.0 x) r to.2 in
     let end = bind_Ok (end_of_words done.0.1) (λ nothing_more. Ok (record { who = who.0.0; domain = domain.0.0; from = from.0.0; to = to.0.0; element = done.0.0.0; action = done.0.0.1 })) r done.2 in
@@ -414,19 +414,19 @@ abbrev pub aggregate_grace : Word → List Element → ℕ → List Word → Res
 aggregate_grace named key seconds c = next (number 86400) c >>= λ grace. aggregate_end named key seconds grace
 
 abbrev pub aggregate_behind_interval : Word → List Element → ℕ × List Word → Result Definition FaultKind
-aggregate_behind_interval named key seconds = after (codes "grace") seconds.1 >>= λ c. aggregate_grace named key seconds.0 c
+aggregate_behind_interval named key seconds = behind_word (codes "grace") seconds.1 >>= λ c. aggregate_grace named key seconds.0 c
 
 abbrev pub aggregate_interval : Word → List Element → List Word → Result Definition FaultKind
 aggregate_interval named key b = next interval b >>= λ seconds. aggregate_behind_interval named key seconds
 
 abbrev pub aggregate_behind_key : Word → List Element × List Word → Result Definition FaultKind
-aggregate_behind_key named key = after (codes "interval") key.1 >>= λ b. aggregate_interval named key.0 b
+aggregate_behind_key named key = behind_word (codes "interval") key.1 >>= λ b. aggregate_interval named key.0 b
 
 abbrev pub aggregate_key : Word → List Word → Result Definition FaultKind
 aggregate_key named a = next key_of a >>= λ key. aggregate_behind_key named key
 
 abbrev pub aggregate_behind_name : Word × List Word → Result Definition FaultKind
-aggregate_behind_name named = after (codes "key") named.1 >>= λ a. aggregate_key named.0 a
+aggregate_behind_name named = behind_word (codes "key") named.1 >>= λ a. aggregate_key named.0 a
 
 abbrev pub the_aggregate : Word → List Element → ℕ → ℕ → Definition
 the_aggregate named key seconds grace = record { name = named; key = key; interval = seconds; grace = grace }
@@ -434,11 +434,11 @@ the_aggregate named key seconds grace = record { name = named; key = key; interv
 -- the steps in which an aggregate is read
 pub record AggregateSteps (before : List Definition) (words : List Word) (a : Definition) : Type 0 where
   pub named : (x : Word × List Word) × (next (new_name before) words ≡ Ok x) × (aggregate_behind_name x ≡ Ok a)
-  pub behind_key : (b : List Word) × (after (codes "key") named.0.1 ≡ Ok b) × (aggregate_key named.0.0 b ≡ Ok a)
+  pub behind_key : (b : List Word) × (behind_word (codes "key") named.0.1 ≡ Ok b) × (aggregate_key named.0.0 b ≡ Ok a)
   pub key : (x : List Element × List Word) × (next key_of behind_key.0 ≡ Ok x) × (aggregate_behind_key named.0.0 x ≡ Ok a)
-  pub behind_interval : (c : List Word) × (after (codes "interval") key.0.1 ≡ Ok c) × (aggregate_interval named.0.0 key.0.0 c ≡ Ok a)
+  pub behind_interval : (c : List Word) × (behind_word (codes "interval") key.0.1 ≡ Ok c) × (aggregate_interval named.0.0 key.0.0 c ≡ Ok a)
   pub seconds : (x : ℕ × List Word) × (next interval behind_interval.0 ≡ Ok x) × (aggregate_behind_interval named.0.0 key.0.0 x ≡ Ok a)
-  pub behind_grace : (d : List Word) × (after (codes "grace") seconds.0.1 ≡ Ok d) × (aggregate_grace named.0.0 key.0.0 seconds.0.0 d ≡ Ok a)
+  pub behind_grace : (d : List Word) × (behind_word (codes "grace") seconds.0.1 ≡ Ok d) × (aggregate_grace named.0.0 key.0.0 seconds.0.0 d ≡ Ok a)
   pub grace : (x : ℕ × List Word) × (next (number 86400) behind_grace.0 ≡ Ok x) × (aggregate_end named.0.0 key.0.0 seconds.0.0 x ≡ Ok a)
   pub end : (nothing_more : Unit {0}) × (end_of_words grace.0.1 ≡ Ok nothing_more)
   pub made : the_aggregate named.0.0 key.0.0 seconds.0.0 grace.0.0 ≡ a
@@ -447,11 +447,11 @@ pub aggregate_steps : (before : List Definition) (words : List Word) (a : Defini
 unfolding aggregate_of
 aggregate_steps before words a h =
     let named = bind_Ok (next (new_name before) words) (λ x. aggregate_behind_name x) a h in
-    let s0 = bind_Ok (after (codes "key") named.0.1) (λ x. aggregate_key named.0.0 x) a named.2 in
+    let s0 = bind_Ok (behind_word (codes "key") named.0.1) (λ x. aggregate_key named.0.0 x) a named.2 in
     let key = bind_Ok (next key_of s0.0) (λ x. aggregate_behind_key named.0.0 x) a s0.2 in
-    let s1 = bind_Ok (after (codes "interval") key.0.1) (λ x. aggregate_interval named.0.0 key.0.0 x) a key.2 in
+    let s1 = bind_Ok (behind_word (codes "interval") key.0.1) (λ x. aggregate_interval named.0.0 key.0.0 x) a key.2 in
     let seconds = bind_Ok (next interval s1.0) (λ x. aggregate_behind_interval named.0.0 key.0.0 x) a s1.2 in
-    let s2 = bind_Ok (after (codes "grace") seconds.0.1) (λ x. aggregate_grace named.0.0 key.0.0 seconds.0.0 x) a seconds.2 in
+    let s2 = bind_Ok (behind_word (codes "grace") seconds.0.1) (λ x. aggregate_grace named.0.0 key.0.0 seconds.0.0 x) a seconds.2 in
     let grace = bind_Ok (next (number 86400) s2.0) (λ x. aggregate_end named.0.0 key.0.0 seconds.0.0 x) a s2.2 in
     let end = bind_Ok (end_of_words grace.0.1) (λ nothing_more. Ok (record { name = named.0.0; key = key.0.0; interval = seconds.0.0; grace = grace.0.0 })) a grace.2 in
     record { named = named; behind_key = s0; key = key; behind_interval = s1; seconds = seconds; behind_grace = s2; grace = grace; end = (end.0, end.1); made = same_Ok (the_aggregate named.0.0 key.0.0 seconds.0.0 grace.0.0) a end.2 }

@@ -32,7 +32,7 @@ use Rattle.policy_text.specs.Elements.{element_of}
 use Rattle.policy_text.specs.Policies.{PolicyMeaning, has_degrade, without_lines, with_rule, with_aggregate, Aggregate as Definition}
 use Rattle.policy_text.specs.Results.{at_line, then_read, Parses}
 use Rattle.policy_text.specs.Classes.{name, number, element, prefix, prefix_or_fault, star, some_of, or_star, with_key, add_piece, add_pieces, key_of, place_of, width_at, is_time_at, aggregate_place, new_name, interval, bits_within}
-use Rattle.policy_text.specs.Lines.{next_of, next, after, end_of_words, truncate_of, degrade_of, element_action, aggregate_action, on_element, action_of, rule_of, aggregate_of, rule_line, aggregate_line, line_of}
+use Rattle.policy_text.specs.Lines.{next_of, next, behind_word, end_of_words, truncate_of, degrade_of, read_element_action, aggregate_action, on_element, action_of, rule_of, aggregate_of, rule_line, aggregate_line, policy_after_line}
 use Rattle.policy_text.specs.Parsing.{numbered_version, version_of, after_header, step, line_step, read_lines, policy_of}
 use Rattle.policy_text.specs.Grammar.{name_at}
 use Rattle.policy_text.specs.Printing.{word_or_star, itself, action_words, key_text, aggregate_words, version_word, header}
@@ -56,8 +56,8 @@ next-text {A} class words x e =
     let same = same_Ok (second.0, first.0.1) x second.2 in
     (first.0.0, next_of-text words first.0 first.1 ∙ ap (λ (y : A × List Word). first.0.0 ∷ y.1) same, second.1 ∙ ap (λ (y : A × List Word). Ok y.0) same)
 
-after-text : (keyword : Word) (words rest : List Word) → after keyword words ≡ Ok rest → words ≡ keyword ∷ rest
-unfolding after
+after-text : (keyword : Word) (words rest : List Word) → behind_word keyword words ≡ Ok rest → words ≡ keyword ∷ rest
+unfolding behind_word
 after-text keyword words rest e =
     let first = bind_Ok (next_of words) (λ w. cond (bytes_eq w.0 keyword) (Ok w.1) (Err UnknownWord)) rest e in
     let h = guarded (bytes_eq first.0.0 keyword) UnknownWord first.0.1 rest first.2 in
@@ -246,8 +246,8 @@ degraded-text version e w words x whole h =
     (λ (none : degrade_word version w.0 ≡ false). absurd (Err-Ok UnknownWord x (rw none at h)))
     (cases_Bool (degrade_word version w.0))
 
-element_action-text : (version : Version) (e : Option Element) (words : List Word) (x : Action × List Word) → element_action version e words ≡ Ok x → SpellsElementAction words x
-unfolding element_action on_fields
+element_action-text : (version : Version) (e : Option Element) (words : List Word) (x : Action × List Word) → read_element_action version e words ≡ Ok x → SpellsElementAction words x
+unfolding read_element_action on_fields
 element_action-text version e words x h =
     let first = bind_Ok (next_of words) (λ w. on_treatment version e w) x h in
     let w = first.0 in
@@ -286,8 +286,8 @@ SpellsAction aggregates words x = words ≡ action_words aggregates x.0.0 x.0.1 
 on_element-text : (version : Version) (aggregates : List Definition) (words : List Word) (x : (Option Element × Action) × List Word) → on_element version words ≡ Ok x → SpellsAction aggregates (codes "element" ∷ words) x
 unfolding on_element
 on_element-text version aggregates words x h =
-    let first = bind_Ok (next (or_star element) words) (λ e. element_action version e.0 e.1 >>= λ action. Ok ((e.0, action.0), action.1)) x h in
-    let second = bind_Ok (element_action version first.0.0 first.0.1) (λ action. Ok ((first.0.0, action.0), action.1)) x first.2 in
+    let first = bind_Ok (next (or_star element) words) (λ e. read_element_action version e.0 e.1 >>= λ action. Ok ((e.0, action.0), action.1)) x h in
+    let second = bind_Ok (read_element_action version first.0.0 first.0.1) (λ action. Ok ((first.0.0, action.0), action.1)) x first.2 in
     let word = next-text (or_star element) words first.0 first.1 in
     let named = or_star-text element element_name element-text word.0 first.0.0 word.2 in
     let action = element_action-text version first.0.0 first.0.1 second.0 second.1 in
@@ -412,8 +412,8 @@ aggregate_line-found p q words tail e h =
     })
     (cases_Bool (leb 256 (length p.aggregates)))
 
-pub line_of-found : (p q : PolicyMeaning) (words : List Word) → line_of p words ≡ Ok q → IsLine p words q
-unfolding line_of
+pub line_of-found : (p q : PolicyMeaning) (words : List Word) → policy_after_line p words ≡ Ok q → IsLine p words q
+unfolding policy_after_line
 line_of-found p q words h =
     let first = bind_Ok (next_of words) (λ w. cond (bytes_eq w.0 (codes "rule")) (rule_line p w.1) (cond (bytes_eq w.0 (codes "aggregate")) (aggregate_line p w.1) (Err UnknownWord))) q h in
     let w = first.0 in
@@ -434,7 +434,7 @@ prefix_back None w h = ap (or_star prefix) h ∙ or_star-star prefix
 prefix_back (Some p) w h = or_star-word prefix BadPrefix w p (ap prefix_or_fault (prefix_of-only w p h)) prefix-star
 
 rule_only : (version : Version) (aggregates : List Definition) (words : List Word) (r : Rule) → SpellsRule version aggregates words r → rule_of version aggregates words ≡ Ok r
-unfolding rule_of next next_of after end_of_words
+unfolding rule_of next next_of behind_word end_of_words
 rule_only version aggregates words r h =
     ap (rule_of version aggregates) h.words_are
     ∙ rw (
@@ -445,17 +445,17 @@ rule_only version aggregates words r h =
       action_back version aggregates r.element r.action h.sound.element h.sound.action,
     ) refl
 
-pub rule_line-only : (p q : PolicyMeaning) (words : List Word) → AddsRule p words q → line_of p words ≡ Ok q
-unfolding line_of rule_line next_of
+pub rule_line-only : (p q : PolicyMeaning) (words : List Word) → AddsRule p words q → policy_after_line p words ≡ Ok q
+unfolding policy_after_line rule_line next_of
 rule_line-only p q words h =
-    ap (line_of p) h.words_are ∙ rw (lt-leb 4096 (length p.rules) h.room, rule_only p.version p.aggregates h.tail h.rule h.spelled) (ap (λ (m : PolicyMeaning). Ok m) h.added)
+    ap (policy_after_line p) h.words_are ∙ rw (lt-leb 4096 (length p.rules) h.room, rule_only p.version p.aggregates h.tail h.rule h.spelled) (ap (λ (m : PolicyMeaning). Ok m) h.added)
 
-aggregate_line-only : (p q : PolicyMeaning) (words : List Word) → AddsAggregate p words q → line_of p words ≡ Ok q
-unfolding line_of aggregate_line next_of
+aggregate_line-only : (p q : PolicyMeaning) (words : List Word) → AddsAggregate p words q → policy_after_line p words ≡ Ok q
+unfolding policy_after_line aggregate_line next_of
 aggregate_line-only p q words h =
-    ap (line_of p) h.words_are ∙ rw (lt-leb 256 (length p.aggregates) h.room, aggregate_back p.aggregates h.aggregate h.sound) (ap (λ (m : PolicyMeaning). Ok m) h.added)
+    ap (policy_after_line p) h.words_are ∙ rw (lt-leb 256 (length p.aggregates) h.room, aggregate_back p.aggregates h.aggregate h.sound) (ap (λ (m : PolicyMeaning). Ok m) h.added)
 
-pub line_of-only : (p q : PolicyMeaning) (words : List Word) → IsLine p words q → line_of p words ≡ Ok q
+pub line_of-only : (p q : PolicyMeaning) (words : List Word) → IsLine p words q → policy_after_line p words ≡ Ok q
 line_of-only p q words h = ⊎_elim (λ (r : AddsRule p words q). rule_line-only p q words r) (λ (a : AddsAggregate p words q). aggregate_line-only p q words a) h
 
 -- steps of reading, where a policy comes out
@@ -481,7 +481,7 @@ unfolding line_step step
 line_step-found p line x h =
     ⊎_elim (λ (skip : is_skipped (words_of line) ≡ true). record { mid = p; is = same_Ok (Some p) x (rw skip at h); line_is = inl (skip, refl) })
     (λ (kept : is_skipped (words_of line) ≡ false).
-    let read = bind_Ok (line_of p (words_of line)) (λ q. Ok (Some q)) x (rw kept at h) in
+    let read = bind_Ok (policy_after_line p (words_of line)) (λ q. Ok (Some q)) x (rw kept at h) in
     record { mid = read.0; is = same_Ok (Some read.0) x read.2; line_is = inr (kept, line_of-found p read.0 (words_of line) read.1) })
     (cases_Bool (is_skipped (words_of line)))
 

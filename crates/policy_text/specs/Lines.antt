@@ -26,8 +26,8 @@ next class words = do
   Ok (a, w.1)
 
 -- the words after this keyword
-unfoldable pub after : Word → List Word → Result (List Word) FaultKind
-after word words = do
+unfoldable pub behind_word : Word → List Word → Result (List Word) FaultKind
+behind_word word words = do
   w ← next_of words
   if bytes_eq w.0 word then Ok w.1 else Err UnknownWord
 
@@ -51,8 +51,8 @@ degrade_of true words = do
   Ok (Degrade seconds.0, seconds.1)
 
 -- behind `element ELEM`, in a text of this version
-unfoldable pub element_action : Version → Option Element → List Word → Result (Action × List Word) FaultKind
-element_action version e words = do
+unfoldable pub read_element_action : Version → Option Element → List Word → Result (Action × List Word) FaultKind
+read_element_action version e words = do
   w ← next_of words
   if bytes_eq w.0 (codes "keep") then Ok (Keep, w.1)
       else if bytes_eq w.0 (codes "remove") then Ok (Remove, w.1)
@@ -70,7 +70,7 @@ aggregate_action aggregates words = do
 unfoldable pub on_element : Version → List Word → Result ((Option Element × Action) × List Word) FaultKind
 on_element version words = do
   e ← next (or_star element) words
-  action ← element_action version e.0 e.1
+  action ← read_element_action version e.0 e.1
   Ok ((e.0, action.0), action.1)
 
 -- an action with its element
@@ -86,13 +86,13 @@ action_of version aggregates words = do
 -- behind `rule`
 unfoldable pub rule_of : Version → List Definition → List Word → Result Rule FaultKind
 rule_of version aggregates words = do
-  a ← after (codes "for") words
+  a ← behind_word (codes "for") words
   who ← next (or_star name) a
-  b ← after (codes "in") who.1
+  b ← behind_word (codes "in") who.1
   domain ← next (or_star (number 4294967295)) b
-  c ← after (codes "from") domain.1
+  c ← behind_word (codes "from") domain.1
   from ← next (or_star prefix) c
-  d ← after (codes "to") from.1
+  d ← behind_word (codes "to") from.1
   to ← next (or_star prefix) d
   done ← action_of version aggregates to.1
   nothing_more ← end_of_words done.1
@@ -102,11 +102,11 @@ rule_of version aggregates words = do
 unfoldable pub aggregate_of : List Definition → List Word → Result Definition FaultKind
 aggregate_of aggregates words = do
   name ← next (new_name aggregates) words
-  a ← after (codes "key") name.1
+  a ← behind_word (codes "key") name.1
   key ← next key_of a
-  b ← after (codes "interval") key.1
+  b ← behind_word (codes "interval") key.1
   seconds ← next interval b
-  c ← after (codes "grace") seconds.1
+  c ← behind_word (codes "grace") seconds.1
   grace ← next (number 86400) c
   nothing_more ← end_of_words grace.1
   Ok (record { name = name.0; key = key.0; interval = seconds.0; grace = grace.0 })
@@ -120,8 +120,8 @@ unfoldable pub aggregate_line : PolicyMeaning → List Word → Result PolicyMea
 aggregate_line policy words = if nat_le 256 (length policy.aggregates) then Err TooMany else (aggregate_of policy.aggregates words >>= λ a. Ok (with_aggregate policy a))
 
 -- the policy after a line
-unfoldable pub line_of : PolicyMeaning → List Word → Result PolicyMeaning FaultKind
-line_of policy words = do
+unfoldable pub policy_after_line : PolicyMeaning → List Word → Result PolicyMeaning FaultKind
+policy_after_line policy words = do
   w ← next_of words
   if bytes_eq w.0 (codes "rule") then rule_line policy w.1
       else if bytes_eq w.0 (codes "aggregate") then aggregate_line policy w.1

@@ -7,7 +7,7 @@ use Rattle.policy_text.specs.Words.{Word, words_of, lines_of, is_skipped}
 use Rattle.policy_text.specs.Naming.{is_name}
 use Rattle.policy_text.specs.Policies.{PolicyMeaning, Aggregate as Definition}
 use Rattle.policy_text.specs.Classes.{place_of}
-use Rattle.policy_text.specs.Lines.{next_of, after, rule_of}
+use Rattle.policy_text.specs.Lines.{next_of, behind_word, rule_of}
 use Rattle.policy_text.specs.Spelling.{AreAllLines}
 
 -- a word was read, and it is such a one
@@ -30,7 +30,7 @@ name_follows (Err kind) = false
 
 -- behind `rule`: `for` and a name
 unfoldable pub names_subscriber : List Word → Bool
-names_subscriber words = name_follows (after (codes "for") words)
+names_subscriber words = name_follows (behind_word (codes "for") words)
 
 -- a rule's line takes memory for the subscriber's name, and for the rule
 unfoldable pub rule_takes : PolicyMeaning → List Word → Bool

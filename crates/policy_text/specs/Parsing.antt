@@ -11,7 +11,7 @@ use Rattle.policy_text.specs.declared.version.Version.TheVariants.{One, Two}
 use Rattle.policy_text.specs.Words.{Word, words_of, lines_of, is_skipped}
 use Rattle.policy_text.specs.Policies.{PolicyMeaning, without_lines}
 use Rattle.policy_text.specs.Results.{at_line, then_read}
-use Rattle.policy_text.specs.Lines.{line_of}
+use Rattle.policy_text.specs.Lines.{policy_after_line}
 
 -- the version of this number
 abbrev pub numbered_version : Word → Option Version
@@ -32,7 +32,7 @@ after_header (Some version) = Ok (without_lines version)
 -- the policy after a line that isn't skipped, of which the first is the header
 unfoldable pub step : Option PolicyMeaning → List Word → Result PolicyMeaning FaultKind
 step None words = after_header (version_of words)
-step (Some policy) words = line_of policy words
+step (Some policy) words = policy_after_line policy words
 
 -- the same of a line that may be skipped; before the header there is no policy
 unfoldable pub line_step : Option PolicyMeaning → List ℕ → Result (Option PolicyMeaning) FaultKind

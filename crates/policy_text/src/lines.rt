@@ -5,7 +5,7 @@ ghost use Rattle.policy_text.specs.Results.{Gives, is_memory};
 ghost use Rattle.policy_text.specs.Naming.{is_name};
 ghost use Rattle.policy_text.specs.Memory.{is_next, is_new_name, names_subscriber};
 ghost use Rattle.policy_text.specs.Classes.{name, number, element, prefix, or_star, aggregate_place, bits_within, width_at, is_time_at, new_name, key_of, interval};
-ghost use Rattle.policy_text.specs.Lines.{next, truncate_of, degrade_of, element_action, aggregate_action, on_element, action_of, rule_of, aggregate_of};
+ghost use Rattle.policy_text.specs.Lines.{next, truncate_of, degrade_of, read_element_action, aggregate_action, on_element, action_of, rule_of, aggregate_of};
 
 use crate::aggregate::AggregateDef;
 use crate::classes::{
@@ -109,14 +109,14 @@ impl Words<'_> {
     }
 
     /// What stands behind `element ELEM`, in a text of this version.
-    #[tactic(auto, unfolding(crate::specs::Lines::element_action))]
+    #[tactic(auto, unfolding(crate::specs::Lines::read_element_action))]
     fn element_action(
         &mut self,
         version: Version,
         element: &Option<ElementId>,
     ) -> Result<Action, FaultKind>
         ensures value { Gives (λ action. (action, self.new)) result
-            (element_action version element.now self.old) }
+            (read_element_action version element.now self.old) }
         ensures no_memory { IfErr result (λ kind. is_memory kind ≡ false) }
     {
         let word = self.word()?;

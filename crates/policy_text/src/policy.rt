@@ -6,7 +6,7 @@ ghost use Rattle.policy_text.specs.Spelling.{Spells};
 ghost use Rattle.policy_text.specs.Printing.{policy_text};
 ghost use Rattle.policy_text.specs.FirstFault.{IsFirstFault};
 ghost use Rattle.policy_text.specs.Results.{Gives, Parses, fault_at, is_memory};
-ghost use Rattle.policy_text.specs.Lines.{rule_line, aggregate_line, line_of};
+ghost use Rattle.policy_text.specs.Lines.{rule_line, aggregate_line, policy_after_line};
 ghost use Rattle.policy_text.specs.Words.{words_of, is_skipped};
 ghost use Rattle.policy_text.specs.Parsing.{numbered_version, version_of, line_step, policy_of};
 ghost use Rattle.policy_text.specs.Memory.{rule_takes, aggregate_takes, line_takes, step_takes, TakesMemory};
@@ -183,9 +183,9 @@ impl Policy {
     }
 
     /// Adds the rule or the aggregate of a line.
-    #[tactic(auto, unfolding(crate::specs::Lines::line_of, crate::specs::Memory::line_takes))]
+    #[tactic(auto, unfolding(crate::specs::Lines::policy_after_line, crate::specs::Memory::line_takes))]
     fn add_line(&mut self, alloc: Global, line: &[u8]) -> Result<(), FaultKind>
-        ensures value { Gives (λ _. self.new) result (line_of self.old (words_of line.now)) }
+        ensures value { Gives (λ _. self.new) result (policy_after_line self.old (words_of line.now)) }
         ensures memory { IfErr result (λ kind. is_memory kind ≡ true
             → line_takes self.old (words_of line.now) ≡ true) }
     {

@@ -1,9 +1,9 @@
-//! The words of a line, one after another.
+//! The words of a line, one behind_word another.
 ghost use Rattle.std.specs.Prelude.{◌≡◌, ◌∷◌, List, ℕ, ◌<◌, ◌≤◌, length, Ok, IfSome, position, not, IfErr, false};
 ghost use Rattle.std.specs.Option.{option_map};
 ghost use Rattle.policy_text.specs.Words.{words_of, first_of, is_blank};
 ghost use Rattle.policy_text.specs.Results.{Gives, is_memory};
-ghost use Rattle.policy_text.specs.Lines.{next_of, after, end_of_words};
+ghost use Rattle.policy_text.specs.Lines.{next_of, behind_word, end_of_words};
 
 use crate::fault::FaultKind;
 use numerals::is_word;
@@ -54,9 +54,9 @@ impl<'a> Words<'a> {
     }
 
     /// That the next word is this one.
-    #[tactic(auto, unfolding(crate::specs::Lines::after))]
+    #[tactic(auto, unfolding(crate::specs::Lines::behind_word))]
     pub(crate) fn keyword(&mut self, keyword: &[u8]) -> Result<(), FaultKind>
-        ensures value { Gives (λ _. self.new) result (after keyword.now self.old) }
+        ensures value { Gives (λ _. self.new) result (behind_word keyword.now self.old) }
         ensures no_memory { IfErr result (λ kind. is_memory kind ≡ false) }
     {
         let word = self.word()?;

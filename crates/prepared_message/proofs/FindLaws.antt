@@ -26,7 +26,7 @@ use Rattle.prepared_message.specs.Seen.{used_pair}
 use Rattle.prepared_message.specs.Uses.{TablesAgree, AreUsesInForce, known_in, used_by}
 use Rattle.prepared_message.specs.Preparation.{Preparation, IsPrepared}
 use Rattle.prepared_message.specs.Finding.{IsFound}
-use Rattle.prepared_message.specs.Faults.{fault_of_decoding, without_templates, items_wanted, contents_wanted, prepared_from, Fails}
+use Rattle.prepared_message.specs.Faults.{fault_of_decoding, without_templates, items_wanted, contents_wanted, prepared_from, FailsPreparing}
 use Rattle.prepared_message.proofs.UseLaws.{Has, agree_from, agree_to, agree_by, defined, defined_keeps}
 
 -- ---- faults of the octets
@@ -34,7 +34,7 @@ use Rattle.prepared_message.proofs.UseLaws.{Has, agree_from, agree_to, agree_by,
 items_fault : (older : List (List ℕ)) (message : List ℕ) (why : DecodeError) → items_of message ≡ Err why → prepared_from older message ≡ Err Malformed
 items_fault older message why is = ap (λ (r : Result (List Item) DecodeError). without_templates r (has_template_set message) >>= λ said. contents_wanted (contents_of older message)) is
 
-pub header_fault : (older : List (List ℕ)) (message : List ℕ) (why : DecodeError) → Err why ≡ read_header message → Fails (fault_of_decoding why) (prepared_from older message)
+pub header_fault : (older : List (List ℕ)) (message : List ℕ) (why : DecodeError) → Err why ≡ read_header message → FailsPreparing (fault_of_decoding why) (prepared_from older message)
 unfolding items_of
 header_fault older message decode.OutOfMemory is = tt
 header_fault older message decode.ShortHeader is = items_fault older message decode.ShortHeader (ap (after_header message) (sym is))

@@ -50,9 +50,9 @@ is_memory HasTemplates = false
 is_memory Malformed = false
 
 -- a fault is the one that is due
-abbrev pub Fails : {Y : Type 0} → Fault → Result Y Fault → Type 0
-Fails e due = FailsBut is_memory e due
+abbrev pub FailsPreparing : {Y : Type 0} → Fault → Result Y Fault → Type 0
+FailsPreparing e due = FailsBut is_memory e due
 
 -- what is due is answered
-abbrev pub Gives : {X Y : Type 0} → (X → Y) → Result X Fault → Result Y Fault → Type 0
-Gives view answer due = GivesBut is_memory view answer due
+abbrev pub GivesPrepared : {X Y : Type 0} → (X → Y) → Result X Fault → Result Y Fault → Type 0
+GivesPrepared view answer due = GivesBut is_memory view answer due

@@ -31,14 +31,14 @@ abbrev pub given_or : (ℕ → Option Width) → (ℕ → Option Width) → ℕ 
 given_or first known id = option_or (first id) (known id)
 
 -- of all Data Sets of a message, each by the template that its ID was given last; templates that a message withdraws count on
-unfoldable pub values_of : (ℕ → Option Width) → List Item → ℕ
-values_of known [] = 0
-values_of known (Define id t ∷ said) = values_of (with_width id (width_of t) known) said
-values_of known (DataSet id start octets ∷ said) = set_values (known id) octets + values_of known said
-values_of known (Withdraw id ∷ said) = values_of known said
-values_of known (WithdrawAll options ∷ said) = values_of known said
-values_of known (Refused id why ∷ said) = values_of known said
-values_of known (Skipped set ∷ said) = values_of known said
+unfoldable pub values_by_widths : (ℕ → Option Width) → List Item → ℕ
+values_by_widths known [] = 0
+values_by_widths known (Define id t ∷ said) = values_by_widths (with_width id (width_of t) known) said
+values_by_widths known (DataSet id start octets ∷ said) = set_values (known id) octets + values_by_widths known said
+values_by_widths known (Withdraw id ∷ said) = values_by_widths known said
+values_by_widths known (WithdrawAll options ∷ said) = values_by_widths known said
+values_by_widths known (Refused id why ∷ said) = values_by_widths known said
+values_by_widths known (Skipped set ∷ said) = values_by_widths known said
 
 -- the widths of the templates of a domain, by those that are known of all domains
 abbrev pub widths_in : ℕ → List (ℕ × List (ℕ × Template)) → ℕ → Option Width
@@ -48,4 +48,4 @@ widths_in domain known id = option_map width_of (known_in domain known id)
 pub record IsTooWide (known : List (ℕ × List (ℕ × Template))) (message : List ℕ) : Type 0 where
   pub said : List Item
   pub items : items_of message ≡ Ok said
-  pub many : length message * VALUES_AN_OCTET < values_of (widths_in (domain_of message) known) said
+  pub many : length message * VALUES_AN_OCTET < values_by_widths (widths_in (domain_of message) known) said

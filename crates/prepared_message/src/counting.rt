@@ -1,4 +1,4 @@
-//! Whether so many records of a message count in aggregates that it is refused.
+//! Whether more than `MOST_COUNTS` records of a message count in aggregates, so that it is refused.
 ghost use Rattle.std.specs.Prelude.{ℕ, List, IsTrue};
 ghost use Rattle.ipfix_session.specs.Meaning.{domain_of};
 ghost use Rattle.mediator_shares.specs.Totals.{MayCountMoreThan};

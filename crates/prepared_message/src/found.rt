@@ -3,7 +3,7 @@ ghost use Rattle.std.specs.Prelude.{◌≤◌, ℕ, List, length, IfOk};
 ghost use Rattle.ipfix_octets.specs.MessageFormat.{header_octets};
 ghost use Rattle.ipfix_session.specs.Answers.{as_contents};
 ghost use Rattle.ipfix_session.specs.Standing.{Knows};
-ghost use Rattle.prepared_message.specs.Faults.{Gives, items_wanted, prepared_from};
+ghost use Rattle.prepared_message.specs.Faults.{GivesPrepared, items_wanted, prepared_from};
 ghost use Rattle.prepared_message.specs.Finding.{IsFound};
 
 use crate::fault::Fault;
@@ -28,7 +28,7 @@ pub(crate) struct Found {
 /// Those of [`prepare`](crate::Prepared::prepare).
 pub(crate) fn read_by(templates: &Templates, message: &Bytes) -> Result<Found, Fault>
     ensures gives { (older : List (List ℕ)) → Knows templates.now older
-        → Gives (λ f. as_contents f.contents) result (prepared_from older message.now) }
+        → GivesPrepared (λ f. as_contents f.contents) result (prepared_from older message.now) }
     ensures found { IfOk result (IsFound templates.now message.now) }
 {
     let octets: &[u8] = message;
@@ -50,7 +50,7 @@ pub(crate) fn read_by(templates: &Templates, message: &Bytes) -> Result<Found, F
 /// `Malformed` where the octets are no message, else `HasTemplates` where it has a set of templates; or want of memory.
 fn items_without_templates(alloc: Global, octets: &[u8]) -> Result<Vec<Item>, Fault>
     requires { header_octets ≤ length octets.now }
-    ensures { Gives (λ v. v.items) result (items_wanted octets.now) }
+    ensures { GivesPrepared (λ v. v.items) result (items_wanted octets.now) }
 {
     let said = items(alloc, octets)?;
     if has_template_set(octets) {

@@ -23,7 +23,8 @@
 //! (`none`), nor for want of memory (`err`).
 //! What `take_judgement` gives are the shares of the message's records by the terms of which it speaks (`judgement`). What
 //! `JudgedAhead::judgement_of` gives are the shares of those records that it is asked about. `Snapshot::is_too_wide` is exact.
-//! Where `counts_too_many` answers that they are, the message holds so many by some templates and on some terms.
+//! Where `counts_too_many` is true, more than `MOST_COUNTS` records of the message may count in aggregates, by some
+//! templates and on some terms.
 #![tactic(auto)]
 
 pub mod ahead;

@@ -4,7 +4,7 @@ ghost use Rattle.ipfix_session.specs.Answers.{as_contents, as_meaning};
 ghost use Rattle.ipfix_session.specs.Meaning.{domain_of, meaning_of};
 ghost use Rattle.ipfix_session.specs.ReadAhead.{IsReadingOf};
 ghost use Rattle.ipfix_session.specs.Standing.{StandsFor, Knows};
-ghost use Rattle.prepared_message.specs.Faults.{Gives, prepared_from};
+ghost use Rattle.prepared_message.specs.Faults.{GivesPrepared, prepared_from};
 ghost use Rattle.prepared_message.specs.Preparation.{AgreesWith, IsPrepared, AreRecordsJudged};
 ghost use Rattle.mediator_shares.specs.Judgements.{IsJudgementOf};
 ghost use Rattle.prepared_message.specs.Uses.{TablesAgree};
@@ -82,7 +82,7 @@ impl Prepared {
     pub fn prepare(snapshot: &Snapshot, message: Bytes) -> Result<Prepared, Fault>
         // The answer is what the message holds after the messages that the snapshot stands for, or which fault it has.
         ensures gives { (older : List (List ℕ)) → Knows snapshot.now older
-            → Gives (λ p. p.contents) result (prepared_from older message) }
+            → GivesPrepared (λ p. p.contents) result (prepared_from older message) }
         ensures whole { IfOk result (λ p. p.message ≡ message) }
         // It agrees with a session exactly where that has the snapshot's templates for the Set IDs that the message uses.
         ensures used { IfOk result (λ p. (older : List (List ℕ)) → AgreesWith older p
@@ -103,7 +103,7 @@ impl Prepared {
         workspace: &mut Workspace,
     ) -> Result<Prepared, Fault>
         ensures gives { (older : List (List ℕ)) → Knows snapshot.now older
-            → Gives (λ p. p.contents) result (prepared_from older message) }
+            → GivesPrepared (λ p. p.contents) result (prepared_from older message) }
         ensures whole { IfOk result (λ p. p.message ≡ message) }
         ensures used { IfOk result (λ p. (older : List (List ℕ)) → AgreesWith older p
             ↔ TablesAgree snapshot.now older message) }

@@ -1,8 +1,8 @@
-//! Whether the Data Sets of a message may have so many values that it is refused.
+//! Whether the Data Sets of a message may have more than `VALUES_AN_OCTET` values an octet, so that it is refused.
 ghost use Rattle.std.specs.Prelude.{◌≡◌, ℕ, ◌↔◌, ◌+◌, ◌-◌, ◌*◌, ◌/◌, ◌<◌, ◌==◌, ◌^◌, if◌then◌else◌, max, min, length, Some, None, IsTrue, IfOk, OnOk};
 ghost use Rattle.std.specs.Ordering.{nat_cmp};
 ghost use Rattle.std.specs.BTreeMap.{get};
-ghost use Rattle.prepared_message.specs.Widths.{width_of, set_values, values_of, given_or, widths_in, IsTooWide};
+ghost use Rattle.prepared_message.specs.Widths.{width_of, set_values, values_by_widths, given_or, widths_in, IsTooWide};
 ghost use Rattle.prepared_message.specs.declared.width.TheConstants.{VALUES_AN_OCTET};
 
 use crate::fault::Fault;
@@ -81,7 +81,7 @@ fn are_too_wide(
 ) -> Result<bool, AllocError>
     requires few { most < 2 ^ 64 - 1 }
     ensures { IfOk result (λ wide. IsTrue wide
-        ↔ (most < values_of (widths_in domain templates.now) said.now)) }
+        ↔ (most < values_by_widths (widths_in domain templates.now) said.now)) }
 {
     let mut given = BTreeMap::new(alloc);
     let mut left = most;

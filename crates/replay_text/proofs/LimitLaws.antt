@@ -9,8 +9,9 @@ use Rattle.mediator_calls.specs.declared.limits.Limits.{Limits}
 use Rattle.replay_text.specs.declared.verb.Verb.{Verb}
 use Rattle.replay_text.specs.declared.verb.Verb.TheVariants as verb
 use Rattle.replay_text.specs.Sayings.{Saying}
-use Rattle.replay_text.specs.Words.{Word, Left, next_word, next_number, last_number}
-use Rattle.replay_text.specs.Lines.{greatest, limits_of, limits_behind}
+use Rattle.policy_text.specs.Words.{Word}
+use Rattle.replay_text.specs.Words.{Left, next_word, next_number, last_number}
+use Rattle.replay_text.specs.Lines.{greatest, limits_on_line, limits_behind}
 use Rattle.replay_text.specs.Grammar.{IsLineOf, SetsLimits}
 use Rattle.replay_text.proofs.SpaceLaws.{behind, IsNext, IsLast, next_word-found, next_word-only, next_number-found, next_number-only, last_number-found, last_number-only}
 use Rattle.replay_text.proofs.LineLaws.{verb_text, verb_lacks, call_of-named, call_of-only}
@@ -19,15 +20,15 @@ abbrev name : List ℕ
 name = codes "limits"
 
 -- the line with the name in front
-limits_of-by : (left : Left) → limits_of (name ++ behind left) ≡ limits_behind left
-unfolding limits_of
+limits_of-by : (left : Left) → limits_on_line (name ++ behind left) ≡ limits_behind left
+unfolding limits_on_line
 limits_of-by left =
     let word = next_word-only name left (refl, (refl, (refl, (refl, (refl, (refl, tt)))))) in
     rw word refl
 
 -- a line with the name of a call in front sets none
-no_limits : (v : Verb) (left : Left) → limits_of (verb_text v ++ behind left) ≡ None
-unfolding limits_of
+no_limits : (v : Verb) (left : Left) → limits_on_line (verb_text v ++ behind left) ≡ None
+unfolding limits_on_line
 no_limits verb.Open left = let word = next_word-only (codes "open") left (verb_lacks verb.Open) in rw word refl
 no_limits verb.Close left = let word = next_word-only (codes "close") left (verb_lacks verb.Close) in rw word refl
 no_limits verb.Receive left = let word = next_word-only (codes "receive") left (verb_lacks verb.Receive) in rw word refl
@@ -39,10 +40,10 @@ no_limits verb.Pull left = let word = next_word-only (codes "pull") left (verb_l
 no_limits verb.Status left = let word = next_word-only (codes "status") left (verb_lacks verb.Status) in rw word refl
 no_limits verb.Audit left = let word = next_word-only (codes "audit") left (verb_lacks verb.Audit) in rw word refl
 
-pub call_sets_none : (said : Saying) (line : List ℕ) → IsLineOf said line → limits_of line ≡ None
+pub call_sets_none : (said : Saying) (line : List ℕ) → IsLineOf said line → limits_on_line line ≡ None
 call_sets_none said line is =
     let found = call_of-named line said (call_of-only said line is) in
-    ap limits_of found.line_is ∙ no_limits found.v found.left
+    ap limits_on_line found.line_is ∙ no_limits found.v found.left
 
 limits_line : (left : Left) (queue shapes audit entries : ℕ × Left) (octets : ℕ) → IsNext (greatest 32) left queue.0 queue.1 → IsNext (greatest 32) queue.1 shapes.0 shapes.1 → IsNext (greatest 32) shapes.1 audit.0 audit.1
     → IsNext (greatest 64) audit.1 entries.0 entries.1 → IsLast (greatest 64) entries.1 octets
@@ -79,8 +80,8 @@ limits_found line limits word true first is e =
     subst (SetsLimits limits) (sym line_is) (limits_behind-found word.1 limits e)
 limits_found line limits word false first is e = absurd (none-some limits e)
 
-pub limits_of-found : (line : List ℕ) (limits : Limits) → limits_of line ≡ Some limits → SetsLimits limits line
-unfolding limits_of
+pub limits_of-found : (line : List ℕ) (limits : Limits) → limits_on_line line ≡ Some limits → SetsLimits limits line
+unfolding limits_on_line
 limits_of-found line limits e =
     let word = bind_some (next_word (Some line)) _ limits e in
     limits_found line limits word.0 (bytes_eq word.0.0 name) word.1 refl word.2
@@ -97,8 +98,8 @@ limits_read queue shapes audit entries octets a b c d e =
     let last = last_number-only (greatest 64) octets (omega arith) e in
     rw (first, second, third, fourth, last) refl
 
-pub limits_of-only : (limits : Limits) (line : List ℕ) → SetsLimits limits line → limits_of line ≡ Some limits
+pub limits_of-only : (limits : Limits) (line : List ℕ) → SetsLimits limits line → limits_on_line line ≡ Some limits
 limits_of-only limits line is =
-    ap limits_of is.text
+    ap limits_on_line is.text
     ∙ limits_of-by (Some (decimal limits.queue ++ behind (Some (decimal limits.shapes ++ behind (Some (decimal limits.audit ++ behind (Some (decimal limits.entries ++ behind (Some (decimal limits.octets))))))))))
     ∙ limits_read limits.queue limits.shapes limits.audit limits.entries limits.octets is.queue_bound is.shapes_bound is.audit_bound is.entries_bound is.octets_bound

@@ -19,8 +19,9 @@ use Rattle.replay_text.specs.declared.verb.Verb.TheVariants as verb
 use Rattle.replay_text.specs.LineEnds.{with_line_ends}
 use Rattle.replay_text.specs.Sayings.{Saying}
 use Rattle.replay_text.specs.Sayings.Saying.{to_open, to_close, to_receive, to_edit, to_subscribe, to_unsubscribe, to_advance, to_pull, to_tell_status, to_drain_audit}
-use Rattle.replay_text.specs.Words.{Word, Left, next_word, next_number, last_number, last_word, end_of_line}
-use Rattle.replay_text.specs.Lines.{greatest, verb_of, call_by, call_of, receive_of, edit_of, pull_of}
+use Rattle.policy_text.specs.Words.{Word}
+use Rattle.replay_text.specs.Words.{Left, next_word, next_number, last_number, last_word, end_of_line}
+use Rattle.replay_text.specs.Lines.{greatest, verb_of, call_by, call_of, receive_behind, edit_behind, pull_behind}
 use Rattle.replay_text.specs.Grammar.{words_text, IsNumberLine, IsReceiveLine, IsEditLine, IsSubscribeCall, IsPullLine, IsLineOf}
 use Rattle.replay_text.proofs.SpaceLaws.{behind, IsNext, IsLast, IsLastWord, next_word-found, next_word-only, next_number-found, next_number-only, ended-found, ended-only, last_number-found, last_number-only, last_word-found, last_word-only, last_word-none}
 
@@ -175,8 +176,8 @@ receive_line left session number digits octets first second last decoded =
     let P : List ℕ → Type 0 = λ line. IsReceiveLine session.0 number.0 octets line in
     subst P (sym is) (record { session_bound = first.bound; number_bound = second.bound; text = receive_text session.0 number.0 octets digits number.1 last decoded })
 
-receive_found : (left : Left) (said : Saying) → receive_of left ≡ Some said → IsLineOf said (codes "receive" ++ behind left)
-unfolding receive_of
+receive_found : (left : Left) (said : Saying) → receive_behind left ≡ Some said → IsLineOf said (codes "receive" ++ behind left)
+unfolding receive_behind
 receive_found left said e =
     let session = bind_some (next_number (greatest 64) left) _ said e in
     let number = bind_some (next_number (greatest 64) session.0.1) _ said session.2 in
@@ -187,8 +188,8 @@ receive_found left said e =
     (receive_line left session.0 number.0 digits.0 octets.0 (next_number-found (greatest 64) left session.0.0 session.0.1 (omega arith) session.1)
     (next_number-found (greatest 64) session.0.1 number.0.0 number.0.1 (omega arith) number.1) (last_word-found number.0.1 digits.0 digits.1) (ok_from_some (decode_of digits.0) octets.0 octets.1))
 
-edit_found : (left : Left) (said : Saying) → edit_of left ≡ Some said → IsLineOf said (codes "edit" ++ behind left)
-unfolding edit_of
+edit_found : (left : Left) (said : Saying) → edit_behind left ≡ Some said → IsLineOf said (codes "edit" ++ behind left)
+unfolding edit_behind
 edit_found None said e = absurd (none-some said e)
 edit_found (Some text) said e =
     let P : Saying → Type 0 = λ s. IsLineOf s (codes "edit" ++ 32 ∷ text) in
@@ -214,8 +215,8 @@ pull_line left sub now target first second last = record {
       ∙ ap (λ (l : Left). codes "pull" ++ 32 ∷ (decimal sub.0 ++ 32 ∷ (decimal now.0 ++ behind l))) last.text;
 }
 
-pull_found : (left : Left) (said : Saying) → pull_of left ≡ Some said → IsLineOf said (codes "pull" ++ behind left)
-unfolding pull_of
+pull_found : (left : Left) (said : Saying) → pull_behind left ≡ Some said → IsLineOf said (codes "pull" ++ behind left)
+unfolding pull_behind
 pull_found left said e =
     let sub = bind_some (next_number (greatest 64) left) _ said e in
     let now = bind_some (next_number (greatest 32) sub.0.1) _ said sub.2 in
@@ -280,7 +281,7 @@ reads_audit left = refl
 
 receive_read : (session number : ℕ) (octets digits : List ℕ) (left : Left) → session ≤ greatest 64 → number ≤ greatest 64 → last_word left ≡ Some digits → decode_of digits ≡ Ok octets
     → call_by verb.Receive (Some (decimal session ++ behind (Some (decimal number ++ behind left)))) ≡ Some (to_receive session number octets)
-unfolding call_by receive_of
+unfolding call_by receive_behind
 receive_read session number octets digits left a b last decoded =
     let first = next_number-only (greatest 64) session (Some (decimal number ++ behind left)) (omega arith) a in
     let second = next_number-only (greatest 64) number left (omega arith) b in
@@ -303,7 +304,7 @@ receive_only session number octets line is =
     is.text
 
 edit_read : (written : List ℕ) → call_by verb.Edit (Some written) ≡ Some (to_edit (with_line_ends written))
-unfolding call_by edit_of
+unfolding call_by edit_behind
 edit_read written = refl
 
 edit_only : (text line : List ℕ) → IsEditLine text line → call_of line ≡ Some (to_edit text)
@@ -319,7 +320,7 @@ subscribe_only name line (inr (word, is)) = by_name verb.Subscribe (Some name) l
 
 pull_read : (sub now target : ℕ) → sub ≤ greatest 64 → now ≤ greatest 32 → target ≤ greatest 16
     → call_by verb.Pull (Some (decimal sub ++ behind (Some (decimal now ++ behind (Some (decimal target)))))) ≡ Some (to_pull sub now target)
-unfolding call_by pull_of
+unfolding call_by pull_behind
 pull_read sub now target a b d =
     let first = next_number-only (greatest 64) sub (Some (decimal now ++ behind (Some (decimal target)))) (omega arith) a in
     let second = next_number-only (greatest 32) now (Some (decimal target)) (omega arith) b in

@@ -4,55 +4,56 @@ use Rattle.std.specs.Option.{option_map}
 use Rattle.flow_prefix.specs.Reading.{cut_at}
 use Rattle.flow_prefix.proofs.PartsLaws.{slice_split-cut, slice_split-whole}
 use Rattle.sequences.specs.Options.{◌>>=◌}
-use Rattle.replay_text.specs.Lists.{AskedCalls, nothing, lines_of, is_skipped, step, line_step, then_read, read_lines, list_of}
+use Rattle.policy_text.specs.Words.{lines_of}
+use Rattle.replay_text.specs.Lists.{AskedCalls, no_calls, is_passed_over, list_after, list_after_line, or_line, calls_of_lines, calls_of_text}
 
 -- what is read after a line
 abbrev pub go_on : ℕ → List (List ℕ) → Option (Bool × AskedCalls) → Result AskedCalls ℕ
 go_on n others None = Err n
-go_on n others (Some x) = read_lines x.0 x.1 (n + 1) others
+go_on n others (Some x) = calls_of_lines x.0 x.1 (n + 1) others
 
-not_skipped : (n : ℕ) (others : List (List ℕ)) (o : Option AskedCalls) → then_read n o (λ more. read_lines true more (n + 1) others) ≡ go_on n others (o >>= λ more. Some (true, more))
+not_skipped : (n : ℕ) (others : List (List ℕ)) (o : Option AskedCalls) → or_line n o (λ more. calls_of_lines true more (n + 1) others) ≡ go_on n others (o >>= λ more. Some (true, more))
 not_skipped n others (Some more) = refl
 not_skipped n others None = refl
 
 skip_or : (b : Bool) (n : ℕ) (others : List (List ℕ)) (started : Bool) (list : AskedCalls) (o : Option AskedCalls)
-    → cond b (read_lines started list (n + 1) others) (then_read n o (λ more. read_lines true more (n + 1) others)) ≡ go_on n others (cond b (Some (started, list)) (o >>= λ more. Some (true, more)))
+    → cond b (calls_of_lines started list (n + 1) others) (or_line n o (λ more. calls_of_lines true more (n + 1) others)) ≡ go_on n others (cond b (Some (started, list)) (o >>= λ more. Some (true, more)))
 skip_or true n others started list o = refl
 skip_or false n others started list o = not_skipped n others o
 
-pub read_lines-cons : (started : Bool) (list : AskedCalls) (n : ℕ) (line : List ℕ) (others : List (List ℕ)) → read_lines started list n (line ∷ others) ≡ go_on n others (line_step started list line)
-unfolding read_lines line_step
-read_lines-cons started list n line others = skip_or (is_skipped line) n others started list (step started list line)
+pub read_lines-cons : (started : Bool) (list : AskedCalls) (n : ℕ) (line : List ℕ) (others : List (List ℕ)) → calls_of_lines started list n (line ∷ others) ≡ go_on n others (list_after_line started list line)
+unfolding calls_of_lines list_after_line
+read_lines-cons started list n line others = skip_or (is_passed_over line) n others started list (list_after started list line)
 
-pub list_of-start : (text : List ℕ) → read_lines false nothing 1 (lines_of text) ≡ list_of text
-unfolding list_of
+pub list_of-start : (text : List ℕ) → calls_of_lines false no_calls 1 (lines_of text) ≡ calls_of_text text
+unfolding calls_of_text
 list_of-start text = refl
 
-read_lines-cut : (started : Bool) (list : AskedCalls) (n : ℕ) (text line after : List ℕ) → cut_at 10 text ≡ Some (line, after) → read_lines started list n (lines_of text) ≡ go_on n (lines_of after) (line_step started list line)
-read_lines-cut started list n text line after e = ap (read_lines started list n) (slice_split-cut 10 text line after e) ∙ read_lines-cons started list n line (lines_of after)
+read_lines-cut : (started : Bool) (list : AskedCalls) (n : ℕ) (text line after : List ℕ) → cut_at 10 text ≡ Some (line, after) → calls_of_lines started list n (lines_of text) ≡ go_on n (lines_of after) (list_after_line started list line)
+read_lines-cut started list n text line after e = ap (calls_of_lines started list n) (slice_split-cut 10 text line after e) ∙ read_lines-cons started list n line (lines_of after)
 
-read_lines-whole : (started : Bool) (list : AskedCalls) (n : ℕ) (text : List ℕ) → cut_at 10 text ≡ None → read_lines started list n (lines_of text) ≡ go_on n [] (line_step started list text)
-read_lines-whole started list n text e = ap (read_lines started list n) (slice_split-whole 10 text e) ∙ read_lines-cons started list n text []
+read_lines-whole : (started : Bool) (list : AskedCalls) (n : ℕ) (text : List ℕ) → cut_at 10 text ≡ None → calls_of_lines started list n (lines_of text) ≡ go_on n [] (list_after_line started list text)
+read_lines-whole started list n text e = ap (calls_of_lines started list n) (slice_split-whole 10 text e) ∙ read_lines-cons started list n text []
 
 -- a turn of the loop over the lines
-pub read_lines-turn : (started next : Bool) (list more : AskedCalls) (n : ℕ) (text line after : List ℕ) → cut_at 10 text ≡ Some (line, after) → line_step started list line ≡ Some (next, more)
-    → read_lines started list n (lines_of text) ≡ read_lines next more (n + 1) (lines_of after)
+pub read_lines-turn : (started next : Bool) (list more : AskedCalls) (n : ℕ) (text line after : List ℕ) → cut_at 10 text ≡ Some (line, after) → list_after_line started list line ≡ Some (next, more)
+    → calls_of_lines started list n (lines_of text) ≡ calls_of_lines next more (n + 1) (lines_of after)
 read_lines-turn started next list more n text line after e read = read_lines-cut started list n text line after e ∙ ap (go_on n (lines_of after)) read
 
 -- a line that asks for nothing
-pub read_lines-stop : (started : Bool) (list : AskedCalls) (n : ℕ) (text line after : List ℕ) → cut_at 10 text ≡ Some (line, after) → line_step started list line ≡ None → read_lines started list n (lines_of text) ≡ Err n
+pub read_lines-stop : (started : Bool) (list : AskedCalls) (n : ℕ) (text line after : List ℕ) → cut_at 10 text ≡ Some (line, after) → list_after_line started list line ≡ None → calls_of_lines started list n (lines_of text) ≡ Err n
 read_lines-stop started list n text line after e read = read_lines-cut started list n text line after e ∙ ap (go_on n (lines_of after)) read
 
-pub read_lines-nil : (started : Bool) (list : AskedCalls) (n : ℕ) → read_lines started list n [] ≡ Ok list
-unfolding read_lines
+pub read_lines-nil : (started : Bool) (list : AskedCalls) (n : ℕ) → calls_of_lines started list n [] ≡ Ok list
+unfolding calls_of_lines
 read_lines-nil started list n = refl
 
 -- the last line
-pub read_lines-last : (started next : Bool) (list more : AskedCalls) (n : ℕ) (text : List ℕ) → cut_at 10 text ≡ None → line_step started list text ≡ Some (next, more) → read_lines started list n (lines_of text) ≡ Ok more
+pub read_lines-last : (started next : Bool) (list more : AskedCalls) (n : ℕ) (text : List ℕ) → cut_at 10 text ≡ None → list_after_line started list text ≡ Some (next, more) → calls_of_lines started list n (lines_of text) ≡ Ok more
 read_lines-last started next list more n text e read = read_lines-whole started list n text e ∙ ap (go_on n []) read ∙ read_lines-nil next more (n + 1)
 
 -- the last line, where it asks for nothing
-pub read_lines-last_stop : (started : Bool) (list : AskedCalls) (n : ℕ) (text : List ℕ) → cut_at 10 text ≡ None → line_step started list text ≡ None → read_lines started list n (lines_of text) ≡ Err n
+pub read_lines-last_stop : (started : Bool) (list : AskedCalls) (n : ℕ) (text : List ℕ) → cut_at 10 text ≡ None → list_after_line started list text ≡ None → calls_of_lines started list n (lines_of text) ≡ Err n
 read_lines-last_stop started list n text e read = read_lines-whole started list n text e ∙ ap (go_on n []) read
 
 -- what a line was read as, by what its reader answered

@@ -14,7 +14,8 @@ use Rattle.numerals.specs.Numerals.{number_of}
 use Rattle.numerals.proofs.NumeralLaws.{number_of-found, number_of-only}
 use Rattle.flow_prefix.specs.Reading.{cut_at}
 use Rattle.flow_prefix.proofs.CutLaws.{cut_at-middle, cut_at-text}
-use Rattle.replay_text.specs.Words.{Word, Left, up_to_space, next_word, next_number, last_number, last_word, end_of_line}
+use Rattle.policy_text.specs.Words.{Word}
+use Rattle.replay_text.specs.Words.{Left, up_to_space, next_word, next_number, last_number, last_word, end_of_line}
 
 -- ---- the first octet of a kind
 

@@ -11,7 +11,7 @@ use Rattle.ipfix_session.specs.declared.read.Gap.{Gap}
 use Rattle.ipfix_session.specs.declared.read.Skips.{Skips}
 use Rattle.policy_text.specs.FaultTexts.{text_of_kind}
 use Rattle.disclosure_audit.specs.declared.entry.AuditEntry.{AuditEntry}
-use Rattle.disclosure_audit.specs.Lines.{line_of}
+use Rattle.disclosure_audit.specs.Lines.{audit_line}
 use Rattle.mediator_state.specs.declared.fault.Fault.{Fault as MediatorFault}
 use Rattle.mediator_state.specs.declared.fault.Fault.TheVariants as fault
 use Rattle.mediator_state.specs.declared.receipt.Receipt.{Receipt}
@@ -48,7 +48,7 @@ status_text status =
 
 -- how many entries there are, and then a line for each
 abbrev pub drained_text : List AuditEntry → List ℕ
-drained_text entries = codes "ok " ++ decimal (length entries) ++ 10 ∷ flat_map line_of entries
+drained_text entries = codes "ok " ++ decimal (length entries) ++ 10 ∷ flat_map audit_line entries
 
 -- ---- refusals
 

@@ -10,10 +10,11 @@ use Rattle.replay_text.specs.declared.fault.Fault.{Fault}
 use Rattle.replay_text.specs.declared.fault.Fault.TheVariants.{Line, OutOfMemory}
 use Rattle.replay_text.specs.LineEnds.{with_line_ends}
 use Rattle.replay_text.specs.Lines.{greatest}
-use Rattle.replay_text.specs.Lists.{AskedCalls, nothing, default_limits, lines_of, is_skipped}
+use Rattle.policy_text.specs.Words.{lines_of}
+use Rattle.replay_text.specs.Lists.{AskedCalls, no_calls, default_limits, is_passed_over}
 use Rattle.replay_text.specs.Sayings.{Saying}
 use Rattle.replay_text.specs.Sayings.Saying.{to_open, to_close, to_receive, to_edit, to_subscribe, to_unsubscribe, to_advance, to_pull, to_tell_status, to_drain_audit}
-use Rattle.replay_text.specs.Words.{Word}
+use Rattle.policy_text.specs.Words.{Word}
 
 -- words with one space (32) between
 abbrev pub words_text : List Word → List ℕ
@@ -76,14 +77,14 @@ pub record SetsLimits (limits : Limits) (line : List ℕ) : Type 0 where
 -- the lines ask for these calls, in their order; an empty line and one that begins with `#` ask for nothing
 abbrev pub AreCalls : List (List ℕ) → List Saying → Type 0
 AreCalls [] calls = calls ≡ []
-AreCalls (line ∷ lines) [] = (is_skipped line ≡ true) × AreCalls lines []
-AreCalls (line ∷ lines) (said ∷ calls) = ((is_skipped line ≡ true) × AreCalls lines (said ∷ calls)) ⊎ (IsLineOf said line × AreCalls lines calls)
+AreCalls (line ∷ lines) [] = (is_passed_over line ≡ true) × AreCalls lines []
+AreCalls (line ∷ lines) (said ∷ calls) = ((is_passed_over line ≡ true) × AreCalls lines (said ∷ calls)) ⊎ (IsLineOf said line × AreCalls lines calls)
 
 -- the lines are a list of calls: the first that asks for something may set the limits
 abbrev pub AreList : List (List ℕ) → AskedCalls → Type 0
-AreList [] list = list ≡ nothing
+AreList [] list = list ≡ no_calls
 AreList (line ∷ lines) list =
-    ((is_skipped line ≡ true) × AreList lines list)
+    ((is_passed_over line ≡ true) × AreList lines list)
     ⊎ ((SetsLimits list.limits line × AreCalls lines list.calls)
     ⊎ ((list.limits ≡ default_limits) × AreCalls (line ∷ lines) list.calls))
 

@@ -10,7 +10,8 @@ use Rattle.replay_text.specs.declared.verb.Verb.TheVariants as verb
 use Rattle.replay_text.specs.LineEnds.{with_line_ends}
 use Rattle.replay_text.specs.Sayings.{Saying}
 use Rattle.replay_text.specs.Sayings.Saying.{to_open, to_close, to_receive, to_edit, to_subscribe, to_unsubscribe, to_advance, to_pull, to_tell_status, to_drain_audit}
-use Rattle.replay_text.specs.Words.{Word, Left, next_word, next_number, last_number, last_word, end_of_line}
+use Rattle.policy_text.specs.Words.{Word}
+use Rattle.replay_text.specs.Words.{Left, next_word, next_number, last_number, last_word, end_of_line}
 
 -- the greatest number of so many bits
 abbrev pub greatest : ℕ → ℕ
@@ -32,8 +33,8 @@ verb_of word =
     else None
 
 -- `receive SESSION NUMBER HEX`, in which no octets need no word
-unfoldable pub receive_of : Left → Option Saying
-receive_of left = do
+unfoldable pub receive_behind : Left → Option Saying
+receive_behind left = do
   session ← next_number (greatest 64) left
   number ← next_number (greatest 64) session.1
   digits ← last_word number.1
@@ -41,14 +42,14 @@ receive_of left = do
   Some (to_receive session.0 number.0 octets)
 
 -- `edit TEXT`, to the end of the line
-unfoldable pub edit_of : Left → Option Saying
-edit_of left = do
+unfoldable pub edit_behind : Left → Option Saying
+edit_behind left = do
   text ← left
   Some (to_edit (with_line_ends text))
 
 -- `pull SUB NOW TARGET`
-unfoldable pub pull_of : Left → Option Saying
-pull_of left = do
+unfoldable pub pull_behind : Left → Option Saying
+pull_behind left = do
   sub ← next_number (greatest 64) left
   now ← next_number (greatest 32) sub.1
   target ← last_number (greatest 16) now.1
@@ -58,12 +59,12 @@ pull_of left = do
 unfoldable pub call_by : Verb → Left → Option Saying
 call_by verb.Open left = end_of_line left >>= λ done. Some to_open
 call_by verb.Close left = last_number (greatest 64) left >>= λ session. Some (to_close session)
-call_by verb.Receive left = receive_of left
-call_by verb.Edit left = edit_of left
+call_by verb.Receive left = receive_behind left
+call_by verb.Edit left = edit_behind left
 call_by verb.Subscribe left = last_word left >>= λ name. Some (to_subscribe name)
 call_by verb.Unsubscribe left = last_number (greatest 64) left >>= λ sub. Some (to_unsubscribe sub)
 call_by verb.Advance left = last_number (greatest 64) left >>= λ t. Some (to_advance t)
-call_by verb.Pull left = pull_of left
+call_by verb.Pull left = pull_behind left
 call_by verb.Status left = last_number (greatest 64) left >>= λ sub. Some (to_tell_status sub)
 call_by verb.Audit left = last_number (greatest 32) left >>= λ most. Some (to_drain_audit most)
 
@@ -84,7 +85,7 @@ limits_behind left = do
   Some (record { queue = queue.0; shapes = shapes.0; audit = audit.0; entries = entries.0; octets = octets })
 
 -- the limits that a line sets
-unfoldable pub limits_of : List ℕ → Option Limits
-limits_of line = do
+unfoldable pub limits_on_line : List ℕ → Option Limits
+limits_on_line line = do
   word ← next_word (Some line)
   if bytes_eq word.0 (codes "limits") then limits_behind word.1 else None

@@ -1,7 +1,7 @@
 -- What a text of calls asks for, line by line, or the first line that asks for nothing.
 use Rattle.std.specs.Prelude.{◌≡◌, ℕ, ◌+◌, Bool, true, false, List, [], ◌∷◌, ◌++◌, map, Option, Some, None, Result, Ok, Err, if◌then◌else◌, ◌==◌}
-use Rattle.std.specs.List.{slice_split}
 use Rattle.sequences.specs.Options.{◌>>=◌}
+use Rattle.policy_text.specs.Words.{lines_of}
 use Rattle.subscriber_stream.specs.declared.limits.TheConstants.{MOST_SHAPES}
 use Rattle.event_journal.specs.declared.limits.TheConstants.{MOST_ENTRIES, MOST_OCTETS}
 use Rattle.mediator_calls.specs.declared.limits.Limits.{Limits}
@@ -9,7 +9,7 @@ use Rattle.replay_text.specs.declared.call_list.CallList.{CallList}
 use Rattle.replay_text.specs.declared.fault.Fault.{Fault}
 use Rattle.replay_text.specs.declared.fault.Fault.TheVariants.{Line, OutOfMemory}
 use Rattle.replay_text.specs.Sayings.{Saying, saying}
-use Rattle.replay_text.specs.Lines.{call_of, limits_of}
+use Rattle.replay_text.specs.Lines.{call_of, limits_on_line}
 use Rattle.mediator_state.specs.declared.state.TheConstants.{DEFAULT_AUDIT, DEFAULT_QUEUE}
 
 -- limits, and what calls say, in their order
@@ -26,17 +26,13 @@ abbrev pub default_limits : Limits
 default_limits = record { queue = DEFAULT_QUEUE; shapes = MOST_SHAPES; audit = DEFAULT_AUDIT; entries = MOST_ENTRIES; octets = MOST_OCTETS }
 
 -- no call and no limits yet
-abbrev pub nothing : AskedCalls
-nothing = record { limits = default_limits; calls = [] }
-
--- each line ends at a line feed (10), the last with the text
-abbrev pub lines_of : List ℕ → List (List ℕ)
-lines_of text = slice_split (λ c. c == 10) text
+abbrev pub no_calls : AskedCalls
+no_calls = record { limits = default_limits; calls = [] }
 
 -- an empty line, or one that begins with `#` (35)
-abbrev pub is_skipped : List ℕ → Bool
-is_skipped [] = true
-is_skipped (c ∷ cs) = c == 35
+abbrev pub is_passed_over : List ℕ → Bool
+is_passed_over [] = true
+is_passed_over (c ∷ cs) = c == 35
 
 abbrev pub with_call : AskedCalls → Saying → AskedCalls
 with_call list said = record { limits = list.limits; calls = list.calls ++ said ∷ [] }
@@ -54,29 +50,29 @@ first_step list line None = call_step list line
 first_step list line (Some limits) = Some (with_limits list limits)
 
 -- the list after a line that isn't skipped, of which the first is read otherwise
-unfoldable pub step : Bool → AskedCalls → List ℕ → Option AskedCalls
-step false list line = first_step list line (limits_of line)
-step true list line = call_step list line
+unfoldable pub list_after : Bool → AskedCalls → List ℕ → Option AskedCalls
+list_after false list line = first_step list line (limits_on_line line)
+list_after true list line = call_step list line
 
 -- the same of a line that may be skipped, and whether a line was read by then
-unfoldable pub line_step : Bool → AskedCalls → List ℕ → Option (Bool × AskedCalls)
-line_step started list line = if is_skipped line then Some (started, list) else (step started list line >>= λ more. Some (true, more))
+unfoldable pub list_after_line : Bool → AskedCalls → List ℕ → Option (Bool × AskedCalls)
+list_after_line started list line = if is_passed_over line then Some (started, list) else (list_after started list line >>= λ more. Some (true, more))
 
 -- with what was read go on, or name the line that asks for nothing
-abbrev pub then_read : ℕ → Option AskedCalls → (AskedCalls → Result AskedCalls ℕ) → Result AskedCalls ℕ
-then_read n None go = Err n
-then_read n (Some list) go = go list
+abbrev pub or_line : ℕ → Option AskedCalls → (AskedCalls → Result AskedCalls ℕ) → Result AskedCalls ℕ
+or_line n None go = Err n
+or_line n (Some list) go = go list
 
 -- the list after these lines, of which the first has number n; started says whether a line was read before
-unfoldable pub read_lines : Bool → AskedCalls → ℕ → List (List ℕ) → Result AskedCalls ℕ
-read_lines started list n [] = Ok list
-read_lines started list n (line ∷ others) =
-    if is_skipped line then read_lines started list (n + 1) others
-    else then_read n (step started list line) (λ more. read_lines true more (n + 1) others)
+unfoldable pub calls_of_lines : Bool → AskedCalls → ℕ → List (List ℕ) → Result AskedCalls ℕ
+calls_of_lines started list n [] = Ok list
+calls_of_lines started list n (line ∷ others) =
+    if is_passed_over line then calls_of_lines started list (n + 1) others
+    else or_line n (list_after started list line) (λ more. calls_of_lines true more (n + 1) others)
 
 -- what a text asks for, or the number of its first line that asks for nothing, from 1
-unfoldable pub list_of : List ℕ → Result AskedCalls ℕ
-list_of text = read_lines false nothing 1 (lines_of text)
+unfoldable pub calls_of_text : List ℕ → Result AskedCalls ℕ
+calls_of_text text = calls_of_lines false no_calls 1 (lines_of text)
 
 -- what a reader answered is what the text asks for, or its first line that asks for nothing; want of memory says nothing
 abbrev pub Reads : Result CallList Fault → Result AskedCalls ℕ → Type 0

@@ -3,9 +3,7 @@ use Rattle.std.specs.Prelude.{ℕ, List, [], Option, Some, None}
 use Rattle.sequences.specs.Options.{◌>>=◌}
 use Rattle.numerals.specs.Numerals.{number_of}
 use Rattle.flow_prefix.specs.Reading.{cut_at}
-
-abbrev pub Word : Type 0
-Word = List ℕ
+use Rattle.policy_text.specs.Words.{Word}
 
 -- what is left of a line behind a space, or None where the line has ended
 abbrev pub Left : Type 0

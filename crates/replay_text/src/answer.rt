@@ -3,7 +3,7 @@ ghost use Rattle.std.specs.Prelude.{◌≡◌, ◌++◌, ◌∷◌, [], codes, I
 ghost use Rattle.std.specs.Fmt.{decimal};
 ghost use Rattle.std.specs.List.{flat_map};
 ghost use Rattle.hex.specs.Hex.{encode_lower};
-ghost use Rattle.disclosure_audit.specs.Lines.{line_of};
+ghost use Rattle.disclosure_audit.specs.Lines.{audit_line};
 ghost use Rattle.replay_text.specs.Answers.{answer_text, answers_text, receipt_text, skips_text, gap_text, pulled_text, status_text, cut_word, drained_text, refusal_text, fault_details, decode_word, read_word};
 
 use bytes::Bytes;
@@ -153,7 +153,7 @@ pub fn drained_text(alloc: Global, entries: &[AuditEntry]) -> Result<String, All
 /// Adds the lines of audit entries.
 fn put_entries(alloc: Global, text: &mut String, entries: &[AuditEntry]) -> Result<(), AllocError>
     ensures { OnOk result (string_bytes text.new ≡ string_bytes text.old
-        ++ flat_map line_of entries.now) }
+        ++ flat_map audit_line entries.now) }
 {
     'entries: for entry in entries {
         let line = line(alloc, entry)?;

@@ -1,7 +1,7 @@
 //! Reads a list of calls from a text.
 ghost use Rattle.std.specs.Prelude.{◌≡◌, Ok, IfErr, IfOk};
 ghost use Rattle.std.specs.Option.{option_map};
-ghost use Rattle.replay_text.specs.Lists.{AskedCalls, Reads, asked_calls, nothing, list_of, line_step, step, call_step, is_skipped};
+ghost use Rattle.replay_text.specs.Lists.{AskedCalls, Reads, asked_calls, no_calls, calls_of_text, list_after_line, list_after, call_step, is_passed_over};
 ghost use Rattle.replay_text.specs.Grammar.{IsFaultOf, Lists};
 
 use crate::fault::Fault;
@@ -44,14 +44,14 @@ pub fn read_call_list(alloc: Global, text: &str) -> Result<CallList, Fault>
     // What is refused has this first line that asks for nothing, unless memory ran out.
     ensures first { IfErr result (λ fault. IsFaultOf fault text.now) }
     // Which line it is.
-    ensures exact { Reads result (list_of text.now) }
+    ensures exact { Reads result (calls_of_text text.now) }
 {
     read_lines(alloc, text)
 }
 
 /// Reads the lines of a text, one after another.
 fn read_lines(alloc: Global, text: &str) -> Result<CallList, Fault>
-    ensures { Reads result (list_of text.now) }
+    ensures { Reads result (calls_of_text text.now) }
 {
     let mut list = CallList::new(alloc);
     let mut started = false;
@@ -74,7 +74,7 @@ fn read_lines(alloc: Global, text: &str) -> Result<CallList, Fault>
 impl CallList {
     /// No calls yet.
     fn new(alloc: Global) -> CallList
-        ensures { asked_calls result ≡ nothing }
+        ensures { asked_calls result ≡ no_calls }
     {
         CallList {
             limits: DEFAULT_LIMITS,
@@ -83,7 +83,7 @@ impl CallList {
     }
 
     /// Reads a line, and says whether a line that isn't skipped was read by then. `None` where it asks for nothing.
-    #[tactic(auto, unfolding(crate::specs::Lists::line_step))]
+    #[tactic(auto, unfolding(crate::specs::Lists::list_after_line))]
     fn read_line(
         &mut self,
         alloc: Global,
@@ -91,7 +91,7 @@ impl CallList {
         line: &str,
     ) -> Result<Option<bool>, AllocError>
         ensures { IfOk result (λ read. option_map (λ started. (started, asked_calls self.new)) read
-            ≡ line_step started (asked_calls self.old) line.now) }
+            ≡ list_after_line started (asked_calls self.old) line.now) }
     {
         if is_skipped(line) {
             return Ok(Some(started));
@@ -103,7 +103,7 @@ impl CallList {
     }
 
     /// Reads a line that isn't skipped: the first may set the limits.
-    #[tactic(auto, unfolding(crate::specs::Lists::step))]
+    #[tactic(auto, unfolding(crate::specs::Lists::list_after))]
     fn add_line(
         &mut self,
         alloc: Global,
@@ -111,7 +111,7 @@ impl CallList {
         line: &str,
     ) -> Result<Option<()>, AllocError>
         ensures { IfOk result (λ read. option_map (λ _. asked_calls self.new) read
-            ≡ step started (asked_calls self.old) line.now) }
+            ≡ list_after started (asked_calls self.old) line.now) }
     {
         if started {
             return self.add_call(alloc, line);
@@ -141,7 +141,7 @@ impl CallList {
 
 /// Whether a line is empty, or begins with `#`.
 fn is_skipped(line: &str) -> bool
-    ensures { result ≡ is_skipped line.now }
+    ensures { result ≡ is_passed_over line.now }
 {
     match line.as_bytes().first() {
         Some(first) => *first == b'#',

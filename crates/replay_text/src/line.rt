@@ -5,7 +5,7 @@ ghost use Rattle.std.specs.Result.{result_ok};
 ghost use Rattle.hex.specs.Hex.{decode_of};
 ghost use Rattle.replay_text.specs.Sayings.{saying};
 ghost use Rattle.replay_text.specs.declared.verb.Verb.TheVariants as Verb;
-ghost use Rattle.replay_text.specs.Lines.{call_of, call_by, receive_of, edit_of, pull_of, limits_of, limits_behind};
+ghost use Rattle.replay_text.specs.Lines.{call_of, call_by, receive_behind, edit_behind, pull_behind, limits_on_line, limits_behind};
 
 use crate::line_ends::with_line_ends;
 use crate::verb::{Verb, verb_of};
@@ -78,9 +78,9 @@ fn read_close(words: &mut Words<'_>) -> Option<Call>
 }
 
 /// Behind `receive`: the session, the message's number, and its octets in hexadecimal.
-#[tactic(auto, unfolding(crate::specs::Lines::receive_of))]
+#[tactic(auto, unfolding(crate::specs::Lines::receive_behind))]
 fn read_receive(alloc: Global, words: &mut Words<'_>) -> Result<Option<Call>, AllocError>
-    ensures { IfOk result (λ call. option_map saying call ≡ receive_of words.old) }
+    ensures { IfOk result (λ call. option_map saying call ≡ receive_behind words.old) }
 {
     let Some(session) = words.number(U64) else {
         return Ok(None);
@@ -113,9 +113,9 @@ fn read_octets(alloc: Global, digits: &str) -> Result<Option<Bytes>, AllocError>
 }
 
 /// Behind `edit`: the policy, to the end of the line.
-#[tactic(auto, unfolding(crate::specs::Lines::edit_of))]
+#[tactic(auto, unfolding(crate::specs::Lines::edit_behind))]
 fn read_edit(alloc: Global, words: &mut Words<'_>) -> Result<Option<Call>, AllocError>
-    ensures { IfOk result (λ call. option_map saying call ≡ edit_of words.old) }
+    ensures { IfOk result (λ call. option_map saying call ≡ edit_behind words.old) }
 {
     let Some(text) = words.rest() else {
         return Ok(None);
@@ -155,9 +155,9 @@ fn read_advance(words: &mut Words<'_>) -> Option<Call>
 }
 
 /// Behind `pull`: the subscription, the Export Time and the target.
-#[tactic(auto, unfolding(crate::specs::Lines::pull_of))]
+#[tactic(auto, unfolding(crate::specs::Lines::pull_behind))]
 fn read_pull(words: &mut Words<'_>) -> Option<Call>
-    ensures { option_map saying result ≡ pull_of words.old }
+    ensures { option_map saying result ≡ pull_behind words.old }
 {
     let sub = words.number(U64)?;
     let now = words.number(U32)?;
@@ -188,9 +188,9 @@ fn read_audit(words: &mut Words<'_>) -> Option<Call>
 }
 
 /// The limits that a line sets, if it sets some.
-#[tactic(auto, unfolding(crate::specs::Lines::limits_of))]
+#[tactic(auto, unfolding(crate::specs::Lines::limits_on_line))]
 pub(crate) fn read_limits(line: &str) -> Option<Limits>
-    ensures { result ≡ limits_of line.now }
+    ensures { result ≡ limits_on_line line.now }
 {
     let mut words = Words::new(line);
     let word = words.word()?;

@@ -25,8 +25,8 @@ use Rattle.policy_judge.specs.Match.{is_met, is_for, is_same_element}
 use Rattle.policy_judge.proofs.OccurrenceLaws.{any_picked}
 use Rattle.rule_table.specs.declared.addresses.Address.{Address}
 use Rattle.rule_table.specs.declared.addresses.Shape.{Shape}
-use Rattle.rule_table.specs.Addresses.{address_of, address_at, addresses_of, shape_of}
-use Rattle.rule_table.specs.Marks.{name_mark, who_mark, inside_mark, prefix_mark, domain_mark, element_mark, element_of, condition_marks, present, or_alone, marks_of}
+use Rattle.rule_table.specs.Addresses.{address_value, address_at, addresses_of, shape_of}
+use Rattle.rule_table.specs.Marks.{name_mark, who_mark, inside_mark, prefix_mark, domain_mark, element_mark, named_element, condition_marks, present, or_alone, marks_of}
 use Rattle.rule_table.specs.Asked.{asked_at, asked_of, asked_elements, with_asked, asked_by, asked_marks}
 use Rattle.rule_table.specs.Candidates.{touches, has_element, may_match}
 use Rattle.rule_table.proofs.Members.{Passing, passing, given, joined, mapped, member}
@@ -38,7 +38,7 @@ abbrev address_in : Prefix → List ℕ → Address
 address_in (V4 net) octets = record { width = 32; number = be_value octets }
 address_in (V6 net) octets = record { width = 128; number = be_value octets }
 
-address_inside : (prefix : Prefix) (octets : List ℕ) → contains prefix octets ≡ true → address_of octets ≡ Some (address_in prefix octets)
+address_inside : (prefix : Prefix) (octets : List ℕ) → contains prefix octets ≡ true → address_value octets ≡ Some (address_in prefix octets)
 address_inside (V4 net) octets e = rw ((and_parts (length octets == 4) (is_inside 32 net (be_value octets)) e).0) refl
 address_inside (V6 net) octets e =
     let wide = (and_parts (length octets == 16) (is_inside 128 net (be_value octets)) e).0 in
@@ -59,7 +59,7 @@ asked_field : (who : ℕ) (side : Side) (shapes : List Shape) (r : DataRecord) (
     → Contains (asked_of who side shapes (addresses_of side r)) (prefix_mark who side prefix)
 asked_field who side shapes r prefix field among is inside shaped =
     let address = address_in prefix field.1 in
-    let read : address_at side field ≡ Some address = ap (λ b. cond b (address_of field.1) None) is ∙ address_inside prefix field.1 inside in
+    let read : address_at side field ≡ Some address = ap (λ b. cond b (address_value field.1) None) is ∙ address_inside prefix field.1 inside in
     let there = given (address_at side) (zip r.template.fields r.values) field address among read in
     let marked = given (asked_at who side address) shapes (shape_of prefix) (prefix_mark who side prefix) shaped (asked_inside who side prefix field.1 inside) in
     joined (λ a. filter_map (asked_at who side a) shapes) (addresses_of side r) address (prefix_mark who side prefix) there marked
@@ -185,13 +185,13 @@ pub asked_rule : (name : List ℕ) (domain : ℕ) (ss ds : List Shape) (r : Data
     → (m : ℕ) → Contains (marks_of rule) m → Contains (asked_marks name domain ss ds r) m
 unfolding marks_of
 asked_rule name domain ss ds r rule e sf st m own =
-    let parts = and_parts (is_for name domain rule) (touches r rule && is_met (has_element r.template.fields) (element_of rule)) e in
+    let parts = and_parts (is_for name domain rule) (touches r rule && is_met (has_element r.template.fields) (named_element rule)) e in
     let whom = and_parts (is_met (bytes_eq name) rule.who) (is_met (λ d. d == domain) rule.domain) parts.0 in
-    let rest = and_parts (touches r rule) (is_met (has_element r.template.fields) (element_of rule)) parts.1 in
+    let rest = and_parts (touches r rule) (is_met (has_element r.template.fields) (named_element rule)) parts.1 in
     let ends = and_parts (is_met (λ prefix. list_any (contains prefix) (sources r)) rule.from) (is_met (λ prefix. list_any (contains prefix) (destinations r)) rule.to) rest.0 in
     let each : (w : ℕ) (marks : List ℕ) → Contains (or_alone w (present (condition_marks w rule))) m → Contains (asked_by w domain ss ds r marks) m = λ w marks.
     let P : ℕ → Type 0 = λ n. Contains (asked_by w domain ss ds r marks) n in
     alone_or P w (present (condition_marks w rule)) (in_who w domain (asked_elements w r.template.fields) _ _ marks)
-    (each_present P (option_map (prefix_mark w Source) rule.from) (option_map (prefix_mark w Destination) rule.to) (option_map (element_mark w) (element_of rule)) (option_map (domain_mark w) rule.domain)
-    (from_asked ss ds r domain rule.from ends.0 sf w marks) (to_asked ss ds r domain rule.to ends.1 st w marks) (element_asked ss ds r domain (element_of rule) rest.1 w marks) (domain_asked ss ds r domain rule.domain whom.1 w marks)) m in
+    (each_present P (option_map (prefix_mark w Source) rule.from) (option_map (prefix_mark w Destination) rule.to) (option_map (element_mark w) (named_element rule)) (option_map (domain_mark w) rule.domain)
+    (from_asked ss ds r domain rule.from ends.0 sf w marks) (to_asked ss ds r domain rule.to ends.1 st w marks) (element_asked ss ds r domain (named_element rule) rest.1 w marks) (domain_asked ss ds r domain rule.domain whom.1 w marks)) m in
     for_whom name domain ss ds r rule.who (λ w. or_alone w (present (condition_marks w rule))) m each whom.0 own

@@ -12,7 +12,7 @@ use Rattle.flow_prefix.specs.declared.prefix.Prefix.TheVariants.{V4, V6}
 use Rattle.flow_prefix.specs.Net.{Net, IsNet, is_inside}
 use Rattle.flow_prefix.specs.Prefixes.{IsPrefix, contains}
 use Rattle.rule_table.specs.Cuts.{bounds_in, HasCuts, most_cuts}
-use Rattle.rule_table.specs.Classes.{class_of, digit_of, key_of}
+use Rattle.rule_table.specs.Classes.{class_of, digit_of, class_key}
 use Rattle.rule_table.proofs.CountLaws.{below_both}
 use Rattle.rule_table.proofs.KeyLaws.{AreDigits, same_digits, none_past_three}
 
@@ -168,11 +168,11 @@ each_same cuts prefix (v ∷ vs) (w ∷ ws) sound has e =
 
 -- where the keys of two lists of values are the same, a prefix has the same of them inside
 pub same_key : (cuts : List ℕ) (prefix : Prefix) (vs ws : List (List ℕ)) (k : ℕ) → length cuts ≤ most_cuts → IsPrefix prefix → HasCuts cuts prefix
-    → key_of cuts vs ≡ Some k → key_of cuts ws ≡ Some k → map (contains prefix) vs ≡ map (contains prefix) ws
+    → class_key cuts vs ≡ Some k → class_key cuts ws ≡ Some k → map (contains prefix) vs ≡ map (contains prefix) ws
 same_key cuts prefix vs ws k few sound has one other =
     each_same cuts prefix vs ws sound has (same_digits (map (digit_of cuts) vs) (map (digit_of cuts) ws) k (all_small cuts vs few) (all_small cuts ws few) one other)
 
-pub key_of_three : (cuts : List ℕ) (vs : List (List ℕ)) → length cuts ≤ most_cuts → (key_of cuts vs ≡ None) ↔ (3 < length vs)
+pub key_of_three : (cuts : List ℕ) (vs : List (List ℕ)) → length cuts ≤ most_cuts → (class_key cuts vs ≡ None) ↔ (3 < length vs)
 key_of_three cuts vs few =
     let counted : length (map (digit_of cuts) vs) ≡ length vs = length-map vs (digit_of cuts) in
-    subst (λ n. (key_of cuts vs ≡ None) ↔ (3 < n)) counted (none_past_three (map (digit_of cuts) vs) (all_small cuts vs few))
+    subst (λ n. (class_key cuts vs ≡ None) ↔ (3 < n)) counted (none_past_three (map (digit_of cuts) vs) (all_small cuts vs few))

@@ -8,7 +8,7 @@ use Rattle.policy_text.specs.declared.rule.Rule.{Rule}
 use Rattle.policy_judge.specs.Occurrences.{sources, destinations}
 use Rattle.policy_judge.specs.Match.{is_met, denies, are_inside, covers}
 use Rattle.rule_table.specs.Cuts.{HasCuts, HasRuleCuts, most_cuts}
-use Rattle.rule_table.specs.Classes.{key_of}
+use Rattle.rule_table.specs.Classes.{class_key}
 use Rattle.rule_table.specs.Laws.{HaveKeys}
 use Rattle.rule_table.proofs.ClassLaws.{same_key}
 
@@ -36,7 +36,7 @@ same_are_inside false vs ws prefix e =
     ap (λ n. nat_lt 0 n && list_all (contains prefix) vs) many ∙ ap (λ b. nat_lt 0 (length ws) && b) all
 
 same_met : (cuts : List ℕ) (b : Bool) (named : Option Prefix) (vs ws : List (List ℕ)) (k : ℕ) → length cuts ≤ most_cuts → IfSome named IsPrefix → IfSome named (HasCuts cuts)
-    → key_of cuts vs ≡ Some k → key_of cuts ws ≡ Some k → is_met (are_inside b vs) named ≡ is_met (are_inside b ws) named
+    → class_key cuts vs ≡ Some k → class_key cuts ws ≡ Some k → is_met (are_inside b vs) named ≡ is_met (are_inside b ws) named
 same_met cuts b None vs ws k few sound has one other = refl
 same_met cuts b (Some prefix) vs ws k few sound has one other = same_are_inside b vs ws prefix (same_key cuts prefix vs ws k few sound has one other)
 

@@ -23,8 +23,8 @@ use Rattle.policy_judge.specs.Occurrences.{values_of}
 use Rattle.policy_judge.specs.Sides.{is_of}
 use Rattle.policy_judge.specs.Match.{are_inside}
 use Rattle.rule_table.specs.declared.addresses.Address.{Address}
-use Rattle.rule_table.specs.Addresses.{address_of, address_at, addresses_of}
-use Rattle.rule_table.specs.Covering.{AreSortedNumbers, number_in, number_if, numbers_of, is_in, are_in}
+use Rattle.rule_table.specs.Addresses.{address_value, address_at, addresses_of}
+use Rattle.rule_table.specs.Covering.{AreSortedNumbers, number_at_width, number_if, numbers_of, has_first_bits, are_in}
 use Rattle.rule_table.proofs.Members.{Passing, passing, here, behind}
 
 -- ---- tests of lists
@@ -77,7 +77,7 @@ first_bits_again : (w n v : ℕ) → truncated w n (truncated w n v) ≡ truncat
 first_bits_again w n v = ap (λ q. q * 2 ^ (w - n)) (mul-div_cancel (v / 2 ^ (w - n)) (pow_pos (w - n)))
 
 -- what stands between two numbers inside is inside
-between : (w n a u v x : ℕ) → is_in w n a u ≡ true → is_in w n a v ≡ true → u ≤ x → x ≤ v → is_in w n a x ≡ true
+between : (w n a u v x : ℕ) → has_first_bits w n a u ≡ true → has_first_bits w n a v ≡ true → u ≤ x → x ≤ v → has_first_bits w n a x ≡ true
 between w n a u v x iu iv lu lv =
     let eu = eqb-true (truncated w n u) a iu in
     let ev = eqb-true (truncated w n v) a iv in
@@ -86,14 +86,14 @@ between w n a u v x iu iv lu lv =
     eq-eqb (truncated w n x) a (omega (arith, eu, ev, up, down))
 
 -- what is between the prefix and a number inside is inside
-from_address : (w n a v x : ℕ) → is_in w n a v ≡ true → a ≤ x → x ≤ v → is_in w n a x ≡ true
+from_address : (w n a v x : ℕ) → has_first_bits w n a v ≡ true → a ≤ x → x ≤ v → has_first_bits w n a x ≡ true
 from_address w n a v x iv low high =
     let ev = eqb-true (truncated w n v) a iv in
     let self : truncated w n a ≡ a = ap (truncated w n) (sym ev) ∙ first_bits_again w n v ∙ ev in
     between w n a a v x (eq-eqb (truncated w n a) a self) iv low high
 
 -- not below the prefix
-not_below : (w n a v : ℕ) → is_in w n a v ≡ true → a ≤ v
+not_below : (w n a v : ℕ) → has_first_bits w n a v ≡ true → a ≤ v
 not_below w n a v iv =
     let ev = eqb-true (truncated w n v) a iv in
     omega (arith, ev, div-mul-le_self v (2 ^ (w - n)))
@@ -113,18 +113,18 @@ last_most xs last x up end (k, l, is) =
 
 -- the first that isn't below the prefix is inside, if any is
 pub some_in_first : (w n a : ℕ) (xs rest : List ℕ) (first : ℕ) → IsNonDecreasing rest → ((x : ℕ) → Contains rest x → Contains xs x) → ((x : ℕ) → a ≤ x → Contains xs x → Contains rest x)
-    → ((x : ℕ) → Contains rest x → a ≤ x) → slice_get rest 0 ≡ Some first → is_in w n a first ≡ list_any (is_in w n a) xs
+    → ((x : ℕ) → Contains rest x → a ≤ x) → slice_get rest 0 ≡ Some first → has_first_bits w n a first ≡ list_any (has_first_bits w n a) xs
 some_in_first w n a xs rest first up among kept above at =
     let there : Contains rest first = (0, slice_get_within rest 0 first at, get_or_from_slice_get rest 0 first first at) in
-    by_both (is_in w n a first) (list_any (is_in w n a) xs)
-    (λ e. any_from (is_in w n a) xs first (among first there) e)
-    (λ e. let p : Passing (is_in w n a) xs = passing _ xs e in
+    by_both (has_first_bits w n a first) (list_any (has_first_bits w n a) xs)
+    (λ e. any_from (has_first_bits w n a) xs first (among first there) e)
+    (λ e. let p : Passing (has_first_bits w n a) xs = passing _ xs e in
     from_address w n a p.item first p.passes (above first there) (first_least rest first p.item up at (kept p.item (not_below w n a p.item p.passes) p.among)))
 
-pub some_in_none : (w n a : ℕ) (xs rest : List ℕ) → ((x : ℕ) → a ≤ x → Contains xs x → Contains rest x) → slice_get rest 0 ≡ None → false ≡ list_any (is_in w n a) xs
+pub some_in_none : (w n a : ℕ) (xs rest : List ℕ) → ((x : ℕ) → a ≤ x → Contains xs x → Contains rest x) → slice_get rest 0 ≡ None → false ≡ list_any (has_first_bits w n a) xs
 some_in_none w n a xs [] kept at =
-    by_both false (list_any (is_in w n a) xs) (λ e. absurd (cc))
-    (λ e. let p : Passing (is_in w n a) xs = passing _ xs e in nowhere (kept p.item (not_below w n a p.item p.passes) p.among))
+    by_both false (list_any (has_first_bits w n a) xs) (λ e. absurd (cc))
+    (λ e. let p : Passing (has_first_bits w n a) xs = passing _ xs e in nowhere (kept p.item (not_below w n a p.item p.passes) p.among))
   where
     nowhere : {x : ℕ} → Contains [] x → false ≡ true
     nowhere (k, l, is) = absurd (omega arith)
@@ -132,17 +132,17 @@ some_in_none w n a xs (y ∷ ys) kept at = absurd (cc)
 
 -- all are inside, if the first and the last are
 pub each_in_ends : (w n a : ℕ) (xs : List ℕ) (first : ℕ) → IsNonDecreasing xs → slice_get xs 0 ≡ Some first
-    → (is_in w n a first && is_in w n a (get_or xs (length xs - 1) 0)) ≡ list_all (is_in w n a) xs
+    → (has_first_bits w n a first && has_first_bits w n a (get_or xs (length xs - 1) 0)) ≡ list_all (has_first_bits w n a) xs
 each_in_ends w n a xs first up at =
     let last = get_or xs (length xs - 1) 0 in
     let within : 0 < length xs = slice_get_within xs 0 first at in
     let there : Contains xs first = (0, within, get_or_from_slice_get xs 0 first first at) in
     let end : get_or xs (length xs - 1) last ≡ last = get_or_default xs (length xs - 1) last 0 (omega arith) in
     let ends : Contains xs last = (length xs - 1, omega arith, end) in
-    by_both (is_in w n a first && is_in w n a last) (list_all (is_in w n a) xs)
-    (λ e. let both = and_parts (is_in w n a first) (is_in w n a last) e in
-    all_from (is_in w n a) xs (λ x c. between w n a first last x both.0 both.1 (first_least xs first x up at c) (last_most xs last x up (sym end) c)))
-    (λ e. and_from _ _ (all_has (is_in w n a) xs first there e) (all_has (is_in w n a) xs last ends e))
+    by_both (has_first_bits w n a first && has_first_bits w n a last) (list_all (has_first_bits w n a) xs)
+    (λ e. let both = and_parts (has_first_bits w n a first) (has_first_bits w n a last) e in
+    all_from (has_first_bits w n a) xs (λ x c. between w n a first last x both.0 both.1 (first_least xs first x up at c) (last_most xs last x up (sym end) c)))
+    (λ e. and_from _ _ (all_has (has_first_bits w n a) xs first there e) (all_has (has_first_bits w n a) xs last ends e))
 
 -- ---- values of so many octets, and their numbers
 
@@ -185,13 +185,13 @@ all_number n test (v ∷ vs) =
     ]
 
 are_in_order : (denies : Bool) (n w bits a count : ℕ) (values : List (List ℕ)) (numbers : List ℕ) → count ≡ length values → IsPermutation (numbers_of n values) numbers
-    → are_in denies count w bits a numbers ≡ cond denies (list_any (λ v. length v == n && is_in w bits a (be_value v)) values) (nat_lt 0 (length values) && list_all (λ v. length v == n && is_in w bits a (be_value v)) values)
+    → are_in denies count w bits a numbers ≡ cond denies (list_any (λ v. length v == n && has_first_bits w bits a (be_value v)) values) (nat_lt 0 (length values) && list_all (λ v. length v == n && has_first_bits w bits a (be_value v)) values)
 are_in_order true n w bits a count values numbers counted each =
-    sym (list_any-IsPermutation (is_in w bits a) (numbers_of n values) numbers each) ∙ sym (any_number n (is_in w bits a) values)
+    sym (list_any-IsPermutation (has_first_bits w bits a) (numbers_of n values) numbers each) ∙ sym (any_number n (has_first_bits w bits a) values)
 are_in_order false n w bits a count values numbers counted each =
     let long = length_permutation (numbers_of n values) numbers each in
-    rw (counted, long) (ap (λ b. nat_lt 0 (length values) && (length (numbers_of n values) == length values && b)) (sym (all_permuted (is_in w bits a) (numbers_of n values) numbers each))
-    ∙ ap (λ b. nat_lt 0 (length values) && b) (sym (all_number n (is_in w bits a) values)))
+    rw (counted, long) (ap (λ b. nat_lt 0 (length values) && (length (numbers_of n values) == length values && b)) (sym (all_permuted (has_first_bits w bits a) (numbers_of n values) numbers each))
+    ∙ ap (λ b. nat_lt 0 (length values) && b) (sym (all_number n (has_first_bits w bits a) values)))
 
 pub narrow_in : (denies : Bool) (net : Net) (count : ℕ) (values : List (List ℕ)) (narrow wide : List ℕ) → AreSortedNumbers values count narrow wide
     → are_in denies count 32 net.length net.address narrow ≡ are_inside denies values (V4 net)
@@ -213,42 +213,42 @@ number_there : (h : Address → Option ℕ) (o : Option Address) (rest : List Ad
 number_there h None rest = refl
 number_there h (Some a) rest = refl
 
-narrow_number : (v : List ℕ) → then_number (address_of v) (number_in 32) ≡ number_if 4 v
+narrow_number : (v : List ℕ) → then_number (address_value v) (number_at_width 32) ≡ number_if 4 v
 narrow_number v =
-    elim (length v == 4) as (λ b. then_number (cond b (Some (record { width = 32; number = be_value v })) (cond (length v == 16) (Some (record { width = 128; number = be_value v })) None)) (number_in 32) ≡ cond b (Some (be_value v)) None) [
+    elim (length v == 4) as (λ b. then_number (cond b (Some (record { width = 32; number = be_value v })) (cond (length v == 16) (Some (record { width = 128; number = be_value v })) None)) (number_at_width 32) ≡ cond b (Some (be_value v)) None) [
       | true ↦ refl
-      | false ↦ elim (length v == 16) as (λ b. then_number (cond b (Some (record { width = 128; number = be_value v })) None) (number_in 32) ≡ None) [ true ↦ refl | false ↦ refl ]
+      | false ↦ elim (length v == 16) as (λ b. then_number (cond b (Some (record { width = 128; number = be_value v })) None) (number_at_width 32) ≡ None) [ true ↦ refl | false ↦ refl ]
     ]
 
-wide_number : (v : List ℕ) → then_number (address_of v) (number_in 128) ≡ number_if 16 v
+wide_number : (v : List ℕ) → then_number (address_value v) (number_at_width 128) ≡ number_if 16 v
 wide_number v =
-    elim (length v == 4) as (λ b. (length v == 4) ≡ b → then_number (cond b (Some (record { width = 32; number = be_value v })) (cond (length v == 16) (Some (record { width = 128; number = be_value v })) None)) (number_in 128) ≡ number_if 16 v) [
+    elim (length v == 4) as (λ b. (length v == 4) ≡ b → then_number (cond b (Some (record { width = 32; number = be_value v })) (cond (length v == 16) (Some (record { width = 128; number = be_value v })) None)) (number_at_width 128) ≡ number_if 16 v) [
       | true ↦ λ e. let other : (length v == 16) ≡ false = ap (λ n. n == 16) (eqb-true (length v) 4 e) in rw other refl
-      | false ↦ λ e. elim (length v == 16) as (λ b. then_number (cond b (Some (record { width = 128; number = be_value v })) None) (number_in 128) ≡ cond b (Some (be_value v)) None) [ true ↦ refl | false ↦ refl ]
+      | false ↦ λ e. elim (length v == 16) as (λ b. then_number (cond b (Some (record { width = 128; number = be_value v })) None) (number_at_width 128) ≡ cond b (Some (be_value v)) None) [ true ↦ refl | false ↦ refl ]
     ] refl
 
-numbers_there : (side : Side) (w n : ℕ) → ((v : List ℕ) → then_number (address_of v) (number_in w) ≡ number_if n v) → (ps : List (FieldSpec × List ℕ))
-    → filter_map (number_in w) (filter_map (address_at side) ps) ≡ numbers_of n (map (λ p. p.1) (filter (λ p. is_of side p.0.element) ps))
+numbers_there : (side : Side) (w n : ℕ) → ((v : List ℕ) → then_number (address_value v) (number_at_width w) ≡ number_if n v) → (ps : List (FieldSpec × List ℕ))
+    → filter_map (number_at_width w) (filter_map (address_at side) ps) ≡ numbers_of n (map (λ p. p.1) (filter (λ p. is_of side p.0.element) ps))
 numbers_there side w n each [] = refl
 numbers_there side w n each (p ∷ ps) =
-    elim (is_of side p.0.element) as (λ b. filter_map (number_in w) (cons_option (cond b (address_of p.1) None) (filter_map (address_at side) ps))
+    elim (is_of side p.0.element) as (λ b. filter_map (number_at_width w) (cons_option (cond b (address_value p.1) None) (filter_map (address_at side) ps))
     ≡ numbers_of n (map {A = FieldSpec × List ℕ} (λ q. q.1) (cond b (p ∷ filter {X = FieldSpec × List ℕ} (λ q. is_of side q.0.element) ps) (filter (λ q. is_of side q.0.element) ps)))) [
-      | true ↦ number_there (number_in w) (address_of p.1) (filter_map (address_at side) ps) ∙ ap (λ o. cons_option o (filter_map (number_in w) (filter_map (address_at side) ps))) (each p.1)
+      | true ↦ number_there (number_at_width w) (address_value p.1) (filter_map (address_at side) ps) ∙ ap (λ o. cons_option o (filter_map (number_at_width w) (filter_map (address_at side) ps))) (each p.1)
           ∙ ap (λ xs. cons_option (number_if n p.1) xs) (numbers_there side w n each ps)
       | false ↦ numbers_there side w n each ps
     ]
 
 pub in_order : (side : Side) (r : DataRecord) (addresses : List Address) (count : ℕ) (narrow wide : List ℕ) → addresses ≡ addresses_of side r → count ≡ length (values_of (is_of side) r)
-    → IsPermutation (filter_map (number_in 32) addresses) narrow → IsNonDecreasing narrow → IsPermutation (filter_map (number_in 128) addresses) wide → IsNonDecreasing wide
+    → IsPermutation (filter_map (number_at_width 32) addresses) narrow → IsNonDecreasing narrow → IsPermutation (filter_map (number_at_width 128) addresses) wide → IsNonDecreasing wide
     → AreSortedNumbers (values_of (is_of side) r) count narrow wide
 in_order side r addresses count narrow wide are counted each_narrow narrow_up each_wide wide_up =
     let P : List ℕ → Type 0 = λ xs. IsPermutation xs narrow in
     let Q : List ℕ → Type 0 = λ xs. IsPermutation xs wide in
     record {
       counted = counted;
-      each_narrow = subst P (ap (filter_map (number_in 32)) are ∙ numbers_there side 32 4 narrow_number (zip r.template.fields r.values)) each_narrow;
+      each_narrow = subst P (ap (filter_map (number_at_width 32)) are ∙ numbers_there side 32 4 narrow_number (zip r.template.fields r.values)) each_narrow;
       narrow_ascending = narrow_up;
-      each_wide = subst Q (ap (filter_map (number_in 128)) are ∙ numbers_there side 128 16 wide_number (zip r.template.fields r.values)) each_wide;
+      each_wide = subst Q (ap (filter_map (number_at_width 128)) are ∙ numbers_there side 128 16 wide_number (zip r.template.fields r.values)) each_wide;
       wide_ascending = wide_up;
     }
 

@@ -8,7 +8,7 @@ use Rattle.ipfix_template.specs.DataRecord.{DataRecord}
 use Rattle.policy_text.specs.declared.rule.Rule.{Rule}
 use Rattle.policy_judge.specs.Match.{is_met, is_on_records, is_element, is_same_element, element_at, matches_field}
 use Rattle.rule_table.specs.Candidates.{Judged, applies, has_element}
-use Rattle.rule_table.specs.Firsts.{AreFirsts, on_any, on_element, is_named, earlier, element_key}
+use Rattle.rule_table.specs.Firsts.{AreFirsts, on_any, is_on_element, is_named, earlier, element_key}
 use Rattle.rule_table.proofs.FirstLaws.{has_at}
 
 -- ---- the first that passes one of two tests
@@ -52,9 +52,9 @@ by_kind e false false None = refl
 by_kind e false for (Some f) = refl
 
 pub first_on_field : (name : List ℕ) (domain : ℕ) (r : DataRecord) (e : Element) (rules : List Rule)
-    → position (matches_field name domain r (Some e)) rules ≡ earlier (position (λ rule. on_any rule && applies name domain r rule) rules) (position (λ rule. on_element e rule && applies name domain r rule) rules)
+    → position (matches_field name domain r (Some e)) rules ≡ earlier (position (λ rule. on_any rule && applies name domain r rule) rules) (position (λ rule. is_on_element e rule && applies name domain r rule) rules)
 first_on_field name domain r e rules =
-    either (matches_field name domain r (Some e)) (λ rule. on_any rule && applies name domain r rule) (λ rule. on_element e rule && applies name domain r rule)
+    either (matches_field name domain r (Some e)) (λ rule. on_any rule && applies name domain r rule) (λ rule. is_on_element e rule && applies name domain r rule)
     (λ rule. by_kind e (is_on_records rule.action) (applies name domain r rule) rule.element) rules
 
 -- ---- an element is the same as itself
@@ -77,6 +77,6 @@ pub element_first : (judged : Judged) (records any : Option ℕ) (named : ℕ �
 element_first judged records any named field e noted first are below at is made =
     let has : has_element judged.flow_record.template.fields e ≡ true = has_at judged.flow_record.template.fields field e e at (same_itself e) in
     let one = is ∙ are.of_element e below has in
-    made ∙ ap (earlier any) one ∙ ap (λ o. earlier o (position (λ rule. on_element e rule && applies judged.name judged.domain judged.flow_record rule) judged.rules)) are.of_any
+    made ∙ ap (earlier any) one ∙ ap (λ o. earlier o (position (λ rule. is_on_element e rule && applies judged.name judged.domain judged.flow_record rule) judged.rules)) are.of_any
     ∙ sym (first_on_field judged.name judged.domain judged.flow_record e judged.rules)
     ∙ ap (λ o. position (matches_field judged.name judged.domain judged.flow_record o) judged.rules) (sym at)

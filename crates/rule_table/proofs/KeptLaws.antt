@@ -12,7 +12,7 @@ use Rattle.ipfix_template.specs.DataRecord.{DataRecord}
 use Rattle.policy_text.specs.declared.rule.Rule.{Rule}
 use Rattle.policy_judge.specs.Match.{is_met, is_for, covers, is_on_records}
 use Rattle.rule_table.specs.Candidates.{Judged, AreCandidates, AreApplying, IsOfRecord, applies_in, has_element, may_match, is_at, passes}
-use Rattle.rule_table.specs.Firsts.{AreFirsts, on_records, on_any, on_element, is_named, element_key}
+use Rattle.rule_table.specs.Firsts.{AreFirsts, on_records, on_any, is_on_element, is_named, element_key}
 use Rattle.rule_table.proofs.AskedLaws.{element_is}
 use Rattle.rule_table.proofs.FirstLaws.{covered, first_candidate}
 
@@ -70,18 +70,18 @@ named_met fields e true o has is = absurd (cc)
 named_met fields e false None has is = absurd (cc)
 named_met fields e false (Some f) has is = let P : Element → Type 0 = λ g. has_element fields g ≡ true in subst P (element_is e f is) has
 
-of_element : (r : DataRecord) (e : Element) → has_element r.template.fields e ≡ true → IsOfRecord r (on_element e)
+of_element : (r : DataRecord) (e : Element) → has_element r.template.fields e ≡ true → IsOfRecord r (is_on_element e)
 of_element r e has rule is = named_met r.template.fields e (is_on_records rule.action) rule.element has is
 
 pub firsts : (judged : Judged) (places : List ℕ) (records any : Option ℕ) (named : ℕ → Option ℕ) → AreApplying judged places
     → records ≡ find (passes on_records judged.rules) places → any ≡ find (passes on_any judged.rules) places
-    → ((e : Element) → e.number < 32768 → named (element_key e) ≡ find (passes (on_element e) judged.rules) places)
+    → ((e : Element) → e.number < 32768 → named (element_key e) ≡ find (passes (is_on_element e) judged.rules) places)
     → AreFirsts judged records any named
 firsts judged places records any named are of_r of_a of_e = record {
   few = are.few;
   of_records = of_r ∙ are.first on_records (of_records judged.flow_record);
   of_any = of_a ∙ are.first on_any (of_any judged.flow_record);
-  of_element = λ e below has. of_e e below ∙ are.first (on_element e) (of_element judged.flow_record e has);
+  of_element = λ e below has. of_e e below ∙ are.first (is_on_element e) (of_element judged.flow_record e has);
 }
 
 -- ---- a loop's next place

@@ -8,7 +8,7 @@ use Rattle.ipfix_template.specs.DataRecord.{DataRecord}
 use Rattle.policy_judge.specs.declared.occurrences.Side.{Side}
 use Rattle.policy_judge.specs.Sides.{is_of}
 use Rattle.policy_judge.specs.Occurrences.{values_of}
-use Rattle.rule_table.specs.Classes.{digit_of, with_digit, with_field, key_of}
+use Rattle.rule_table.specs.Classes.{digit_of, with_digit, with_field, class_key}
 
 -- ---- the digits of a side's values, from its fields
 
@@ -22,7 +22,7 @@ over_fields cuts side key (p ∷ ps) =
     [ true ↦ over_fields cuts side (with_digit key (digit_of cuts p.1)) ps | false ↦ over_fields cuts side key ps ]
 
 pub key_from_fields : (cuts : List ℕ) (side : Side) (r : DataRecord)
-    → fold (with_field cuts side) (Some 1) (zip r.template.fields r.values) ≡ key_of cuts (values_of (is_of side) r)
+    → fold (with_field cuts side) (Some 1) (zip r.template.fields r.values) ≡ class_key cuts (values_of (is_of side) r)
 key_from_fields cuts side r = over_fields cuts side (Some 1) (zip r.template.fields r.values)
 
 -- ---- digits behind a number

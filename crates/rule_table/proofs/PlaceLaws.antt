@@ -17,7 +17,7 @@ use Rattle.policy_judge.proofs.PairLaws.{IsAt, pair_within, pair_at, all_pairs}
 use Rattle.policy_judge.proofs.OccurrenceLaws.{field_at}
 use Rattle.rule_table.specs.declared.place.Place.{Place}
 use Rattle.rule_table.specs.declared.place.Place.TheVariants.{Octets, Field}
-use Rattle.rule_table.specs.Classes.{digit_of, with_digit, key_of}
+use Rattle.rule_table.specs.Classes.{digit_of, with_digit, class_key}
 use Rattle.rule_table.specs.Places.{text_of, value_at, HasPlace, ShowsAt, ArePlaces, place_at, start_behind}
 
 -- ---- where the value of a field starts
@@ -176,7 +176,7 @@ all_places side fields i places le were r sound same =
 abbrev pub with_place : List ℕ → DataRecord → Option ℕ → Place → Option ℕ
 with_place cuts r key place = with_digit key (digit_of cuts (value_at r place))
 
-pub key_at_places : (cuts : List ℕ) (r : DataRecord) (places : List Place) → fold (with_place cuts r) (Some 1) places ≡ key_of cuts (map (value_at r) places)
+pub key_at_places : (cuts : List ℕ) (r : DataRecord) (places : List Place) → fold (with_place cuts r) (Some 1) places ≡ class_key cuts (map (value_at r) places)
 key_at_places cuts r places =
     sym (fold-map (λ key v. with_digit key (digit_of cuts v)) (value_at r) (Some 1) places)
     ∙ sym (fold-map with_digit (digit_of cuts) (Some 1) (map (value_at r) places))

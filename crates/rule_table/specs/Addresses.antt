@@ -14,15 +14,15 @@ use Rattle.rule_table.specs.declared.addresses.Address.{Address}
 use Rattle.rule_table.specs.declared.addresses.Shape.{Shape}
 
 -- a value of 4 octets, or of 16
-abbrev pub address_of : List ℕ → Option Address
-address_of octets =
+abbrev pub address_value : List ℕ → Option Address
+address_value octets =
     if length octets == 4 then Some (record { width = 32; number = be_value octets })
     else if length octets == 16 then Some (record { width = 128; number = be_value octets })
     else None
 
 -- of a field of this side alone
 abbrev pub address_at : Side → FieldSpec × List ℕ → Option Address
-address_at side field = if is_of side field.0.element then address_of field.1 else None
+address_at side field = if is_of side field.0.element then address_value field.1 else None
 
 -- in the order of the fields
 abbrev pub addresses_of : Side → DataRecord → List Address

@@ -9,7 +9,7 @@ use Rattle.ipfix_template.specs.DataRecord.{DataRecord}
 use Rattle.policy_text.specs.declared.rule.Rule.{Rule}
 use Rattle.policy_judge.specs.Occurrences.{sources, destinations}
 use Rattle.policy_judge.specs.Match.{is_met, is_for, covers, is_same_element}
-use Rattle.rule_table.specs.Marks.{element_of}
+use Rattle.rule_table.specs.Marks.{named_element}
 
 -- a record of an observation domain, judged by rules for the subscriber of a name
 pub record Judged : Type 0 where
@@ -28,7 +28,7 @@ has_element fields e = list_any (λ f. is_same_element f.element e) fields
 
 -- what each rule is so that matches the record or one of its fields, and many others aren't
 abbrev pub may_match : List ℕ → ℕ → DataRecord → Rule → Bool
-may_match name domain r rule = is_for name domain rule && (touches r rule && is_met (has_element r.template.fields) (element_of rule))
+may_match name domain r rule = is_for name domain rule && (touches r rule && is_met (has_element r.template.fields) (named_element rule))
 
 abbrev pub is_at : (Rule → Bool) → Option Rule → Bool
 is_at test None = false
@@ -53,7 +53,7 @@ applies_in judged rule = applies judged.name judged.domain judged.flow_record ru
 
 -- each element that a rule on fields of this kind names is one that a field has
 abbrev pub IsOfRecord : DataRecord → (Rule → Bool) → Type 0
-IsOfRecord r kind = (rule : Rule) → kind rule ≡ true → is_met (has_element r.template.fields) (element_of rule) ≡ true
+IsOfRecord r kind = (rule : Rule) → kind rule ≡ true → is_met (has_element r.template.fields) (named_element rule) ≡ true
 
 -- places of rules that apply: of each kind the first of these is the first of all rules that apply
 pub record AreApplying (judged : Judged) (places : List ℕ) : Type 0 where

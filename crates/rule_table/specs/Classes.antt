@@ -23,8 +23,8 @@ with_digit None digit = None
 with_digit (Some key) digit = if nat_lt key (2 ^ 48) then Some (key * 65536 + digit) else None
 
 -- a 1, and then the digit of each value
-abbrev pub key_of : List ℕ → List (List ℕ) → Option ℕ
-key_of cuts values = fold with_digit (Some 1) (map (digit_of cuts) values)
+abbrev pub class_key : List ℕ → List (List ℕ) → Option ℕ
+class_key cuts values = fold with_digit (Some 1) (map (digit_of cuts) values)
 
 -- the digit of a field, if it is of this side
 abbrev pub with_field : List ℕ → Side → Option ℕ → FieldSpec × List ℕ → Option ℕ

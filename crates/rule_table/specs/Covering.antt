@@ -9,8 +9,8 @@ use Rattle.policy_judge.specs.Match.{is_met, is_for, denies, are_inside}
 use Rattle.rule_table.specs.declared.addresses.Address.{Address}
 
 -- the number of an address of so many bits
-abbrev pub number_in : ℕ → Address → Option ℕ
-number_in width address = if address.width == width then Some address.number else None
+abbrev pub number_at_width : ℕ → Address → Option ℕ
+number_at_width width address = if address.width == width then Some address.number else None
 
 -- the number that a value of so many octets writes
 abbrev pub number_if : ℕ → List ℕ → Option ℕ
@@ -28,13 +28,13 @@ pub record AreSortedNumbers (values : List (List ℕ)) (count : ℕ) (narrow wid
   pub wide_ascending : IsNonDecreasing wide
 
 -- a number has the first bits of a prefix
-abbrev pub is_in : ℕ → ℕ → ℕ → ℕ → Bool
-is_in width bits address number = truncated width bits number == address
+abbrev pub has_first_bits : ℕ → ℕ → ℕ → ℕ → Bool
+has_first_bits width bits address number = truncated width bits number == address
 
 -- some number is inside, or else they are those of all values, of which there is one, and each is inside
 abbrev pub are_in : Bool → ℕ → ℕ → ℕ → ℕ → List ℕ → Bool
-are_in true count width bits address numbers = list_any (is_in width bits address) numbers
-are_in false count width bits address numbers = nat_lt 0 count && (length numbers == count && list_all (is_in width bits address) numbers)
+are_in true count width bits address numbers = list_any (has_first_bits width bits address) numbers
+are_in false count width bits address numbers = nat_lt 0 count && (length numbers == count && list_all (has_first_bits width bits address) numbers)
 
 -- these sources and destinations are such as the prefixes need that a rule names
 abbrev pub covers_by : List (List ℕ) → List (List ℕ) → Rule → Bool

@@ -19,8 +19,8 @@ is_named e None = false
 is_named e (Some f) = is_same_element e f
 
 -- on fields of this element, which the rule names
-abbrev pub on_element : Element → Rule → Bool
-on_element e rule = not (is_on_records rule.action) && is_named e rule.element
+abbrev pub is_on_element : Element → Rule → Bool
+is_on_element e rule = not (is_on_records rule.action) && is_named e rule.element
 
 -- ---- an element as one number, since elements' numbers are below 32768
 
@@ -49,4 +49,4 @@ pub record AreFirsts (judged : Judged) (records any : Option ℕ) (named : ℕ �
   pub of_records : records ≡ position (λ rule. on_records rule && applies_in judged rule) judged.rules
   pub of_any : any ≡ position (λ rule. on_any rule && applies_in judged rule) judged.rules
   pub of_element : (e : Element) → e.number < 32768 → has_element judged.flow_record.template.fields e ≡ true
-      → named (element_key e) ≡ position (λ rule. on_element e rule && applies_in judged rule) judged.rules
+      → named (element_key e) ≡ position (λ rule. is_on_element e rule && applies_in judged rule) judged.rules

@@ -49,13 +49,13 @@ unfoldable pub element_mark : ℕ → Element → ℕ
 element_mark who e = mixed_mark (mixed_mark (mixed_mark who 4) (pen_number e.pen)) e.number
 
 -- the element that a rule on fields names
-abbrev pub element_of : Rule → Option Element
-element_of rule = if is_on_records rule.action then None else rule.element
+abbrev pub named_element : Rule → Option Element
+named_element rule = if is_on_records rule.action then None else rule.element
 
 -- the marks of a rule's conditions, each where it has one: where the sources are, where the destinations are, the element, the domain
 abbrev pub condition_marks : ℕ → Rule → List (Option ℕ)
 condition_marks who rule =
-    option_map (prefix_mark who Source) rule.from ∷ option_map (prefix_mark who Destination) rule.to ∷ option_map (element_mark who) (element_of rule) ∷ option_map (domain_mark who) rule.domain ∷ []
+    option_map (prefix_mark who Source) rule.from ∷ option_map (prefix_mark who Destination) rule.to ∷ option_map (element_mark who) (named_element rule) ∷ option_map (domain_mark who) rule.domain ∷ []
 
 -- those that are there
 abbrev pub present : List (Option ℕ) → List ℕ

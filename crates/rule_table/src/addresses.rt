@@ -3,7 +3,7 @@ ghost use Rattle.std.specs.Prelude.{◌≡◌, ◌==◌, ◌&&◌, if◌then◌e
 ghost use Rattle.std.specs.List.{Contains, list_any};
 ghost use Rattle.flow_prefix.specs.Bits.{truncated};
 ghost use Rattle.policy_judge.specs.Sides.{is_of};
-ghost use Rattle.rule_table.specs.Addresses.{address_of, addresses_of, shape_of, prefix_on};
+ghost use Rattle.rule_table.specs.Addresses.{address_value, addresses_of, shape_of, prefix_on};
 ghost use Rattle.rule_table.specs.Index.{HaveShapes};
 
 use flow_prefix::{IPV4_BITS, IPV4_OCTETS, IPV6_BITS, IPV6_OCTETS, Prefix, number};
@@ -47,7 +47,7 @@ pub(crate) fn addresses_of(
 
 /// The address that a field of this element holds on a side.
 fn address_at(side: Side, element: ElementId, value: &[u8]) -> Option<Address>
-    ensures { result ≡ (if is_of side element then address_of value.now else None) }
+    ensures { result ≡ (if is_of side element then address_value value.now else None) }
 {
     if side.has(element) {
         address_of(value)
@@ -58,7 +58,7 @@ fn address_at(side: Side, element: ElementId, value: &[u8]) -> Option<Address>
 
 /// The address that a value of 4 octets, or of 16, writes.
 fn address_of(octets: &[u8]) -> Option<Address>
-    ensures { result ≡ address_of octets.now }
+    ensures { result ≡ address_value octets.now }
 {
     if octets.len() == IPV4_OCTETS {
         return Some(Address {

@@ -7,7 +7,7 @@ ghost use Rattle.std.specs.BTreeMap.{get};
 ghost use Rattle.ipfix_element.specs.Element.{Element};
 ghost use Rattle.policy_judge.specs.Verdicts.{record_verdict_of, element_verdict_of};
 ghost use Rattle.rule_table.specs.Candidates.{AreApplying, passes};
-ghost use Rattle.rule_table.specs.Firsts.{on_records, on_any, on_element, element_key, is_key, earlier};
+ghost use Rattle.rule_table.specs.Firsts.{on_records, on_any, is_on_element, element_key, is_key, earlier};
 
 use ipfix_element::ElementId;
 use ipfix_template::Record;
@@ -173,7 +173,7 @@ fn firsts_on_elements(
     places: &[usize],
 ) -> Result<BTreeMap<u64, usize>, AllocError>
     ensures { IfOk result (λ firsts. (e : Element) → e.number < 32768
-        → get nat_cmp firsts (element_key e) ≡ find (passes (on_element e) rules.now) places.now) }
+        → get nat_cmp firsts (element_key e) ≡ find (passes (is_on_element e) rules.now) places.now) }
 {
     let mut firsts = BTreeMap::new(alloc);
     for place in places {
@@ -190,7 +190,7 @@ fn note_first(
 ) -> Result<(), AllocError>
     ensures { OnOk result ((e : Element) → e.number < 32768 → get nat_cmp firsts.new (element_key e)
         ≡ option_or (get nat_cmp firsts.old (element_key e))
-        (if passes (on_element e) rules.now place then Some place else None)) }
+        (if passes (is_on_element e) rules.now place then Some place else None)) }
 {
     match key_at(rules, place) {
         Some(key) => note(firsts, key, place),
@@ -212,7 +212,7 @@ fn note(firsts: &mut BTreeMap<u64, usize>, key: u64, place: usize) -> Result<(),
 /// The key of the element that the rule at a place names, if that is one on fields.
 fn key_at(rules: &[Rule], place: usize) -> Option<u64>
     ensures { (e : Element) → e.number < 32768
-        → passes (on_element e) rules.now place ≡ is_key (element_key e) result }
+        → passes (is_on_element e) rules.now place ≡ is_key (element_key e) result }
 {
     match rules.get(place) {
         Some(rule) => key_of_rule(rule),
@@ -223,7 +223,7 @@ fn key_at(rules: &[Rule], place: usize) -> Option<u64>
 /// The key of the element that a rule names, if it is one on fields.
 fn key_of_rule(rule: &Rule) -> Option<u64>
     ensures { (e : Element) → e.number < 32768
-        → on_element e rule.now ≡ is_key (element_key e) result }
+        → is_on_element e rule.now ≡ is_key (element_key e) result }
 {
     if is_on_records(rule.action) {
         return None;

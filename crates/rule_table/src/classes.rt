@@ -6,7 +6,7 @@ ghost use Rattle.sequences.specs.Octets.{be_value};
 ghost use Rattle.policy_judge.specs.Sides.{is_of};
 ghost use Rattle.policy_judge.specs.Occurrences.{values_of};
 ghost use Rattle.rule_table.specs.Cuts.{AreCuts, HaveCuts, most_cuts};
-ghost use Rattle.rule_table.specs.Classes.{class_of, digit_of, with_digit, with_field, key_of};
+ghost use Rattle.rule_table.specs.Classes.{class_of, digit_of, with_digit, with_field, class_key};
 ghost use Rattle.rule_table.specs.Spans.{IsSpan, IsAmong};
 
 use crate::cuts::sorted_cuts;
@@ -80,7 +80,7 @@ impl AddressClasses {
     /// their order. `None` where there are more than three.
     pub fn key(&self, side: Side, flow_record: &Record) -> Option<u64>
         ensures few { length self.now ≤ most_cuts }
-        ensures key { result ≡ key_of self.now (values_of (is_of side) flow_record.now) }
+        ensures key { result ≡ class_key self.now (values_of (is_of side) flow_record.now) }
     {
         // What is read of the cuts has what their type keeps of them, as `few` says.
         let _for_proof = self.cuts.len();

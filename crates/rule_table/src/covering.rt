@@ -5,7 +5,7 @@ ghost use Rattle.std.specs.List.Sorted.{IsNonDecreasing, IsPermutation};
 ghost use Rattle.policy_judge.specs.Occurrences.{values_of};
 ghost use Rattle.policy_judge.specs.Sides.{is_of};
 ghost use Rattle.rule_table.specs.Addresses.{addresses_of};
-ghost use Rattle.rule_table.specs.Covering.{is_in, are_in, number_in};
+ghost use Rattle.rule_table.specs.Covering.{has_first_bits, are_in, number_at_width};
 
 use crate::addresses::{Address, first_bits};
 use crate::index::from_bound;
@@ -115,7 +115,7 @@ fn count_in(fields: &[FieldSpec], side: Side) -> usize
 /// The numbers of those addresses that have `width` bits, ascending.
 fn ascending(alloc: Global, addresses: &[Address], width: u32) -> Result<Vec<u128>, AllocError>
     ensures each { IfOk result
-        (λ numbers. IsPermutation (filter_map (number_in width) addresses.now) numbers.items) }
+        (λ numbers. IsPermutation (filter_map (number_at_width width) addresses.now) numbers.items) }
     ensures ascending { IfOk result (λ numbers. IsNonDecreasing numbers.items) }
 {
     let mut numbers = listed(alloc, addresses, width)?;
@@ -125,7 +125,7 @@ fn ascending(alloc: Global, addresses: &[Address], width: u32) -> Result<Vec<u12
 
 /// The numbers of those addresses that have `width` bits, in their order.
 fn listed(alloc: Global, addresses: &[Address], width: u32) -> Result<Vec<u128>, AllocError>
-    ensures { IfOk result (λ numbers. numbers.items ≡ filter_map (number_in width) addresses.now) }
+    ensures { IfOk result (λ numbers. numbers.items ≡ filter_map (number_at_width width) addresses.now) }
 {
     addresses
         .iter()
@@ -135,7 +135,7 @@ fn listed(alloc: Global, addresses: &[Address], width: u32) -> Result<Vec<u128>,
 
 /// The number of an address, if it has `width` bits.
 fn number_in(address: Address, width: u32) -> Option<u128>
-    ensures { result ≡ number_in width address }
+    ensures { result ≡ number_at_width width address }
 {
     if address.width == width {
         Some(address.number)
@@ -167,7 +167,7 @@ fn are_in(
 /// Whether some number is inside: the first that isn't below the prefix is, if any is.
 fn some_in(numbers: &[u128], width: u32, length: u32, address: u128) -> bool
     requires { IsNonDecreasing numbers.now }
-    ensures { result ≡ list_any (is_in width length address) numbers.now }
+    ensures { result ≡ list_any (has_first_bits width length address) numbers.now }
 {
     match from_bound(numbers, address).first() {
         Some(number) => is_in(width, length, address, *number),
@@ -178,7 +178,7 @@ fn some_in(numbers: &[u128], width: u32, length: u32, address: u128) -> bool
 /// Whether each number is inside: the first and the last are, if all are.
 fn each_in(numbers: &[u128], width: u32, length: u32, address: u128) -> bool
     requires { IsNonDecreasing numbers.now }
-    ensures { result ≡ list_all (is_in width length address) numbers.now }
+    ensures { result ≡ list_all (has_first_bits width length address) numbers.now }
 {
     match numbers.first() {
         Some(first) => {
@@ -191,7 +191,7 @@ fn each_in(numbers: &[u128], width: u32, length: u32, address: u128) -> bool
 
 /// Whether a number has the first bits of a prefix.
 fn is_in(width: u32, length: u32, address: u128, number: u128) -> bool
-    ensures { result ≡ is_in width length address number }
+    ensures { result ≡ has_first_bits width length address number }
 {
     first_bits(width, length, number) == address
 }

@@ -6,7 +6,7 @@ ghost use Rattle.policy_judge.specs.declared.occurrences.Side.TheVariants.{Sourc
 ghost use Rattle.policy_judge.specs.Sides.{is_of};
 ghost use Rattle.policy_judge.specs.Occurrences.{values_of};
 ghost use Rattle.rule_table.specs.Cuts.{most_cuts};
-ghost use Rattle.rule_table.specs.Classes.{class_of, digit_of, key_of};
+ghost use Rattle.rule_table.specs.Classes.{class_of, digit_of, class_key};
 ghost use Rattle.rule_table.specs.Places.{HasPlace, value_at};
 ghost use Rattle.rule_table.specs.Spans.{IsSpan};
 
@@ -72,9 +72,9 @@ impl RecentClasses {
         requires same { flow_record.now.template ≡ places.now }
         ensures few { length self.old ≤ most_cuts }
         // Each key is that of the record's addresses of this side, whatever records came before.
-        ensures sources { result.0 ≡ key_of self.old (values_of (is_of Source) flow_record.now) }
+        ensures sources { result.0 ≡ class_key self.old (values_of (is_of Source) flow_record.now) }
         ensures destinations { result.1
-            ≡ key_of self.old (values_of (is_of Destination) flow_record.now) }
+            ≡ class_key self.old (values_of (is_of Destination) flow_record.now) }
         ensures unchanged { self.new ≡ self.old }
     {
         // What is read of the cuts has what their type keeps of them, as `few` says.
@@ -108,7 +108,7 @@ fn key_at(
 ) -> Option<u64>
     requires there { All (HasPlace flow_record.now) places.now }
     requires span { IsSpan classes.now span.old }
-    ensures key { result ≡ key_of classes.now (map (value_at flow_record.now) places.now) }
+    ensures key { result ≡ class_key classes.now (map (value_at flow_record.now) places.now) }
     ensures span { IsSpan classes.now span.new }
 {
     // What is read of the cuts has what their type keeps of them.

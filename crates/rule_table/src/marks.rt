@@ -1,6 +1,6 @@
 //! The marks of rules: numbers, each made of a rule's subscriber and of one of its conditions.
 ghost use Rattle.std.specs.Prelude.{◌≡◌, option_map};
-ghost use Rattle.rule_table.specs.Marks.{mixed_mark, name_mark, side_number, inside_mark, prefix_mark, domain_mark, condition_marks, who_mark, element_mark, pen_number, element_of};
+ghost use Rattle.rule_table.specs.Marks.{mixed_mark, name_mark, side_number, inside_mark, prefix_mark, domain_mark, condition_marks, who_mark, element_mark, pen_number, named_element};
 
 use flow_prefix::{IPV4_BITS, IPV6_BITS, Prefix};
 use ipfix_element::ElementId;
@@ -143,7 +143,7 @@ pub(crate) fn who_mark(who: &Option<Name>) -> u64
 
 /// The element that a rule on fields names.
 fn element_of(rule: &Rule) -> Option<ElementId>
-    ensures { result ≡ element_of rule.now }
+    ensures { result ≡ named_element rule.now }
 {
     match rule.action {
         Action::Pass | Action::Withhold | Action::Aggregate(_) => None,

@@ -9,7 +9,7 @@ use Rattle.shared_mediator.specs.declared.kept.KeptEntry.{KeptEntry}
 use Rattle.shared_mediator.specs.Receipts.{all_kept, AreReceipts, AreComplete, IsFirstRefused}
 use Rattle.shared_mediator.specs.Marking.{Marked, AreMarked}
 use Rattle.shared_mediator.proofs.Complete.{length_all_kept, all_of_handles, complete}
-use Rattle.shared_mediator.specs.Counted.{CountedMediation, has_receipt, entries_of}
+use Rattle.shared_mediator.specs.Counted.{CountedMediation, has_receipt, receipts_since}
 use Rattle.shared_mediator.specs.Locked.{Exporting}
 use Rattle.shared_mediator.specs.Handles.{HasReceipt}
 use Rattle.shared_mediator.specs.declared.fault.Fault.{Fault}
@@ -39,7 +39,7 @@ all_have_receipts (e ∷ es) admins messages entries = (have_receipts e.session 
 -- where all shares make up the book, each entry that is to have a receipt has one
 pub closes : (before : List Entry) (c : CountedMediation) (exporters : List Exporting) (admins : List (List KeptEntry)) → c.from ≡ length before → take (length before) c.core.history ≡ before
     → (marks : Marked) × (marks.from ≡ c.from) × AreMarked marks c.core.history (receipts_of exporters admins) → AllByRecursion KeepsMessages exporters → AllByRecursion (AllByRecursion HasReceipt) admins
-    → entries_kept exporters admins ≡ entries_of c → HasReceipts before c.core.history (receipts_of exporters admins)
+    → entries_kept exporters admins ≡ receipts_since c → HasReceipts before c.core.history (receipts_of exporters admins)
 closes before c exporters admins from begins marked messages entries book = record {
   begins = begins;
   receipts = subst (λ n. AreReceipts n c.core.history (receipts_of exporters admins)) at marked.2.receipts;
@@ -54,7 +54,7 @@ closes before c exporters admins from begins marked messages entries book = reco
 -- the same of lists that were handed on
 pub closes_for : (before h : List Entry) (c : CountedMediation) (exporters lent : List Exporting) (admins lent_admins : List (List KeptEntry)) → h ≡ c.core.history → lent ≡ exporters → lent_admins ≡ admins → c.from ≡ length before → take (length before) c.core.history ≡ before
     → (marks : Marked) × (marks.from ≡ c.from) × AreMarked marks c.core.history (receipts_of lent lent_admins) → AllByRecursion KeepsMessages lent → AllByRecursion (AllByRecursion HasReceipt) lent_admins
-    → entries_kept exporters admins ≡ entries_of c → HasReceipts before h (receipts_of exporters admins)
+    → entries_kept exporters admins ≡ receipts_since c → HasReceipts before h (receipts_of exporters admins)
 closes_for before h c exporters lent admins lent_admins history same same_admins from begins marked messages entries book =
     subst (λ (x : List Entry). HasReceipts before x (receipts_of exporters admins)) (sym history)
     (closes before c exporters admins from begins

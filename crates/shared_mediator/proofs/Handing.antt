@@ -6,7 +6,7 @@ use Rattle.std.proofs.Math.Seq.{take-add}
 use Rattle.sequences.specs.Before.{each_after}
 use Rattle.sequences.proofs.BeforeLaws.{each_with_before-append}
 use Rattle.ipfix_template.specs.DataRecord.{DataRecord}
-use Rattle.subscriber_stream.specs.Parts.{Part, parts, records_in}
+use Rattle.subscriber_stream.specs.Parts.{Part, parts, records_of_parts}
 use Rattle.subscriber_stream.specs.Message.{parts_taken}
 use Rattle.subscriber_stream.proofs.CallLaws.{parts_more}
 use Rattle.subscriber_stream.proofs.Standings.{records_in-append}
@@ -30,27 +30,27 @@ front_stays records more p within = at (parts_more records more) where
 -- what a live subscription was handed stays when the history goes on
 pub handed_kept : (old new : Mediation) (more : List Entry) → IsSoundMediation old → GoesOn old more new → (sub : ℕ) → is_live sub new.history ≡ true → handed_at new sub ≡ handed_at old sub
 handed_kept old new more sound on sub live =
-    ap (λ (p : ℕ). length (records_in (take p (parts (disclosed sub new.history))))) (on.places sub live)
-    ∙ ap (λ (rs : List DataRecord). length (records_in (take (place_at old sub) (parts rs)))) (ap (disclosed sub) on.history ∙ each_with_before-append (given_at sub) old.history more)
-    ∙ ap (λ (ps : List Part). length (records_in ps)) (front_stays (disclosed sub old.history) (each_after (given_at sub) old.history more) (place_at old sub) (sound.places sub))
+    ap (λ (p : ℕ). length (records_of_parts (take p (parts (disclosed sub new.history))))) (on.places sub live)
+    ∙ ap (λ (rs : List DataRecord). length (records_of_parts (take (place_at old sub) (parts rs)))) (ap (disclosed sub) on.history ∙ each_with_before-append (given_at sub) old.history more)
+    ∙ ap (λ (ps : List Part). length (records_of_parts ps)) (front_stays (disclosed sub old.history) (each_after (given_at sub) old.history more) (place_at old sub) (sound.places sub))
 
 -- nothing stands before the start
 pub handed_none : (m : Mediation) (sub : ℕ) → place_at m sub ≡ 0 → handed_at m sub ≡ 0
-handed_none m sub start = ap (λ (p : ℕ). length (records_in (take p (parts (disclosed sub m.history))))) start
+handed_none m sub start = ap (λ (p : ℕ). length (records_of_parts (take p (parts (disclosed sub m.history))))) start
 
 -- it stays where neither the history nor the place changes
 pub handed_where : (old new : Mediation) (sub : ℕ) → new.history ≡ old.history → place_at new sub ≡ place_at old sub → handed_at new sub ≡ handed_at old sub
 handed_where old new sub same placed =
-    ap (λ (h : List Entry). length (records_in (take (place_at new sub) (parts (disclosed sub h))))) same
-    ∙ ap (λ (p : ℕ). length (records_in (take p (parts (disclosed sub old.history))))) placed
+    ap (λ (h : List Entry). length (records_of_parts (take (place_at new sub) (parts (disclosed sub h))))) same
+    ∙ ap (λ (p : ℕ). length (records_of_parts (take p (parts (disclosed sub old.history))))) placed
 
 -- ---- pulls
 
 abbrev count_in : List Part → ℕ
-count_in ps = length (records_in ps)
+count_in ps = length (records_of_parts ps)
 
 counts_add : (ps qs : List Part) → count_in (ps ++ qs) ≡ count_in ps + count_in qs
-counts_add ps qs = ap (λ (rs : List DataRecord). length rs) (records_in-append ps qs) ∙ length-append (records_in ps) (records_in qs)
+counts_add ps qs = ap (λ (rs : List DataRecord). length rs) (records_in-append ps qs) ∙ length-append (records_of_parts ps) (records_of_parts qs)
 
 -- a place that moves past the parts which are taken
 front_grows : (ps : List Part) (p n : ℕ) → count_in (take (p + length (take n (drop p ps))) ps) ≡ count_in (take p ps) + count_in (take n (drop p ps))

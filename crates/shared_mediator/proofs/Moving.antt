@@ -18,7 +18,7 @@ use Rattle.mediator_calls.specs.Mediation.{Mediation, live, waiting_at, stream_l
 use Rattle.mediator_calls.specs.Calls.{GoesOn, Opens, Closes, with_cuts, Receives, Edits, Subscribes, Unsubscribes, Advances, IsStatusOf, Drains}
 use Rattle.mediator_calls.specs.Sound.{IsSoundMediation}
 use Rattle.mediator_calls.proofs.Places.{is_in-live}
-use Rattle.shared_mediator.specs.Counted.{CountedMediation, counted_as, receipts_in, handed_at, handed_live, IsCounted, Counts}
+use Rattle.shared_mediator.specs.Counted.{CountedMediation, with_counts, receipts_in, handed_at, handed_live, IsCounted, Counts}
 use Rattle.shared_mediator.proofs.Living.{IsSilent, live_same, cuts_silent, live_begun, live_ended, all_live, live_apart}
 use Rattle.shared_mediator.proofs.ReceiptCounts.{receipts_more, before_same, receipts_behind_cuts}
 use Rattle.shared_mediator.proofs.Sums.{sums_alike, sum_without}
@@ -32,7 +32,7 @@ record Moves (old : Mediation) (from : ℕ) (more : List Entry) (ended : ℕ) (n
   pub history : new.history ≡ old.history ++ more
   pub live : handed_live new + ended ≡ handed_live old
 
-counts_on : (old new : Mediation) (from gone left entries ended : ℕ) (more : List Entry) → Moves old from more ended new → receipts_in more ≡ entries → left ≡ gone + ended → Counts (counted_as old from gone) entries 0 ended (counted_as new from left)
+counts_on : (old new : Mediation) (from gone left entries ended : ℕ) (more : List Entry) → Moves old from more ended new → receipts_in more ≡ entries → left ≡ gone + ended → Counts (with_counts old from gone) entries 0 ended (with_counts new from left)
 counts_on old new from gone left entries ended more moves receipts is = record {
   from = refl;
   before = before_same from new.history old.history more moves.history moves.within;
@@ -64,7 +64,7 @@ silent_moves old new from more sound within on silent =
 
 -- a mediator that goes on, with nothing gone: what is counted then, and that it is counted
 pub record Keeps (old new : Mediation) (from gone handed entries : ℕ) : Type 0 where
-  pub counts : Counts (counted_as old from gone) entries 0 0 (counted_as new from gone)
+  pub counts : Counts (with_counts old from gone) entries 0 0 (with_counts new from gone)
   pub counted : IsCounted new from gone handed
 
 -- whom an entry cuts
@@ -142,7 +142,7 @@ unsubscribed old new from sub sound within is =
 -- what is counted when a subscription ends that was handed so many, and that it is counted
 pub record Ends (old new : Mediation) (from gone handed sub ended : ℕ) : Type 0 where
   pub fits : gone + ended ≤ handed
-  pub counts : Counts (counted_as old from gone) 1 0 (handed_at old sub) (counted_as new from (gone + ended))
+  pub counts : Counts (with_counts old from gone) 1 0 (handed_at old sub) (with_counts new from (gone + ended))
   pub counted : IsCounted new from (gone + ended) handed
 
 pub after_end : (old new : Mediation) (from gone handed sub : ℕ) (status : Status) → IsSoundMediation old → IsCounted old from gone handed → IsStatusOf old sub status → Unsubscribes old sub new → Ends old new from gone handed sub status.handed
@@ -181,10 +181,10 @@ pub still_done : {X E P : Type 0} (r : Result X E) (old new : Mediation) (from g
 still_done (Ok x) old new from gone handed entries counted ok same keep = (keep ok).counted
 still_done (Err e) old new from gone handed entries counted ok same keep = subst (λ (m : Mediation). IsCounted m from gone handed) (sym same) counted
 
-pub counts : {X E : Type 0} {P : X → Type 0} (r : Result X E) (old new : Mediation) (from gone handed entries : ℕ) (was : CountedMediation) → counted_as old from gone ≡ was → IfOk r P → ((x : X) → P x → Keeps old new from gone handed entries) → OnOk r (Counts was entries 0 0 (counted_as new from gone))
-counts (Ok x) old new from gone handed entries was is ok keep = subst (λ (k : CountedMediation). Counts k entries 0 0 (counted_as new from gone)) is (keep x ok).counts
+pub counts : {X E : Type 0} {P : X → Type 0} (r : Result X E) (old new : Mediation) (from gone handed entries : ℕ) (was : CountedMediation) → with_counts old from gone ≡ was → IfOk r P → ((x : X) → P x → Keeps old new from gone handed entries) → OnOk r (Counts was entries 0 0 (with_counts new from gone))
+counts (Ok x) old new from gone handed entries was is ok keep = subst (λ (k : CountedMediation). Counts k entries 0 0 (with_counts new from gone)) is (keep x ok).counts
 counts (Err e) old new from gone handed entries was is ok keep = tt
 
-pub counts_done : {X E P : Type 0} (r : Result X E) (old new : Mediation) (from gone handed entries : ℕ) (was : CountedMediation) → counted_as old from gone ≡ was → OnOk r P → (P → Keeps old new from gone handed entries) → OnOk r (Counts was entries 0 0 (counted_as new from gone))
-counts_done (Ok x) old new from gone handed entries was is ok keep = subst (λ (k : CountedMediation). Counts k entries 0 0 (counted_as new from gone)) is (keep ok).counts
+pub counts_done : {X E P : Type 0} (r : Result X E) (old new : Mediation) (from gone handed entries : ℕ) (was : CountedMediation) → with_counts old from gone ≡ was → OnOk r P → (P → Keeps old new from gone handed entries) → OnOk r (Counts was entries 0 0 (with_counts new from gone))
+counts_done (Ok x) old new from gone handed entries was is ok keep = subst (λ (k : CountedMediation). Counts k entries 0 0 (with_counts new from gone)) is (keep ok).counts
 counts_done (Err e) old new from gone handed entries was is ok keep = tt

@@ -2,7 +2,7 @@
 use Rattle.std.proofs.Common.{◌≡◌, ℕ, ◌+◌, ◌≤◌, ◌<◌, ◌^◌, List, [], ◌∷◌, length, take, drop, Option, Some, None, refl, sym, ap, ◌∙◌, subst, arith}
 use Rattle.std.specs.List.{sum_by}
 use Rattle.std.proofs.lemmas.List.Sums.{sum-map}
-use Rattle.subscriber_stream.specs.Parts.{Part, parts, records_in}
+use Rattle.subscriber_stream.specs.Parts.{Part, parts, records_of_parts}
 use Rattle.subscriber_stream.specs.Message.{next_message}
 use Rattle.event_journal.specs.declared.entry.Entry.{Entry}
 use Rattle.mediator_history.specs.Disclosed.{disclosed}
@@ -15,7 +15,7 @@ use Rattle.mediator_calls.specs.Calls.{Pulls, IsStatusOf}
 use Rattle.mediator_calls.specs.Sound.{IsSoundMediation}
 use Rattle.mediator_calls.proofs.Places.{is_in-live}
 use Rattle.shared_mediator.specs.declared.handed.Handed.{Handed}
-use Rattle.shared_mediator.specs.Counted.{CountedMediation, counted_as, receipts_in, handed_at, handed_live, IsCounted, Counts}
+use Rattle.shared_mediator.specs.Counted.{CountedMediation, with_counts, receipts_in, handed_at, handed_live, IsCounted, Counts}
 use Rattle.shared_mediator.specs.Handing.{records_next, HasCountRoom, HandsOut, RefusesHanding}
 use Rattle.shared_mediator.proofs.Living.{live_apart}
 use Rattle.shared_mediator.proofs.Sums.{sum_moved}
@@ -50,7 +50,7 @@ counted_after old new from gone handed records sub now target answer sound count
   counted = omega (arith, counted.counted, count, pulled_live old new sub now target answer sound is);
 }
 
-counts_after : (old new : Mediation) (from gone records sub now target : ℕ) (answer : Option (List ℕ)) → IsSoundMediation old → Pulls old sub now target answer new → records ≡ records_next old sub target → Counts (counted_as old from gone) 0 records 0 (counted_as new from gone)
+counts_after : (old new : Mediation) (from gone records sub now target : ℕ) (answer : Option (List ℕ)) → IsSoundMediation old → Pulls old sub now target answer new → records ≡ records_next old sub target → Counts (with_counts old from gone) 0 records 0 (with_counts new from gone)
 counts_after old new from gone records sub now target answer sound is count = record {
   from = refl;
   before = ap (λ (h : List Entry). take from h) is.history;
@@ -60,7 +60,7 @@ counts_after old new from gone records sub now target answer sound is count = re
 }
 
 -- where there is no next message nothing waits
-none_wait : (now target handed : ℕ) (ps : List Part) → None ≡ next_message now target handed ps → length (records_in ps) ≡ 0
+none_wait : (now target handed : ℕ) (ps : List Part) → None ≡ next_message now target handed ps → length (records_of_parts ps) ≡ 0
 unfolding next_message
 none_wait now target handed [] is = refl
 none_wait now target handed (part ∷ ps) is = absurd cc
@@ -68,13 +68,13 @@ none_wait now target handed (part ∷ ps) is = absurd cc
 none_next : (m : Mediation) (sub now target : ℕ) (new : Mediation) → Pulls m sub now target None new → 0 ≡ records_next m sub target
 none_next m sub now target new is =
     let ps = drop (place_at m sub) (parts (disclosed sub m.history)) in
-    let none : waiting_at m sub ≡ 0 = none_wait now target (length (records_in (take (place_at m sub) (parts (disclosed sub m.history))))) ps is.message in
+    let none : waiting_at m sub ≡ 0 = none_wait now target (length (records_of_parts (take (place_at m sub) (parts (disclosed sub m.history))))) ps is.message in
     omega (arith, none, next_wait m sub target)
 
-pub hands_some : (old new : Mediation) (from gone sub now target : ℕ) (was : CountedMediation) (answer : Option (List ℕ)) (h : Handed) → counted_as old from gone ≡ was → IsSoundMediation old → HasCountRoom (counted_as old from gone) sub → Pulls old sub now target answer new → answer ≡ Some h.message → h.records ≡ records_next old sub target → HandsOut was sub now target (Some h) (counted_as new from gone)
+pub hands_some : (old new : Mediation) (from gone sub now target : ℕ) (was : CountedMediation) (answer : Option (List ℕ)) (h : Handed) → with_counts old from gone ≡ was → IsSoundMediation old → HasCountRoom (with_counts old from gone) sub → Pulls old sub now target answer new → answer ≡ Some h.message → h.records ≡ records_next old sub target → HandsOut was sub now target (Some h) (with_counts new from gone)
 hands_some old new from gone sub now target was answer h is sound room pulled some count =
-    subst (λ (k : CountedMediation). HandsOut k sub now target (Some h) (counted_as new from gone)) is out where
-      out : HandsOut (counted_as old from gone) sub now target (Some h) (counted_as new from gone)
+    subst (λ (k : CountedMediation). HandsOut k sub now target (Some h) (with_counts new from gone)) is out where
+      out : HandsOut (with_counts old from gone) sub now target (Some h) (with_counts new from gone)
       out = record {
         room = room;
         pulls = subst (λ (a : Option (List ℕ)). Pulls old sub now target a new) some pulled;
@@ -82,21 +82,21 @@ hands_some old new from gone sub now target was answer h is sound room pulled so
         counts = counts_after old new from gone h.records sub now target answer sound pulled count;
       }
 
-pub hands_none : (old new : Mediation) (from gone sub now target : ℕ) (was : CountedMediation) (answer : Option (List ℕ)) → counted_as old from gone ≡ was → IsSoundMediation old → HasCountRoom (counted_as old from gone) sub → Pulls old sub now target answer new → answer ≡ None → HandsOut was sub now target None (counted_as new from gone)
+pub hands_none : (old new : Mediation) (from gone sub now target : ℕ) (was : CountedMediation) (answer : Option (List ℕ)) → with_counts old from gone ≡ was → IsSoundMediation old → HasCountRoom (with_counts old from gone) sub → Pulls old sub now target answer new → answer ≡ None → HandsOut was sub now target None (with_counts new from gone)
 hands_none old new from gone sub now target was answer is sound room pulled none =
     let nothing : Pulls old sub now target None new = subst (λ (a : Option (List ℕ)). Pulls old sub now target a new) none pulled in
     let count : 0 ≡ records_next old sub target = none_next old sub now target new nothing in
-    let out : HandsOut (counted_as old from gone) sub now target None (counted_as new from gone) = record {
+    let out : HandsOut (with_counts old from gone) sub now target None (with_counts new from gone) = record {
       room = room;
       pulls = nothing;
       records = count;
       counts = counts_after old new from gone 0 sub now target answer sound pulled count;
     } in
-    subst (λ (k : CountedMediation). HandsOut k sub now target None (counted_as new from gone)) is out
+    subst (λ (k : CountedMediation). HandsOut k sub now target None (with_counts new from gone)) is out
 
 -- ---- that the count has room
 
-pub has_count_room : (core : Mediation) (from gone handed sub queued : ℕ) → IsCounted core from gone handed → queued ≡ waiting_at core sub → handed + queued < 2 ^ 64 → HasCountRoom (counted_as core from gone) sub
+pub has_count_room : (core : Mediation) (from gone handed sub queued : ℕ) → IsCounted core from gone handed → queued ≡ waiting_at core sub → handed + queued < 2 ^ 64 → HasCountRoom (with_counts core from gone) sub
 has_count_room core from gone handed sub queued counted is room = omega (arith, counted.counted, is, room)
 
 pub refuses_handing : (why : MediatorFault) (c was : CountedMediation) (sub : ℕ) → c ≡ was → RefusesPull why c.core.history sub → HasCountRoom c sub → RefusesHanding why was sub

@@ -1,6 +1,6 @@
 -- What stands in a mediator's journal since a place in it, and how many records its subscriptions were handed.
 use Rattle.std.specs.Prelude.{◌≡◌, ℕ, ◌+◌, ◌≤◌, Bool, true, false, List, map, sum, filter, length, take, drop}
-use Rattle.subscriber_stream.specs.Parts.{parts, records_in}
+use Rattle.subscriber_stream.specs.Parts.{parts, records_of_parts}
 use Rattle.event_journal.specs.declared.entry.Entry.{Entry}
 use Rattle.event_journal.specs.declared.entry.Entry.TheVariants.{Open, Close, Cut}
 use Rattle.mediator_history.specs.Disclosed.{disclosed}
@@ -13,8 +13,8 @@ pub record CountedMediation : Type 0 where
   pub from : ℕ
   pub gone : ℕ
 
-abbrev pub counted_as : Mediation → ℕ → ℕ → CountedMediation
-counted_as core from gone = record { core = core; from = from; gone = gone }
+abbrev pub with_counts : Mediation → ℕ → ℕ → CountedMediation
+with_counts core from gone = record { core = core; from = from; gone = gone }
 
 -- a message, an edit, a subscription's begin or end, and an advance of the clock: whoever made the call has its receipt
 abbrev pub has_receipt : Entry → Bool
@@ -27,12 +27,12 @@ abbrev pub receipts_in : List Entry → ℕ
 receipts_in es = length (filter has_receipt es)
 
 -- how many of these stand in the journal since the place
-abbrev pub entries_of : CountedMediation → ℕ
-entries_of c = receipts_in (drop c.from c.core.history)
+abbrev pub receipts_since : CountedMediation → ℕ
+receipts_since c = receipts_in (drop c.from c.core.history)
 
 -- how many records a live subscription was handed
 abbrev pub handed_at : Mediation → ℕ → ℕ
-handed_at m sub = length (records_in (take (place_at m sub) (parts (disclosed sub m.history))))
+handed_at m sub = length (records_of_parts (take (place_at m sub) (parts (disclosed sub m.history))))
 
 -- how many the live ones were handed together
 abbrev pub handed_live : Mediation → ℕ
@@ -45,13 +45,13 @@ handed_of c = c.gone + handed_live c.core
 -- the place isn't past the journal's end, and what is counted is how many records were handed
 pub record IsCounted (core : Mediation) (from gone handed : ℕ) : Type 0 where
   pub within : from ≤ length core.history
-  pub counted : handed ≡ handed_of (counted_as core from gone)
+  pub counted : handed ≡ handed_of (with_counts core from gone)
 
 -- the same place and entries before it; so many more entries are counted, so many records more were handed, and so many of them are
 -- now those of subscriptions that have ended
 pub record Counts (old : CountedMediation) (entries handed gone : ℕ) (new : CountedMediation) : Type 0 where
   pub from : new.from ≡ old.from
   pub before : take new.from new.core.history ≡ take old.from old.core.history
-  pub entries_are : entries_of new ≡ entries_of old + entries
+  pub entries_are : receipts_since new ≡ receipts_since old + entries
   pub handed_are : handed_of new ≡ handed_of old + handed
   pub gone_are : new.gone ≡ old.gone + gone

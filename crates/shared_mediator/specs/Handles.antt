@@ -2,7 +2,7 @@
 use Rattle.std.specs.Prelude.{◌≡◌, ℕ, ◌+◌, true, List, [], ◌∷◌, ◌++◌, length, take, drop, sum_by, Option, Some, None}
 use Rattle.std.specs.List.{AllByRecursion}
 use Rattle.ipfix_template.specs.DataRecord.{DataRecord}
-use Rattle.subscriber_stream.specs.Parts.{parts, records_in}
+use Rattle.subscriber_stream.specs.Parts.{parts, records_of_parts}
 use Rattle.subscriber_stream.specs.Message.{built, parts_taken}
 use Rattle.stream_meaning.specs.Served.{AreStreamable}
 use Rattle.event_journal.specs.declared.entry.Entry.{Entry}
@@ -83,7 +83,7 @@ pub record IsBuilt (now target : ℕ) (h : Handed) : Type 0 where
   pub streamable : AreStreamable listed
   pub place : ℕ
   pub message : Some h.message ≡ built listed place now target
-  pub records : h.records ≡ length (records_in (take (parts_taken listed place target) (drop place (parts listed))))
+  pub records : h.records ≡ length (records_of_parts (take (parts_taken listed place target) (drop place (parts listed))))
 
 -- the message is such a one, and is kept behind the others; or there is none
 abbrev pub KeepsHanded : List Handed → ℕ → ℕ → Option Handed → List Handed → Type 0

@@ -19,5 +19,5 @@ pub record AreMarked (m : Marked) (h : List Entry) (handles : List (List KeptEnt
   pub marked : (i : ℕ) → i < length m.marks → slice_get m.marks i ≡ Some (is_in (m.from + i) (positions (all_kept handles)))
 
 -- how many places are marked
-abbrev pub count_of : Marked → ℕ
-count_of m = length (filter (λ b. b) m.marks)
+abbrev pub marked_count : Marked → ℕ
+marked_count m = length (filter (λ b. b) m.marks)

@@ -3,7 +3,7 @@ ghost use Rattle.std.specs.Prelude.{◌≡◌, ◌≢◌, ◌+◌, ◌<◌, ◌^
 ghost use Rattle.std.specs.List.{AllByRecursion};
 ghost use Rattle.shared_mediator.specs.declared.kept.KeptEntry.{KeptEntry};
 ghost use Rattle.shared_mediator.specs.Marking.{Marked, AreMarked};
-ghost use Rattle.shared_mediator.specs.Counted.{entries_of};
+ghost use Rattle.shared_mediator.specs.Counted.{receipts_since};
 ghost use Rattle.shared_mediator.specs.declared.fault.Fault.TheVariants.{MissingHandle};
 ghost use Rattle.shared_mediator.specs.Handles.{HasReceipt};
 ghost use Rattle.shared_mediator.specs.Closing.{KeepsMessages, receipts_of, messages_accepted, entries_kept, records_handed, HasReceipts, AreAll, NamesReceipt, NamesReceiptBehind, RefusesClosing};
@@ -99,7 +99,7 @@ impl<E: EntryLedger, H: RecordLedger> LockedMediator<E, H> {
         ensures full { IfOk result (λ closed. closed.full ≡ self.full) }
         // The totals of the books are what the handles keep, and no handle is missing.
         ensures book { OnOk result (entries_kept exporters.items admins.items
-            ≡ entries_of self.counted) }
+            ≡ receipts_since self.counted) }
         ensures all { OnOk result (AreAll self (length exporters.items) (length deliveries.items)
             (length admins.items)) }
         // The first receipt that doesn't stand there is named.

@@ -5,7 +5,7 @@ ghost use Rattle.mediator_state.specs.declared.fault.Fault.TheVariants.{UnknownS
 ghost use Rattle.mediator_state.specs.Calls.{IsSnapshot, RefusesSnapshot, RefusesClose, RefusesEdit, RefusesSubscribe, RefusesUnsubscribe};
 ghost use Rattle.mediator_calls.specs.Mediation.{noted_at, journal_limits};
 ghost use Rattle.mediator_calls.specs.Calls.{Opens, RefusesOpen, Closes, Receives, RefusesReceive, RefusesReceivePrepared, Edits, Subscribes, Unsubscribes, Advances, RefusesAdvance, IsStatusOf, Drains};
-ghost use Rattle.shared_mediator.specs.Counted.{counted_as, handed_at, handed_live, handed_of, Counts};
+ghost use Rattle.shared_mediator.specs.Counted.{with_counts, handed_at, handed_live, handed_of, Counts};
 ghost use Rattle.shared_mediator.specs.Handing.{HandsOut, RefusesHanding};
 
 use crate::handed::Handed;
@@ -46,11 +46,11 @@ impl Drop for CountedMediator {
 }
 
 impl Model for CountedMediator {
-    ghost use Rattle.shared_mediator.specs.Counted.{CountedMediation, counted_as, IsCounted};
+    ghost use Rattle.shared_mediator.specs.Counted.{CountedMediation, with_counts, IsCounted};
 
     ghost Value = { CountedMediation };
 
-    ghost view = { λ m. counted_as m.mediator m.from m.gone };
+    ghost view = { λ m. with_counts m.mediator m.from m.gone };
 
     ghost invariant = { λ m. IsCounted m.mediator m.from m.gone m.handed };
 }
@@ -60,7 +60,7 @@ impl CountedMediator {
     /// subscription was handed anything yet.
     pub fn new(mediator: Mediator) -> CountedMediator
         requires fresh { handed_live mediator ≡ 0 }
-        ensures { result ≡ counted_as mediator (length mediator.history) 0 }
+        ensures { result ≡ with_counts mediator (length mediator.history) 0 }
     {
         let from = mediator.journal().len();
         CountedMediator {

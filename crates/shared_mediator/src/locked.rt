@@ -6,8 +6,8 @@ ghost use Rattle.mediator_state.specs.Calls.{IsSnapshot, RefusesSnapshot, Refuse
 ghost use Rattle.mediator_calls.specs.Mediation.{noted_at, journal_limits};
 ghost use Rattle.mediator_calls.specs.Sound.{IsSoundMediation};
 ghost use Rattle.mediator_calls.specs.Calls.{Opens, Closes, Receives, RefusesReceive, RefusesReceivePrepared, Edits, Subscribes, Unsubscribes, Advances, RefusesAdvance, IsStatusOf, Drains};
-ghost use Rattle.shared_mediator.specs.Counted.{counted_as, handed_at, handed_live};
-ghost use Rattle.shared_mediator.specs.Handing.{HandsOut, RefusesHanding, records_of};
+ghost use Rattle.shared_mediator.specs.Counted.{with_counts, handed_at, handed_live};
+ghost use Rattle.shared_mediator.specs.Handing.{HandsOut, RefusesHanding, handed_records};
 ghost use Rattle.shared_mediator.specs.Locked.{locked_as};
 ghost use Rattle.shared_mediator.specs.Calls.{Makes, Adds, RefusesExporter, RefusesDelivery, RefusesAdmin, IsWaited, is_full, with_refusal};
 
@@ -96,7 +96,7 @@ impl<E: EntryLedger, H: RecordLedger> LockedMediator<E, H> {
         requires handed_parts { (handed.parts ≡ H.parts) × (H.parts ≡ H.all)
             × (H.all ≡ handles + 1) }
         // No handle was made yet.
-        ensures { result ≡ locked_as (counted_as mediator (length mediator.history) 0)
+        ensures { result ≡ locked_as (with_counts mediator (length mediator.history) 0)
             handles 0 0 0 false false }
     {
         let (entries, entries_left) = entries.open::<E>();
@@ -307,9 +307,9 @@ impl<E: EntryLedger, H: RecordLedger> LockedMediator<E, H> {
         ensures sound { IsSoundMediation self.old.counted.core }
         ensures ok { IfOk result (λ answer.
             HandsOut self.old.counted sub.0 now target answer self.new.counted) }
-        ensures counts { IfOk result (λ answer. Adds 0 (records_of answer) 0 self.old self.new) }
+        ensures counts { IfOk result (λ answer. Adds 0 (handed_records answer) 0 self.old self.new) }
         ensures share { IfOk result (λ answer.
-            share.new.amount ≡ share.old.amount + records_of answer) }
+            share.new.amount ≡ share.old.amount + handed_records answer) }
         ensures part { share.new.parts ≡ share.old.parts }
         // A refusal changes nothing.
         ensures unchanged { OnErr result ((self.new ≡ self.old) × (share.new ≡ share.old)) }

@@ -5,7 +5,7 @@ ghost use Rattle.event_journal.specs.declared.limits.TheConstants.{MOST_ENTRIES}
 ghost use Rattle.mediator_history.specs.Numbers.{is_in};
 ghost use Rattle.shared_mediator.specs.declared.kept.KeptEntry.{KeptEntry};
 ghost use Rattle.shared_mediator.specs.Receipts.{positions, all_kept, AreReceipts, IsFirstRefused};
-ghost use Rattle.shared_mediator.specs.Marking.{AreMarked, count_of};
+ghost use Rattle.shared_mediator.specs.Marking.{AreMarked, marked_count};
 
 use crate::kept::KeptEntry;
 use event_journal::Journal;
@@ -94,7 +94,7 @@ impl Marks {
 
     /// How many marks are set: as many as receipts were shown, where all of them were accepted.
     pub fn count(&self) -> u64
-        ensures value { result ≡ count_of self.now }
+        ensures value { result ≡ marked_count self.now }
         ensures receipts { (h : List Entry) (handles : List (List KeptEntry))
             → AreMarked self.now h handles → result ≡ length (all_kept handles) }
     {

@@ -4,7 +4,7 @@ use Rattle.std.specs.List.{AllByRecursion}
 use Rattle.std.proofs.lemmas.List.{take-append-drop, take_at, take_all}
 use Rattle.sequences.specs.Before.{each_after, each_with_before}
 use Rattle.ipfix_template.specs.DataRecord.{DataRecord}
-use Rattle.subscriber_stream.specs.Parts.{parts, records_in}
+use Rattle.subscriber_stream.specs.Parts.{parts, records_of_parts}
 use Rattle.subscriber_stream.specs.Message.{run_length, built, place_after}
 use Rattle.subscriber_stream.specs.declared.limits.StreamLimits.{StreamLimits}
 use Rattle.subscriber_stream.specs.Shapes.{shapes_of}
@@ -128,13 +128,13 @@ streamable_more limits records more p may each fits few = record { each = AllByR
 
 -- ---- what is known of the messages
 
-pub handed_means : (messages : List (List ℕ)) (records : List DataRecord) (p : ℕ) → AreHandedOut messages records p → AreStreamable records → Means messages (records_in (take p (parts records)))
+pub handed_means : (messages : List (List ℕ)) (records : List DataRecord) (p : ℕ) → AreHandedOut messages records p → AreStreamable records → Means messages (records_of_parts (take p (parts records)))
 handed_means messages records p are may =
     let S : List DataRecord → Type 0 = λ rs. AreStreamable rs in
     let so_far = means_so_far are.calls (subst S (sym are.given) may) are.ranges in
-    let M : List (List ℕ) → Type 0 = λ ms. Means ms (records_in (take (place_reached are.calls) (parts (records_given are.calls)))) in
+    let M : List (List ℕ) → Type 0 = λ ms. Means ms (records_of_parts (take (place_reached are.calls) (parts (records_given are.calls)))) in
     let L : List DataRecord → Type 0 = λ rs. Means messages rs in
-    subst L (ap (λ (rs : List DataRecord). records_in (take (place_reached are.calls) (parts rs))) are.given ∙ ap (λ (q : ℕ). records_in (take q (parts records))) are.reached) (subst M are.got so_far)
+    subst L (ap (λ (rs : List DataRecord). records_of_parts (take (place_reached are.calls) (parts rs))) are.given ∙ ap (λ (q : ℕ). records_of_parts (take q (parts records))) are.reached) (subst M are.got so_far)
 
 pub handed_whole : (messages : List (List ℕ)) (records : List DataRecord) (p now target : ℕ) → AreHandedOut messages records p → AreStreamable records → built records p now target ≡ None → Means messages records
 handed_whole messages records p now target are may end =
@@ -146,18 +146,18 @@ handed_whole messages records p now target are may end =
     subst L are.given (subst M are.got all)
 
 -- what stands before a place is the first of the list
-pub first_of : (s : StreamStanding) (records : List DataRecord) (p : ℕ) → StandsAt s records p → records_in (take p (parts records)) ≡ take s.handed records
+pub first_of : (s : StreamStanding) (records : List DataRecord) (p : ℕ) → StandsAt s records p → records_of_parts (take p (parts records)) ≡ take s.handed records
 first_of s records p at =
-    let front = records_in (take p (parts records)) in
-    let rest = records_in (drop p (parts records)) in
-    let whole : records ≡ front ++ rest = sym (parts_bring records) ∙ ap records_in (sym (take-append-drop p (parts records))) ∙ records_in-append (take p (parts records)) (drop p (parts records)) in
+    let front = records_of_parts (take p (parts records)) in
+    let rest = records_of_parts (drop p (parts records)) in
+    let whole : records ≡ front ++ rest = sym (parts_bring records) ∙ ap records_of_parts (sym (take-append-drop p (parts records))) ∙ records_in-append (take p (parts records)) (drop p (parts records)) in
     sym (ap (take s.handed) whole ∙ take_at front rest s.handed (sym at.handed))
 
 -- ---- the answers of a stream
 
-pub answers_mean : (s : StreamStanding) (calls : List Call) (answers : Answers) → StandsAt s [] 0 → ServesCalls s calls answers → AreStreamable (records_given calls) → AreInRange calls → Means (messages_in answers) (records_in (take (place_reached calls) (parts (records_given calls))))
+pub answers_mean : (s : StreamStanding) (calls : List Call) (answers : Answers) → StandsAt s [] 0 → ServesCalls s calls answers → AreStreamable (records_given calls) → AreInRange calls → Means (messages_in answers) (records_of_parts (take (place_reached calls) (parts (records_given calls))))
 answers_mean s calls answers at serves may ranges =
-    let M : Answers → Type 0 = λ os. Means (messages_in os) (records_in (take (place_reached calls) (parts (records_given calls)))) in
+    let M : Answers → Type 0 = λ os. Means (messages_in os) (records_of_parts (take (place_reached calls) (parts (records_given calls)))) in
     subst M (sym (served s [] 0 calls answers at serves)) (means_so_far calls may ranges)
 
 -- ---- enough pulls reach the end
@@ -190,6 +190,6 @@ means_drained calls turns may ranges enough =
     let within = (got calls may (ranges_front calls (pulls turns) ranges)).within in
     let reached : place_reached (calls ++ pulls turns) ≡ length (parts records) = reached_append calls (pulls turns) ∙ reaches_end turns records (place_reached calls) within (omega (arith, enough)) in
     let L : List DataRecord → Type 0 = λ rs. Means (messages_got (calls ++ pulls turns)) rs in
-    let all : records_in (take (place_reached (calls ++ pulls turns)) (parts (records_given (calls ++ pulls turns)))) ≡ records = ap (λ (rs : List DataRecord). records_in (take (place_reached (calls ++ pulls turns)) (parts rs))) given
-    ∙ ap (λ (q : ℕ). records_in (take q (parts records))) reached ∙ ap records_in (take_all (length (parts records)) (parts records) (omega arith)) ∙ parts_bring records in
+    let all : records_of_parts (take (place_reached (calls ++ pulls turns)) (parts (records_given (calls ++ pulls turns)))) ≡ records = ap (λ (rs : List DataRecord). records_of_parts (take (place_reached (calls ++ pulls turns)) (parts rs))) given
+    ∙ ap (λ (q : ℕ). records_of_parts (take q (parts records))) reached ∙ ap records_of_parts (take_all (length (parts records)) (parts records) (omega arith)) ∙ parts_bring records in
     subst L all (means_so_far (calls ++ pulls turns) (subst S (sym given) may) ranges)

@@ -8,7 +8,7 @@ use Rattle.ipfix_session.specs.Contents.{Contents}
 use Rattle.ipfix_session.specs.Meaning.{Meaning, domain_of, contents_of, gap_of, meaning_of, with_domain, records_after, both_records, records_meant}
 use Rattle.ipfix_session.specs.declared.fault.Fault.{Fault as ReadError}
 use Rattle.ipfix_session.proofs.MeaningLaws.{records_after-append, records_after-one}
-use Rattle.subscriber_stream.specs.Parts.{Part, parts, records_in}
+use Rattle.subscriber_stream.specs.Parts.{Part, parts, records_of_parts}
 use Rattle.subscriber_stream.specs.Message.{message, run_length, next_message, built, place_after}
 use Rattle.subscriber_stream.specs.Calls.{Call, Given, Pulled, pulls_of, octets_from}
 use Rattle.subscriber_stream.proofs.CallLaws.{parts_more, parts_bring}
@@ -82,7 +82,7 @@ pub record IsRunOf (records : List DataRecord) (p : ℕ) (older : List (List ℕ
   pub done : List Part
   pub reached : take (place_from p (pulls_of records calls)) (parts whole) ≡ take p (parts records) ++ done
   pub within : place_from p (pulls_of records calls) ≤ length (parts whole)
-  pub read : AreReadAs (handed_in (take p (parts records))) older (messages_in (octets_from p (pulls_of records calls))) (records_in done)
+  pub read : AreReadAs (handed_in (take p (parts records))) older (messages_in (octets_from p (pulls_of records calls))) (records_of_parts done)
 
 -- readers of older messages stand at place p of the parts of the records
 record StandsIn (records : List DataRecord) (p : ℕ) (older : List (List ℕ)) : Type 0 where
@@ -114,8 +114,8 @@ ended : (records : List DataRecord) (p now target : ℕ) (older : List (List ℕ
     → IsRunOf records (place_after records p target) older calls whole → IsRunOf records p older (Pulled now target ∷ calls) whole
 ended records p now target older calls whole none same run =
     let q = place_after records p target in
-    let M : List (Option (List ℕ)) → Type 0 = λ answers. AreReadAs (handed_in (take p (parts records))) older (messages_in answers) (records_in run.done) in
-    let H : List Part → Type 0 = λ ps. AreReadAs (handed_in ps) older (messages_in (octets_from q (pulls_of records calls))) (records_in run.done) in
+    let M : List (Option (List ℕ)) → Type 0 = λ answers. AreReadAs (handed_in (take p (parts records))) older (messages_in answers) (records_of_parts run.done) in
+    let H : List Part → Type 0 = λ ps. AreReadAs (handed_in ps) older (messages_in (octets_from q (pulls_of records calls))) (records_of_parts run.done) in
     record {
       done = run.done;
       reached = run.reached ∙ ap (λ (ps : List Part). ps ++ run.done) same;
@@ -130,10 +130,10 @@ went_on records p now target older calls whole ps some reached one run =
     let q = place_after records p target in
     let before = take p (parts records) in
     let m = message_at now before ps in
-    let M : List (Option (List ℕ)) → Type 0 = λ answers. AreReadAs (handed_in before) older (messages_in answers) (records_in (ps ++ run.done)) in
-    let H : ℕ → Type 0 = λ handed. AreReadAs handed (m ∷ older) (messages_in (octets_from q (pulls_of records calls))) (records_in run.done) in
-    let counted : handed_in (take q (parts records)) ≡ handed_in before + length (records_in ps) = ap handed_in reached ∙ ap length (records_in-append before ps) ∙ length-append (records_in before) (records_in ps) in
-    let here : M (Some m ∷ octets_from q (pulls_of records calls)) = (now, records_in ps, records_in run.done, records_in-append ps run.done, one.meaning, subst H counted run.read) in
+    let M : List (Option (List ℕ)) → Type 0 = λ answers. AreReadAs (handed_in before) older (messages_in answers) (records_of_parts (ps ++ run.done)) in
+    let H : ℕ → Type 0 = λ handed. AreReadAs handed (m ∷ older) (messages_in (octets_from q (pulls_of records calls))) (records_of_parts run.done) in
+    let counted : handed_in (take q (parts records)) ≡ handed_in before + length (records_of_parts ps) = ap handed_in reached ∙ ap length (records_in-append before ps) ∙ length-append (records_of_parts before) (records_of_parts ps) in
+    let here : M (Some m ∷ octets_from q (pulls_of records calls)) = (now, records_of_parts ps, records_of_parts run.done, records_in-append ps run.done, one.meaning, subst H counted run.read) in
     record {
       done = ps ++ run.done;
       reached = run.reached ∙ ap (λ (t : List Part). t ++ run.done) reached ∙ append_assoc before ps run.done;
@@ -176,7 +176,7 @@ run (Given more ∷ calls) records p older whole may left at =
     let front = given_more records more p at.within in
     let S : List Part → Type 0 = λ ps. Stands older ps in
     let others = run calls (records ++ more) p older whole may (record { whole_is = left.whole_is ∙ sym (append_assoc records more (records_given calls)); ranges = left.ranges.1 }) (record { within = front.1; stands = subst S (sym front.0) at.stands }) in
-    let H : List Part → Type 0 = λ ps. AreReadAs (handed_in ps) older (messages_in (octets_from p (pulls_of (records ++ more) calls))) (records_in others.done) in
+    let H : List Part → Type 0 = λ ps. AreReadAs (handed_in ps) older (messages_in (octets_from p (pulls_of (records ++ more) calls))) (records_of_parts others.done) in
     record {
       done = others.done;
       reached = others.reached ∙ ap (λ (ps : List Part). ps ++ others.done) front.0;
@@ -210,12 +210,12 @@ run (Pulled now target ∷ calls) records p older whole may left at =
 pub got : (calls : List Call) → AreStreamable (records_given calls) → AreInRange calls → IsRunOf [] 0 [] calls (records_given calls)
 got calls may ranges = run calls [] 0 [] (records_given calls) may (record { whole_is = refl; ranges = ranges }) (record { within = omega arith; stands = stands_first })
 
-pub means_so_far : (calls : List Call) → AreStreamable (records_given calls) → AreInRange calls → Means (messages_got calls) (records_in (take (place_reached calls) (parts (records_given calls))))
+pub means_so_far : (calls : List Call) → AreStreamable (records_given calls) → AreInRange calls → Means (messages_got calls) (records_of_parts (take (place_reached calls) (parts (records_given calls))))
 means_so_far calls may ranges =
     let all = got calls may ranges in
-    let R : List Part → Type 0 = λ ps. AreReadAs 0 [] (messages_got calls) (records_in ps) in
+    let R : List Part → Type 0 = λ ps. AreReadAs 0 [] (messages_got calls) (records_of_parts ps) in
     let read = subst R (sym all.reached) all.read in
-    record { records = brought (messages_got calls) 0 [] (records_in (take (place_reached calls) (parts (records_given calls)))) read; each = read }
+    record { records = brought (messages_got calls) 0 [] (records_of_parts (take (place_reached calls) (parts (records_given calls)))) read; each = read }
 
 none_waits : (now target handed : ℕ) (ws : List Part) → next_message now target handed ws ≡ None → ws ≡ []
 unfolding next_message
@@ -229,4 +229,4 @@ means_all calls now target may ranges end =
     let rest : drop q whole ≡ [] = none_waits now target (handed_in (take q whole)) (drop q whole) end in
     let all : take q whole ≡ whole = sym (append-nil (take q whole)) ∙ ap (λ (ps : List Part). take q whole ++ ps) (sym rest) ∙ take-append-drop q whole in
     let M : List DataRecord → Type 0 = λ records. Means (messages_got calls) records in
-    subst M (ap records_in all ∙ parts_bring (records_given calls)) (means_so_far calls may ranges)
+    subst M (ap records_of_parts all ∙ parts_bring (records_given calls)) (means_so_far calls may ranges)

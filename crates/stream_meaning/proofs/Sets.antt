@@ -2,7 +2,7 @@
 use Rattle.std.proofs.Common.{◌≡◌, ℕ, Bool, true, false, cond, eqb, List, [], ◌∷◌, ◌++◌, refl, sym, ap, ◌∙◌}
 use Rattle.std.proofs.lemmas.Bool.{eqb-true}
 use Rattle.ipfix_template.specs.DataRecord.{DataRecord}
-use Rattle.subscriber_stream.specs.Parts.{Part, Announcement, Entry, records_in}
+use Rattle.subscriber_stream.specs.Parts.{Part, Announcement, Entry, records_of_parts}
 use Rattle.subscriber_stream.specs.Message.{Set, Announces, Brings, with_record, sets_of}
 use Rattle.std.proofs.lemmas.Option.{same_Some}
 use Rattle.stream_meaning.proofs.Tables.{Table, defining, IsKnown, AreBrought, AreKnown, AreWritten, after_parts, after_sets, records_among}
@@ -50,7 +50,7 @@ with_record-records id r (Brings other rs ∷ sets) = by_test (eqb id other) whe
   by_test true = refl
   by_test false = refl
 
-pub sets_bring : (ps : List Part) → records_among (sets_of ps) ≡ records_in ps
+pub sets_bring : (ps : List Part) → records_among (sets_of ps) ≡ records_of_parts ps
 sets_bring [] = refl
 sets_bring (Announcement id shape ∷ ps) = sets_bring ps
 sets_bring (Entry id r ∷ ps) =

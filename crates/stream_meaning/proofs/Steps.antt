@@ -13,7 +13,7 @@ use Rattle.ipfix_session.specs.Contents.{only_records, contents_after}
 use Rattle.ipfix_session.specs.Meaning.{Meaning, domain_of, items_or_none, items_of_domain, read_items, contents_of, next_number, expected_number, gap_between, gap_of, meaning_of}
 use Rattle.ipfix_session.specs.declared.read.Gap.{Gap}
 use Rattle.ipfix_session.proofs.SessionSteps.{header_is, items_then, means}
-use Rattle.subscriber_stream.specs.Parts.{Part, Announcement, Entry, records_in}
+use Rattle.subscriber_stream.specs.Parts.{Part, Announcement, Entry, records_of_parts}
 use Rattle.subscriber_stream.specs.Message.{sets_of, set_head, body, message, run_length}
 use Rattle.subscriber_stream.proofs.Messages.{length-message}
 use Rattle.subscriber_stream.proofs.CallLaws.{run_within, run_some}
@@ -60,14 +60,14 @@ run_fits target now handed table part ps below all =
 -- after messages that stand newest first, and that brought these parts: the templates, and the number that is expected
 pub record Stands (older : List (List ℕ)) (done : List Part) : Type 0 where
   pub table : (q : ℕ) → template_in_force q (items_of_domain 0 older) ≡ after_parts empty done q
-  pub number : gap_between (expected_number 0 older) (length (records_in done) % 2 ^ 32) ≡ None
+  pub number : gap_between (expected_number 0 older) (length (records_of_parts done) % 2 ^ 32) ≡ None
 
 pub stands_first : Stands [] []
 unfolding template_in_force items_of_domain expected_number
 stands_first = record { table = λ q. refl; number = refl }
 
 abbrev pub handed_in : List Part → ℕ
-handed_in done = length (records_in done)
+handed_in done = length (records_of_parts done)
 
 -- the message of these parts, after those
 abbrev pub message_at : ℕ → List Part → List Part → List ℕ
@@ -77,7 +77,7 @@ message_at now done ps = message now (handed_in done) ps
 record IsTold (older : List (List ℕ)) (done ps : List Part) (now : ℕ) : Type 0 where
   header : header_of (message_at now done ps) ≡ header_at now (handed_in done)
   items : items_of (message_at now done ps) ≡ Ok (items_at 16 (sets_of ps))
-  contents : contents_of older (message_at now done ps) ≡ read_contents (only_records (records_in ps))
+  contents : contents_of older (message_at now done ps) ≡ read_contents (only_records (records_of_parts ps))
 
 -- a message that may be told so
 pub record IsNext (done ps : List Part) (now : ℕ) : Type 0 where
@@ -141,15 +141,15 @@ stands_after older done ps now stands is =
     let m = message_at now done ps in
     let domain : domain_of m ≡ 0 = ap (λ (h : Header). h.domain) is.header in
     let handed = handed_in done in
-    let total : length (records_in (done ++ ps)) ≡ handed + length (records_in ps) = ap length (records_in-append done ps) ∙ length-append (records_in done) (records_in ps) in
-    let expected : expected_number 0 (m ∷ older) ≡ Some ((handed % 2 ^ 32 + length (records_in ps)) % 2 ^ 32) = expected_then m older domain
+    let total : length (records_of_parts (done ++ ps)) ≡ handed + length (records_of_parts ps) = ap length (records_in-append done ps) ∙ length-append (records_of_parts done) (records_of_parts ps) in
+    let expected : expected_number 0 (m ∷ older) ≡ Some ((handed % 2 ^ 32 + length (records_of_parts ps)) % 2 ^ 32) = expected_then m older domain
     ∙ ap (λ (h : Header). next_number h (contents_of older m)) is.header ∙ ap (next_number (header_at now handed)) is.contents in
     record {
       table = λ q. ap (template_in_force q) (own_items_then m older (items_at 16 (sets_of ps)) domain is.items)
           ∙ in_force_after (sets_of ps) table (items_of_domain 0 older) 16 stands.table q
           ∙ ap (λ (t : Table). t q) (sets_after ps table ∙ sym (after_append done ps empty));
-      number = ap (λ (o : Option ℕ). gap_between o (length (records_in (done ++ ps)) % 2 ^ 32)) expected
-          ∙ no_gap ((handed % 2 ^ 32 + length (records_in ps)) % 2 ^ 32) (length (records_in (done ++ ps)) % 2 ^ 32) (counted handed (length (records_in ps)) (length (records_in (done ++ ps))) total);
+      number = ap (λ (o : Option ℕ). gap_between o (length (records_of_parts (done ++ ps)) % 2 ^ 32)) expected
+          ∙ no_gap ((handed % 2 ^ 32 + length (records_of_parts ps)) % 2 ^ 32) (length (records_of_parts (done ++ ps)) % 2 ^ 32) (counted handed (length (records_of_parts ps)) (length (records_of_parts (done ++ ps))) total);
     }
 
 abbrev meaning : Header → List DataRecord → Option Gap → Meaning
@@ -159,17 +159,17 @@ meaning_is : (older : List (List ℕ)) (m : List ℕ) (records : List DataRecord
 unfolding meaning_of
 meaning_is older m records is = rw is refl
 
-plain : (older : List (List ℕ)) (done ps : List Part) (now : ℕ) → Stands older done → IsTold older done ps now → meaning_of older (message_at now done ps) ≡ means (plain_meaning now (handed_in done) (records_in ps))
+plain : (older : List (List ℕ)) (done ps : List Part) (now : ℕ) → Stands older done → IsTold older done ps now → meaning_of older (message_at now done ps) ≡ means (plain_meaning now (handed_in done) (records_of_parts ps))
 plain older done ps now stands is =
     let m = message_at now done ps in
     let gap : gap_of older m ≡ None = ap (λ (h : Header). gap_between (expected_number h.domain older) h.sequence) is.header ∙ stands.number in
-    meaning_is older m (records_in ps) is.contents
-    ∙ ap (λ (h : Header). means (meaning h (records_in ps) (gap_of older m))) is.header
-    ∙ ap (λ (g : Option Gap). means (meaning (header_at now (handed_in done)) (records_in ps) g)) gap
+    meaning_is older m (records_of_parts ps) is.contents
+    ∙ ap (λ (h : Header). means (meaning h (records_of_parts ps) (gap_of older m))) is.header
+    ∙ ap (λ (g : Option Gap). means (meaning (header_at now (handed_in done)) (records_of_parts ps) g)) gap
 
 -- a message of parts is read as their records, and the readers then stand behind them
 pub record Steps (older : List (List ℕ)) (done ps : List Part) (now : ℕ) : Type 0 where
-  pub meaning : meaning_of older (message_at now done ps) ≡ Ok (plain_meaning now (handed_in done) (records_in ps))
+  pub meaning : meaning_of older (message_at now done ps) ≡ Ok (plain_meaning now (handed_in done) (records_of_parts ps))
   pub stands : Stands (message_at now done ps ∷ older) (done ++ ps)
 
 pub step : (older : List (List ℕ)) (done ps : List Part) (now : ℕ) → Stands older done → IsNext done ps now → Steps older done ps now

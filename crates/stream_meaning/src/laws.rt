@@ -8,7 +8,7 @@ ghost use Rattle.std.specs.Prelude.{◌≡◌, ◌≤◌, ◌<◌, ◌^◌, ◌+
 ghost use Rattle.std.specs.List.{AllByRecursion};
 ghost use Rattle.sequences.specs.Before.{each_with_before};
 ghost use Rattle.ipfix_template.specs.DataRecord.{DataRecord};
-ghost use Rattle.subscriber_stream.specs.Parts.{parts, records_in};
+ghost use Rattle.subscriber_stream.specs.Parts.{parts, records_of_parts};
 ghost use Rattle.subscriber_stream.specs.Message.{built, place_after};
 ghost use Rattle.subscriber_stream.specs.declared.limits.StreamLimits.{StreamLimits};
 ghost use Rattle.subscriber_stream.specs.declared.limits.TheConstants.{MOST_SHAPES};
@@ -29,7 +29,7 @@ ghost use Rattle.stream_meaning.specs.HandedOut.{AreHandedOut};
 pub fn messages_mean_the_list()
     ensures so_far { (calls : List Call) → AreStreamable (records_given calls) → AreInRange calls
         → Means (messages_got calls)
-        (records_in (take (place_reached calls) (parts (records_given calls)))) }
+        (records_of_parts (take (place_reached calls) (parts (records_given calls)))) }
     ensures whole { (calls : List Call) (now target : ℕ) → AreStreamable (records_given calls)
         → AreInRange calls → built (records_given calls) (place_reached calls) now target ≡ None
         → Means (messages_got calls) (records_given calls) }
@@ -49,7 +49,7 @@ pub fn pulls_see_what_was_given()
 /// the list, as many as `Stream::handed` counts.
 pub fn the_first_are_handed_out()
     ensures { (s : StreamStanding) (records : List DataRecord) (p : ℕ) → StandsAt s records p
-        → records_in (take p (parts records)) ≡ take s.handed records }
+        → records_of_parts (take p (parts records)) ≡ take s.handed records }
 {}
 
 /// What a stream answers means the list too, where it takes these calls one after another by the
@@ -60,7 +60,7 @@ pub fn answers_mean_the_list()
         → StandsAt s [] 0 → ServesCalls s calls answers
         → AreStreamable (records_given calls) → AreInRange calls
         → Means (messages_in answers)
-        (records_in (take (place_reached calls) (parts (records_given calls)))) }
+        (records_of_parts (take (place_reached calls) (parts (records_given calls)))) }
 {}
 
 /// What a holder of a stream keeps beside it, call by call: that the messages are all that were handed out
@@ -87,7 +87,7 @@ pub fn holders_keep()
     // So it is known what the messages mean.
     ensures so_far { (messages : List (List ℕ)) (records : List DataRecord) (p : ℕ)
         → AreHandedOut messages records p → AreStreamable records
-        → Means messages (records_in (take p (parts records))) }
+        → Means messages (records_of_parts (take p (parts records))) }
     ensures whole { (messages : List (List ℕ)) (records : List DataRecord) (p now target : ℕ)
         → AreHandedOut messages records p → AreStreamable records
         → built records p now target ≡ None → Means messages records }

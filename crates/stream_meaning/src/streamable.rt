@@ -3,7 +3,7 @@ ghost use Rattle.std.specs.Prelude.{◌≡◌, ◌≤◌, length};
 ghost use Rattle.std.specs.List.{AllByRecursion};
 ghost use Rattle.ipfix_octets.specs.MessageFormat.{least_template_id};
 ghost use Rattle.ipfix_template.specs.Template.{is_options, IsAcceptable, IsSpecifier, IsWritable};
-ghost use Rattle.ipfix_records.specs.Runs.{records_of};
+ghost use Rattle.ipfix_records.specs.Runs.{run_records};
 ghost use Rattle.stream_meaning.specs.Served.{IsStreamable};
 
 use ipfix_records::{Records, Run};
@@ -22,7 +22,7 @@ pub fn see_records(records: &Records)
 /// The records of `run` are sound, and the numbers of its template fit their octets. A caller who
 /// has a run learns it here, and the call does nothing else.
 pub fn see_run(run: &Run)
-    ensures { AllByRecursion IsStreamable (records_of run.now) }
+    ensures { AllByRecursion IsStreamable (run_records run.now) }
 {
     if !run.is_empty() {
         see_template(run.template());

@@ -9,7 +9,7 @@ use Rattle.ipfix_template.specs.Template.{is_options, template_record}
 use Rattle.ipfix_template.specs.Values.{record_text}
 use Rattle.ipfix_template.proofs.Encoding.{length-template_record}
 use Rattle.subscriber_stream.specs.Message.{Set, Announces, Brings, with_record, sets_of, template_set, set_head, set_text, body}
-use Rattle.subscriber_stream.specs.Items.{Item, Announced, Brought, shape_at, parts_of, IsEntry, AreItemsKept, joins, total, run, pieces}
+use Rattle.subscriber_stream.specs.Items.{Item, Announced, Brought, shape_at, stream_parts, IsEntry, AreItemsKept, joins, total, run, set_pieces}
 
 -- the octets of a record in a Data Set
 abbrev pub spelled : DataRecord → List ℕ
@@ -94,14 +94,14 @@ pub spelled-kept : (shapes : List Template) (id : ℕ) (octets : List ℕ) → I
 spelled-kept shapes id octets is = sym is.kept.shortest
 
 -- the records that join a set are its content
-pub run_content : (shapes : List Template) (id : ℕ) (ws : List Item) → AreItemsKept shapes ws → run id ws ≡ content_after id (sets_of (parts_of shapes ws))
+pub run_content : (shapes : List Template) (id : ℕ) (ws : List Item) → AreItemsKept shapes ws → run id ws ≡ content_after id (sets_of (stream_parts shapes ws))
 run_content shapes id [] kept = refl
 run_content shapes id (Announced other octets ∷ ws) kept = refl
 run_content shapes id (Brought other octets ∷ ws) kept =
-    by_test (nat_eq id other) refl (run_content shapes id ws kept.1) (ap length (spelled-kept shapes other octets kept.0)) ∙ sym (content_with id other (entry shapes other octets) (sets_of (parts_of shapes ws))) where
-      by_test : (b : Bool) → nat_eq id other ≡ b → run id ws ≡ content_after id (sets_of (parts_of shapes ws)) → length (spelled (entry shapes other octets)) ≡ length octets → cond b (length octets + run id ws) 0 ≡ cond b (length (spelled (entry shapes other octets)) + content_after other (sets_of (parts_of shapes ws))) 0
+    by_test (nat_eq id other) refl (run_content shapes id ws kept.1) (ap length (spelled-kept shapes other octets kept.0)) ∙ sym (content_with id other (entry shapes other octets) (sets_of (stream_parts shapes ws))) where
+      by_test : (b : Bool) → nat_eq id other ≡ b → run id ws ≡ content_after id (sets_of (stream_parts shapes ws)) → length (spelled (entry shapes other octets)) ≡ length octets → cond b (length octets + run id ws) 0 ≡ cond b (length (spelled (entry shapes other octets)) + content_after other (sets_of (stream_parts shapes ws))) 0
       by_test true is others here =
-          let moved : content_after id (sets_of (parts_of shapes ws)) ≡ content_after other (sets_of (parts_of shapes ws)) = ap (λ (n : ℕ). content_after n (sets_of (parts_of shapes ws))) (eqb-true id other is) in
+          let moved : content_after id (sets_of (stream_parts shapes ws)) ≡ content_after other (sets_of (stream_parts shapes ws)) = ap (λ (n : ℕ). content_after n (sets_of (stream_parts shapes ws))) (eqb-true id other is) in
           omega (arith, others, here, moved)
       by_test false is others here = refl
 
@@ -119,38 +119,38 @@ joined_text (Some other) id r sets is =
     ap (λ (n : ℕ). text_after (Some n) (with_record id r sets)) (eqb-true other id is) ∙ with_open id r sets
 
 -- the sets of parts are what the parts write
-pub texts_pieces : (shapes : List Template) (last : Option ℕ) (ws : List Item) → AreItemsKept shapes ws → text_after last (sets_of (parts_of shapes ws)) ≡ pieces shapes last ws
+pub texts_pieces : (shapes : List Template) (last : Option ℕ) (ws : List Item) → AreItemsKept shapes ws → text_after last (sets_of (stream_parts shapes ws)) ≡ set_pieces shapes last ws
 texts_pieces shapes None [] kept = refl
 texts_pieces shapes (Some id) [] kept = refl
 texts_pieces shapes last (Announced id octets ∷ ws) kept =
     let shape = shape_at shapes id in
     let written = template_record id (is_options shape) shape in
     let len : length written ≡ octets = length-template_record id (is_options shape) shape ∙ sym kept.0.counted in
-    announced_text last id shape (sets_of (parts_of shapes ws))
+    announced_text last id shape (sets_of (stream_parts shapes ws))
     ∙ ap (λ (t : List ℕ). (set_head (template_set shape) (length written) ++ written) ++ t) (texts_pieces shapes None ws kept.1)
-    ∙ ap (λ (n : ℕ). (set_head (template_set shape) n ++ written) ++ pieces shapes None ws) len
+    ∙ ap (λ (n : ℕ). (set_head (template_set shape) n ++ written) ++ set_pieces shapes None ws) len
 texts_pieces shapes last (Brought id octets ∷ ws) kept =
     by_test (joins last id) refl (texts_pieces shapes (Some id) ws kept.1) (run_content shapes id ws kept.1) (ap length (spelled-kept shapes id octets kept.0))
-    ∙ ap (λ (t : List ℕ). (cond (joins last id) [] (set_head id (length octets + run id ws)) ++ t) ++ pieces shapes (Some id) ws) (spelled-kept shapes id octets kept.0) where
-      by_test : (b : Bool) → joins last id ≡ b → text_after (Some id) (sets_of (parts_of shapes ws)) ≡ pieces shapes (Some id) ws → run id ws ≡ content_after id (sets_of (parts_of shapes ws)) → length (spelled (entry shapes id octets)) ≡ length octets
-          → text_after last (with_record id (entry shapes id octets) (sets_of (parts_of shapes ws))) ≡ (cond b [] (set_head id (length octets + run id ws)) ++ spelled (entry shapes id octets)) ++ pieces shapes (Some id) ws
+    ∙ ap (λ (t : List ℕ). (cond (joins last id) [] (set_head id (length octets + run id ws)) ++ t) ++ set_pieces shapes (Some id) ws) (spelled-kept shapes id octets kept.0) where
+      by_test : (b : Bool) → joins last id ≡ b → text_after (Some id) (sets_of (stream_parts shapes ws)) ≡ set_pieces shapes (Some id) ws → run id ws ≡ content_after id (sets_of (stream_parts shapes ws)) → length (spelled (entry shapes id octets)) ≡ length octets
+          → text_after last (with_record id (entry shapes id octets) (sets_of (stream_parts shapes ws))) ≡ (cond b [] (set_head id (length octets + run id ws)) ++ spelled (entry shapes id octets)) ++ set_pieces shapes (Some id) ws
       by_test true is rest others here =
-          joined_text last id (entry shapes id octets) (sets_of (parts_of shapes ws)) is ∙ ap (λ (t : List ℕ). spelled (entry shapes id octets) ++ t) rest
+          joined_text last id (entry shapes id octets) (sets_of (stream_parts shapes ws)) is ∙ ap (λ (t : List ℕ). spelled (entry shapes id octets) ++ t) rest
       by_test false is rest others here =
           let r = entry shapes id octets in
-          let content : length (spelled r) + content_after id (sets_of (parts_of shapes ws)) ≡ length octets + run id ws = omega (arith, others, here) in
-          opened_text last id r (sets_of (parts_of shapes ws)) is
-          ∙ with_texts id r (sets_of (parts_of shapes ws))
-          ∙ ap (λ (n : ℕ). set_head id n ++ (spelled r ++ text_after (Some id) (sets_of (parts_of shapes ws)))) content
+          let content : length (spelled r) + content_after id (sets_of (stream_parts shapes ws)) ≡ length octets + run id ws = omega (arith, others, here) in
+          opened_text last id r (sets_of (stream_parts shapes ws)) is
+          ∙ with_texts id r (sets_of (stream_parts shapes ws))
+          ∙ ap (λ (n : ℕ). set_head id n ++ (spelled r ++ text_after (Some id) (sets_of (stream_parts shapes ws)))) content
           ∙ ap (λ (t : List ℕ). set_head id (length octets + run id ws) ++ (spelled r ++ t)) rest
-          ∙ sym (append_assoc (set_head id (length octets + run id ws)) (spelled r) (pieces shapes (Some id) ws))
+          ∙ sym (append_assoc (set_head id (length octets + run id ws)) (spelled r) (set_pieces shapes (Some id) ws))
 
 length-set_head : (id octets : ℕ) → length (set_head id octets) ≡ 4
 unfolding set_head
 length-set_head id octets = refl
 
 -- and their octets are the costs
-pub length-pieces : (shapes : List Template) (last : Option ℕ) (ws : List Item) → AreItemsKept shapes ws → length (pieces shapes last ws) ≡ total last ws
+pub length-pieces : (shapes : List Template) (last : Option ℕ) (ws : List Item) → AreItemsKept shapes ws → length (set_pieces shapes last ws) ≡ total last ws
 length-pieces shapes last [] kept = refl
 length-pieces shapes last (Announced id octets ∷ ws) kept =
     let shape = shape_at shapes id in
@@ -158,15 +158,15 @@ length-pieces shapes last (Announced id octets ∷ ws) kept =
     let len : length written ≡ octets = length-template_record id (is_options shape) shape ∙ sym kept.0.counted in
     let head = length-set_head (template_set shape) octets in
     let others = length-pieces shapes None ws kept.1 in
-    omega (arith, length-append (set_head (template_set shape) octets ++ written) (pieces shapes None ws), length-append (set_head (template_set shape) octets) written, len, head, others)
+    omega (arith, length-append (set_head (template_set shape) octets ++ written) (set_pieces shapes None ws), length-append (set_head (template_set shape) octets) written, len, head, others)
 length-pieces shapes last (Brought id octets ∷ ws) kept =
     by_test (joins last id) (length-pieces shapes (Some id) ws kept.1) where
-      by_test : (b : Bool) → length (pieces shapes (Some id) ws) ≡ total (Some id) ws → length ((cond b [] (set_head id (length octets + run id ws)) ++ octets) ++ pieces shapes (Some id) ws) ≡ cond b (length octets) (4 + length octets) + total (Some id) ws
-      by_test true others = omega (arith, length-append octets (pieces shapes (Some id) ws), others)
+      by_test : (b : Bool) → length (set_pieces shapes (Some id) ws) ≡ total (Some id) ws → length ((cond b [] (set_head id (length octets + run id ws)) ++ octets) ++ set_pieces shapes (Some id) ws) ≡ cond b (length octets) (4 + length octets) + total (Some id) ws
+      by_test true others = omega (arith, length-append octets (set_pieces shapes (Some id) ws), others)
       by_test false others =
           let head = length-set_head id (length octets + run id ws) in
-          omega (arith, length-append (set_head id (length octets + run id ws) ++ octets) (pieces shapes (Some id) ws), length-append (set_head id (length octets + run id ws)) octets, others, head)
+          omega (arith, length-append (set_head id (length octets + run id ws) ++ octets) (set_pieces shapes (Some id) ws), length-append (set_head id (length octets + run id ws)) octets, others, head)
 
-pub body_pieces : (shapes : List Template) (ws : List Item) → AreItemsKept shapes ws → body (parts_of shapes ws) ≡ pieces shapes None ws
+pub body_pieces : (shapes : List Template) (ws : List Item) → AreItemsKept shapes ws → body (stream_parts shapes ws) ≡ set_pieces shapes None ws
 unfolding body
 body_pieces shapes ws kept = texts_pieces shapes None ws kept

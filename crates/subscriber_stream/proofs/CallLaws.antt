@@ -9,7 +9,7 @@ use Rattle.ipfix_template.specs.DataRecord.{DataRecord}
 use Rattle.ipfix_template.specs.Equality.{same_template}
 use Rattle.ipfix_template.specs.SameTemplate.{same_template-is, same_template-itself}
 use Rattle.subscriber_stream.specs.Shapes.{shapes_of}
-use Rattle.subscriber_stream.specs.Parts.{Part, parts, parts_at, records_in}
+use Rattle.subscriber_stream.specs.Parts.{Part, parts, parts_at, records_of_parts}
 use Rattle.subscriber_stream.specs.Message.{message, last_passing, is_within, run_length, built, place_after}
 use Rattle.subscriber_stream.specs.Standing.{StreamStanding, StandsAt}
 use Rattle.subscriber_stream.specs.Calls.{Call, Given, Pulled, ServesCalls, pulls_of, octets_from}
@@ -25,12 +25,12 @@ served s records p (Pulled now target ∷ calls) (answer ∷ answers) at serves 
     ap (λ (m : Option (List ℕ)). m ∷ answers) (serves.1.answers records p at)
     ∙ ap (λ (ms : List (Option (List ℕ))). built records p now target ∷ ms) (served serves.0 records (place_after records p target) calls answers (serves.1.stands records p at) serves.2)
 
-brought : (before records : List DataRecord) → records_in (each_after parts_at before records) ≡ records
+brought : (before records : List DataRecord) → records_of_parts (each_after parts_at before records) ≡ records
 brought before [] = refl
 brought before (r ∷ records) =
-    records_in-append (parts_at before r) (each_after parts_at (before ++ r ∷ []) records) ∙ ap (λ (rs : List DataRecord). rs ++ records_in (each_after parts_at (before ++ r ∷ []) records)) (records_in-parts_for (shapes_of before) r) ∙ ap (λ (rs : List DataRecord). r ∷ rs) (brought (before ++ r ∷ []) records)
+    records_in-append (parts_at before r) (each_after parts_at (before ++ r ∷ []) records) ∙ ap (λ (rs : List DataRecord). rs ++ records_of_parts (each_after parts_at (before ++ r ∷ []) records)) (records_in-parts_for (shapes_of before) r) ∙ ap (λ (rs : List DataRecord). r ∷ rs) (brought (before ++ r ∷ []) records)
 
-pub parts_bring : (records : List DataRecord) → records_in (parts records) ≡ records
+pub parts_bring : (records : List DataRecord) → records_of_parts (parts records) ≡ records
 unfolding parts
 parts_bring records = brought [] records
 

@@ -3,7 +3,7 @@ use Rattle.std.proofs.Common.{◌≡◌, ℕ, suc, ◌+◌, ◌<◌, ◌≤◌, 
 use Rattle.std.proofs.lemmas.List.{take-append-le, drop-drop, drop_at, take_all}
 use Rattle.subscriber_stream.specs.declared.waiting.Waiting.{Waiting}
 use Rattle.subscriber_stream.specs.Items.{Item, cost, data_set, last_after, total, fits}
-use Rattle.subscriber_stream.specs.Waiting.{items_of, items_in, IsFilledRun, set_after}
+use Rattle.subscriber_stream.specs.Waiting.{waiting_items, items_in, IsFilledRun, set_after}
 use Rattle.subscriber_stream.proofs.Queues.{items_from, set_is_last}
 use Rattle.ipfix_octets.specs.MessageFormat.{longest_message}
 
@@ -73,29 +73,29 @@ IsRun-none target queue = record {
 pub record IsNext (target : ℕ) (queue : List Waiting) (place octets : ℕ) (last : Option ℕ) (w : Waiting) (more whole : ℕ) : Type 0 where
   pub within : place < length queue
   pub there : w ≡ get_or queue place w
-  pub fit : more ≡ fits target last octets (items_of w)
-  pub counted : whole ≡ octets + total last (take more (items_of w))
+  pub fit : more ≡ fits target last octets (waiting_items w)
+  pub counted : whole ≡ octets + total last (take more (waiting_items w))
   pub small : whole ≤ longest_message
 
 -- the parts that were taken, with those
 with_next : (target : ℕ) (queue : List Waiting) (place parts octets : ℕ) (last : Option ℕ) (w : Waiting) (more whole : ℕ) → IsRun target queue place parts octets last → IsNext target queue place octets last w more whole
-    → take (parts + more) (items_in queue) ≡ take parts (items_in queue) ++ take more (items_of w)
+    → take (parts + more) (items_in queue) ≡ take parts (items_in queue) ++ take more (waiting_items w)
 with_next target queue place parts octets last w more whole run next =
-    let few : more ≤ length (items_of w) = omega (arith, next.fit, fits-few target last octets (items_of w)) in
+    let few : more ≤ length (waiting_items w) = omega (arith, next.fit, fits-few target last octets (waiting_items w)) in
     take-add parts more (items_in queue)
     ∙ ap (λ (ws : List Item). take parts (items_in queue) ++ take more ws) (run.split ∙ items_from queue place w next.within next.there)
-    ∙ ap (λ (ws : List Item). take parts (items_in queue) ++ ws) (take-append-le more (items_of w) (items_in (drop (place + 1) queue)) few)
+    ∙ ap (λ (ws : List Item). take parts (items_in queue) ++ ws) (take-append-le more (waiting_items w) (items_in (drop (place + 1) queue)) few)
 
 octets_with : (target : ℕ) (queue : List Waiting) (place parts octets : ℕ) (last : Option ℕ) (w : Waiting) (more whole : ℕ) → IsRun target queue place parts octets last → IsNext target queue place octets last w more whole
     → whole ≡ 16 + total None (take (parts + more) (items_in queue))
 octets_with target queue place parts octets last w more whole run next =
-    let all : total None (take (parts + more) (items_in queue)) ≡ total None (take parts (items_in queue)) + total last (take more (items_of w)) = ap (total None) (with_next target queue place parts octets last w more whole run next) ∙ total-append None (take parts (items_in queue)) (take more (items_of w)) ∙ ap (λ (l : Option ℕ). total None (take parts (items_in queue)) + total l (take more (items_of w))) run.ends in
+    let all : total None (take (parts + more) (items_in queue)) ≡ total None (take parts (items_in queue)) + total last (take more (waiting_items w)) = ap (total None) (with_next target queue place parts octets last w more whole run next) ∙ total-append None (take parts (items_in queue)) (take more (waiting_items w)) ∙ ap (λ (l : Option ℕ). total None (take parts (items_in queue)) + total l (take more (waiting_items w))) run.ends in
     omega (arith, next.counted, run.counted, all)
 
 -- no more parts than there are
 pub few_with : (target : ℕ) (queue : List Waiting) (place parts octets : ℕ) (last : Option ℕ) (w : Waiting) (more whole : ℕ) → IsRun target queue place parts octets last → IsNext target queue place octets last w more whole → parts + more ≤ length (items_in queue)
 few_with target queue place parts octets last w more whole run next =
-    omega (arith, run.whole, next.fit, fits-few target last octets (items_of w), ap length (items_from queue place w next.within next.there), length-append (items_of w) (items_in (drop (place + 1) queue)))
+    omega (arith, run.whole, next.fit, fits-few target last octets (waiting_items w), ap length (items_from queue place w next.within next.there), length-append (waiting_items w) (items_in (drop (place + 1) queue)))
 
 -- the longest run, as the contract has it
 pub record IsLongest (target : ℕ) (queue : List Waiting) (parts octets : ℕ) : Type 0 where
@@ -104,29 +104,29 @@ pub record IsLongest (target : ℕ) (queue : List Waiting) (parts octets : ℕ) 
   pub within : parts ≤ length (items_in queue)
 
 -- where not all parts at a place fit, the run ends there
-pub IsRun-over : (target : ℕ) (queue : List Waiting) (place parts octets : ℕ) (last : Option ℕ) (w : Waiting) (more whole : ℕ) → IsRun target queue place parts octets last → IsNext target queue place octets last w more whole → more < length (items_of w) → IsLongest target queue (parts + more) whole
+pub IsRun-over : (target : ℕ) (queue : List Waiting) (place parts octets : ℕ) (last : Option ℕ) (w : Waiting) (more whole : ℕ) → IsRun target queue place parts octets last → IsNext target queue place octets last w more whole → more < length (waiting_items w) → IsLongest target queue (parts + more) whole
 IsRun-over target queue place parts octets last w more whole run next over =
-    let here : fits target last octets (items_in (drop place queue)) ≡ more = ap (fits target last octets) (items_from queue place w next.within next.there) ∙ fits-some target last octets (items_of w) (items_in (drop (place + 1) queue)) (omega (arith, next.fit, over)) ∙ sym next.fit in
+    let here : fits target last octets (items_in (drop place queue)) ≡ more = ap (fits target last octets) (items_from queue place w next.within next.there) ∙ fits-some target last octets (waiting_items w) (items_in (drop (place + 1) queue)) (omega (arith, next.fit, over)) ∙ sym next.fit in
     record {
       parts_are = omega (arith, run.fit, here);
       octets_are = octets_with target queue place parts octets last w more whole run next;
       within = few_with target queue place parts octets last w more whole run next;
     }
 
-pub IsRun-more : (target : ℕ) (queue : List Waiting) (place parts octets : ℕ) (last : Option ℕ) (w : Waiting) (more whole : ℕ) → IsRun target queue place parts octets last → IsNext target queue place octets last w more whole → IsFilledRun w → length (items_of w) ≤ more → IsRun target queue (place + 1) (parts + more) whole (set_after w)
+pub IsRun-more : (target : ℕ) (queue : List Waiting) (place parts octets : ℕ) (last : Option ℕ) (w : Waiting) (more whole : ℕ) → IsRun target queue place parts octets last → IsNext target queue place octets last w more whole → IsFilledRun w → length (waiting_items w) ≤ more → IsRun target queue (place + 1) (parts + more) whole (set_after w)
 IsRun-more target queue place parts octets last w more whole run next filled all =
     let rest = items_in (drop (place + 1) queue) in
-    let from : items_in (drop place queue) ≡ items_of w ++ rest = items_from queue place w next.within next.there in
-    let every : more ≡ length (items_of w) = omega (arith, all, next.fit, fits-few target last octets (items_of w)) in
-    let full : take more (items_of w) ≡ items_of w = take_all more (items_of w) all in
-    let octets_are : octets + total last (items_of w) ≡ whole = sym (next.counted ∙ ap (λ (ws : List Item). octets + total last ws) full) in
-    let last_is : last_after last (items_of w) ≡ set_after w = set_is_last last w filled in
-    let here : fits target last octets (items_in (drop place queue)) ≡ length (items_of w) + fits target (set_after w) whole rest = ap (fits target last octets) from ∙ fits-all target last octets (items_of w) rest (sym next.fit ∙ every) ∙ ap (λ (l : Option ℕ). length (items_of w) + fits target l (octets + total last (items_of w)) rest) last_is ∙ ap (λ (n : ℕ). length (items_of w) + fits target (set_after w) n rest) octets_are in
+    let from : items_in (drop place queue) ≡ waiting_items w ++ rest = items_from queue place w next.within next.there in
+    let every : more ≡ length (waiting_items w) = omega (arith, all, next.fit, fits-few target last octets (waiting_items w)) in
+    let full : take more (waiting_items w) ≡ waiting_items w = take_all more (waiting_items w) all in
+    let octets_are : octets + total last (waiting_items w) ≡ whole = sym (next.counted ∙ ap (λ (ws : List Item). octets + total last ws) full) in
+    let last_is : last_after last (waiting_items w) ≡ set_after w = set_is_last last w filled in
+    let here : fits target last octets (items_in (drop place queue)) ≡ length (waiting_items w) + fits target (set_after w) whole rest = ap (fits target last octets) from ∙ fits-all target last octets (waiting_items w) rest (sym next.fit ∙ every) ∙ ap (λ (l : Option ℕ). length (waiting_items w) + fits target l (octets + total last (waiting_items w)) rest) last_is ∙ ap (λ (n : ℕ). length (waiting_items w) + fits target (set_after w) n rest) octets_are in
     record {
-      split = sym (drop-drop more parts (items_in queue)) ∙ ap (drop more) (run.split ∙ from) ∙ drop_at (items_of w) rest more (sym every);
-      whole = omega (arith, run.whole, ap length from, length-append (items_of w) rest, every);
+      split = sym (drop-drop more parts (items_in queue)) ∙ ap (drop more) (run.split ∙ from) ∙ drop_at (waiting_items w) rest more (sym every);
+      whole = omega (arith, run.whole, ap length from, length-append (waiting_items w) rest, every);
       counted = octets_with target queue place parts octets last w more whole run next;
-      ends = ap (last_after None) (with_next target queue place parts octets last w more whole run next) ∙ last_after-append None (take parts (items_in queue)) (take more (items_of w)) ∙ ap (λ (l : Option ℕ). last_after l (take more (items_of w))) run.ends ∙ ap (last_after last) full ∙ last_is;
+      ends = ap (last_after None) (with_next target queue place parts octets last w more whole run next) ∙ last_after-append None (take parts (items_in queue)) (take more (waiting_items w)) ∙ ap (λ (l : Option ℕ). last_after l (take more (waiting_items w))) run.ends ∙ ap (last_after last) full ∙ last_is;
       fit = omega (arith, run.fit, here, every);
       small = next.small;
     }

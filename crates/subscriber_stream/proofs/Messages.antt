@@ -6,7 +6,7 @@ use Rattle.sequences.specs.Octets.{be_octets}
 use Rattle.ipfix_template.specs.declared.template.Template.{Template}
 use Rattle.subscriber_stream.specs.Parts.{Part}
 use Rattle.subscriber_stream.specs.Message.{body, message, last_passing, is_within, run_length}
-use Rattle.subscriber_stream.specs.Items.{Item, part_of, parts_of, AreItemsKept, data_set, cost, total, fits, pieces}
+use Rattle.subscriber_stream.specs.Items.{Item, part_of, stream_parts, AreItemsKept, data_set, cost, total, fits, set_pieces}
 use Rattle.subscriber_stream.proofs.Bodies.{body_pieces, length-pieces}
 use Rattle.subscriber_stream.proofs.Pieces.{kept_take}
 use Rattle.std.proofs.lemmas.List.{length-map, take-map}
@@ -14,21 +14,21 @@ use Rattle.std.proofs.lemmas.List.{length-map, take-map}
 abbrev pub header : ℕ → ℕ → ℕ → List ℕ
 header octets now sequence = be_octets 2 10 ++ be_octets 2 octets ++ be_octets 4 now ++ be_octets 4 sequence ++ be_octets 4 0
 
-pub message_pieces : (shapes : List Template) (ws : List Item) (now handed octets : ℕ) → AreItemsKept shapes ws → octets ≡ 16 + total None ws → message now handed (parts_of shapes ws) ≡ header octets now (handed % 2 ^ 32) ++ pieces shapes None ws
+pub message_pieces : (shapes : List Template) (ws : List Item) (now handed octets : ℕ) → AreItemsKept shapes ws → octets ≡ 16 + total None ws → message now handed (stream_parts shapes ws) ≡ header octets now (handed % 2 ^ 32) ++ set_pieces shapes None ws
 unfolding message
 message_pieces shapes ws now handed octets kept is =
     let same = body_pieces shapes ws kept in
-    let len : 16 + length (body (parts_of shapes ws)) ≡ octets = omega (arith, ap length same, length-pieces shapes None ws kept, is) in
-    ap (λ (n : ℕ). header n now (handed % 2 ^ 32) ++ body (parts_of shapes ws)) len ∙ ap (λ (t : List ℕ). header octets now (handed % 2 ^ 32) ++ t) same
+    let len : 16 + length (body (stream_parts shapes ws)) ≡ octets = omega (arith, ap length same, length-pieces shapes None ws kept, is) in
+    ap (λ (n : ℕ). header n now (handed % 2 ^ 32) ++ body (stream_parts shapes ws)) len ∙ ap (λ (t : List ℕ). header octets now (handed % 2 ^ 32) ++ t) same
 
 -- the time and the number do not change the length
 pub length-message : (now sequence : ℕ) (ps : List Part) → length (message now sequence ps) ≡ 16 + length (body ps)
 unfolding message
 length-message now sequence ps = length-append (header (16 + length (body ps)) now (sequence % 2 ^ 32)) (body ps)
 
-pub length-waiting : (shapes : List Template) (ws : List Item) → AreItemsKept shapes ws → length (message 0 0 (parts_of shapes ws)) ≡ 16 + total None ws
+pub length-waiting : (shapes : List Template) (ws : List Item) → AreItemsKept shapes ws → length (message 0 0 (stream_parts shapes ws)) ≡ 16 + total None ws
 length-waiting shapes ws kept =
-    omega (arith, length-message 0 0 (parts_of shapes ws), ap length (body_pieces shapes ws kept), length-pieces shapes None ws kept)
+    omega (arith, length-message 0 0 (stream_parts shapes ws), ap length (body_pieces shapes ws kept), length-pieces shapes None ws kept)
 
 -- ---- the longest run
 
@@ -63,9 +63,9 @@ fits-last_passing target last octets (w ∷ ws) =
           let over = leb-false (octets + cost last w) target is in
           sym (last_passing-none (λ n. nat_le (octets + total last (take n (w ∷ ws))) target) (suc (length ws)) (λ k. lt-leb _ target (omega arith)))
 
-pub run_length-waiting : (shapes : List Template) (target : ℕ) (ws : List Item) → AreItemsKept shapes ws → run_length target (parts_of shapes ws) ≡ max 1 (fits target None 16 ws)
+pub run_length-waiting : (shapes : List Template) (target : ℕ) (ws : List Item) → AreItemsKept shapes ws → run_length target (stream_parts shapes ws) ≡ max 1 (fits target None 16 ws)
 unfolding run_length
 run_length-waiting shapes target ws kept =
-    let len : length (parts_of shapes ws) ≡ length ws = length-map ws (part_of shapes) in
-    let tests : (k : ℕ) → is_within target (take k (parts_of shapes ws)) ≡ nat_le (16 + total None (take k ws)) target = λ k. ap (λ (t : List Part). is_within target t) (take-map (part_of shapes) k ws) ∙ ap (λ (n : ℕ). nat_le n target) (length-waiting shapes (take k ws) (kept_take shapes k ws kept)) in
-    ap (max 1) (last_passing-same _ _ (length (parts_of shapes ws)) tests ∙ ap (last_passing (λ n. nat_le (16 + total None (take n ws)) target)) len ∙ sym (fits-last_passing target None 16 ws))
+    let len : length (stream_parts shapes ws) ≡ length ws = length-map ws (part_of shapes) in
+    let tests : (k : ℕ) → is_within target (take k (stream_parts shapes ws)) ≡ nat_le (16 + total None (take k ws)) target = λ k. ap (λ (t : List Part). is_within target t) (take-map (part_of shapes) k ws) ∙ ap (λ (n : ℕ). nat_le n target) (length-waiting shapes (take k ws) (kept_take shapes k ws kept)) in
+    ap (max 1) (last_passing-same _ _ (length (stream_parts shapes ws)) tests ∙ ap (last_passing (λ n. nat_le (16 + total None (take n ws)) target)) len ∙ sym (fits-last_passing target None 16 ws))

@@ -11,13 +11,13 @@ use Rattle.ipfix_template.specs.DataRecord.{IsKept as IsKeptOf, kept_record}
 use Rattle.ipfix_template.specs.Template.{IsAcceptable, is_options, template_record}
 use Rattle.ipfix_template.specs.Equality.{same_template}
 use Rattle.ipfix_template.specs.SameTemplate.{same_template-is, same_template-itself}
-use Rattle.ipfix_records.specs.Runs.{RunOf, records_of}
+use Rattle.ipfix_records.specs.Runs.{RunOf, run_records}
 use Rattle.subscriber_stream.specs.declared.limits.StreamLimits.{StreamLimits}
 use Rattle.subscriber_stream.specs.declared.waiting.Waiting.{Waiting}
 use Rattle.subscriber_stream.specs.Shapes.{is_among, with_shape, id_of}
 use Rattle.subscriber_stream.specs.Parts.{Part, Announcement, Entry}
 use Rattle.subscriber_stream.specs.Table.{Table}
-use Rattle.subscriber_stream.specs.Items.{Item, Announced, Brought, shape_at, part_of, parts_of, AreItemsKept, AreFollowed, announcements, entries}
+use Rattle.subscriber_stream.specs.Items.{Item, Announced, Brought, shape_at, part_of, stream_parts, AreItemsKept, AreFollowed, announcements, entries}
 use Rattle.subscriber_stream.specs.Waiting.{items_in, AreFilled, new_waiting}
 use Rattle.subscriber_stream.specs.Standing.{KeptStream}
 use Rattle.subscriber_stream.specs.Steps.{given_one, after_given, StreamCounts, IsConsistent}
@@ -87,7 +87,7 @@ placed shapes shape false is =
 same_shape_at : (shapes grown : List Template) (id : ℕ) → ((i : ℕ) (d : Template) → i < length shapes → get_or grown i d ≡ get_or shapes i d) → 256 ≤ id → id < 256 + length shapes → shape_at shapes id ≡ shape_at grown id
 same_shape_at shapes grown id before low known = sym (before (id - 256) (record { fields = []; scope = 0 }) (omega arith))
 
-kept_grown : (shapes grown : List Template) (ws : List Item) → length shapes ≤ length grown → ((i : ℕ) (d : Template) → i < length shapes → get_or grown i d ≡ get_or shapes i d) → AreItemsKept shapes ws → AreItemsKept grown ws × (parts_of shapes ws ≡ parts_of grown ws)
+kept_grown : (shapes grown : List Template) (ws : List Item) → length shapes ≤ length grown → ((i : ℕ) (d : Template) → i < length shapes → get_or grown i d ≡ get_or shapes i d) → AreItemsKept shapes ws → AreItemsKept grown ws × (stream_parts shapes ws ≡ stream_parts grown ws)
 kept_grown shapes grown [] longer before kept = (tt, refl)
 kept_grown shapes grown (Announced id octets ∷ ws) longer before kept =
     let others = kept_grown shapes grown ws longer before kept.1 in
@@ -95,14 +95,14 @@ kept_grown shapes grown (Announced id octets ∷ ws) longer before kept =
     let A : Template → Type 0 = λ t. IsAcceptable t in
     let C : Template → Type 0 = λ t. octets ≡ length (template_record 256 (is_options t) t) in (
       (record { low = kept.0.low; known = omega (arith, kept.0.known); accepted = subst A same kept.0.accepted; counted = subst C same kept.0.counted; few = kept.0.few }, others.0),
-      ap (λ (t : Template). Announcement id t ∷ parts_of shapes ws) same ∙ ap (λ (ps : List Part). Announcement id (shape_at grown id) ∷ ps) others.1,
+      ap (λ (t : Template). Announcement id t ∷ stream_parts shapes ws) same ∙ ap (λ (ps : List Part). Announcement id (shape_at grown id) ∷ ps) others.1,
     )
 kept_grown shapes grown (Brought id octets ∷ ws) longer before kept =
     let others = kept_grown shapes grown ws longer before kept.1 in
     let same = same_shape_at shapes grown id before kept.0.low kept.0.known in
     let K : Template → Type 0 = λ t. IsKeptOf t octets in (
       (record { low = kept.0.low; known = omega (arith, kept.0.known); kept = subst K same kept.0.kept; few = kept.0.few }, others.0),
-      ap (λ (t : Template). Entry id (kept_record t octets) ∷ parts_of shapes ws) same ∙ ap (λ (ps : List Part). Entry id (kept_record (shape_at grown id) octets) ∷ ps) others.1,
+      ap (λ (t : Template). Entry id (kept_record t octets) ∷ stream_parts shapes ws) same ∙ ap (λ (ps : List Part). Entry id (kept_record (shape_at grown id) octets) ∷ ps) others.1,
     )
 
 -- ---- what is put behind it
@@ -159,13 +159,13 @@ entry_of id t text = Entry id (kept_record t text)
 abbrev pub run_parts : List Template → Template → List (List ℕ) → List Part
 run_parts shapes t texts = cond (is_among t shapes) [] (Announcement (id_of t shapes) t ∷ []) ++ map (entry_of (id_of t shapes) t) texts
 
-shown_brings : (grown : List Template) (id : ℕ) (texts : List (List ℕ)) → parts_of grown (brings id texts) ≡ map (entry_of id (shape_at grown id)) texts
+shown_brings : (grown : List Template) (id : ℕ) (texts : List (List ℕ)) → stream_parts grown (brings id texts) ≡ map (entry_of id (shape_at grown id)) texts
 shown_brings grown id [] = refl
 shown_brings grown id (text ∷ texts) = ap (λ (ps : List Part). entry_of id (shape_at grown id) text ∷ ps) (shown_brings grown id texts)
 
 record IsPut (shapes : List Template) (t : Template) (texts : List (List ℕ)) (grown : List Template) (items : List Item) : Type 0 where
   kept : AreItemsKept grown items
-  shown : parts_of grown items ≡ run_parts shapes t texts
+  shown : stream_parts grown items ≡ run_parts shapes t texts
   entries_are : entries items ≡ length texts
   counted : length shapes + announcements items ≡ length grown
 
@@ -234,7 +234,7 @@ new_run shapes t texts announced = new_waiting (256 + position_or_len (same_temp
 
 pub taken : (table grown : Table) (queue : List Waiting) (capacity : ℕ) (limits : StreamLimits) (counts : StreamCounts) (spare : ℕ) (t : Template) (texts : List (List ℕ)) (announced_octets : ℕ)
     → IsConsistent table queue capacity limits counts spare → Takes table grown limits counts.waiting counts.handed spare t texts announced_octets
-    → IsConsistent grown (queue ++ new_run table.shapes t texts announced_octets) capacity limits (record { waiting = counts.waiting + length texts; handed = counts.handed; announced = counts.announced }) (spare - length texts) × (parts_of grown.shapes (items_in (queue ++ new_run table.shapes t texts announced_octets)) ≡ parts_of table.shapes (items_in queue) ++ run_parts table.shapes t texts)
+    → IsConsistent grown (queue ++ new_run table.shapes t texts announced_octets) capacity limits (record { waiting = counts.waiting + length texts; handed = counts.handed; announced = counts.announced }) (spare - length texts) × (stream_parts grown.shapes (items_in (queue ++ new_run table.shapes t texts announced_octets)) ≡ stream_parts table.shapes (items_in queue) ++ run_parts table.shapes t texts)
 taken table grown queue capacity limits counts spare t texts announced_octets is takes =
     let id = 256 + position_or_len (same_template t) table.shapes in
     let announcement = cond (is_among t table.shapes) None (Some announced_octets) in
@@ -261,7 +261,7 @@ taken table grown queue capacity limits counts spare t texts announced_octets is
         room = omega (arith, is.room, takes.some, takes.reserved, few_new id announcement texts, length-append queue new);
         table_room = omega (arith, is.table_room, takes.spare_left, takes.some, takes.reserved);
       },
-      ap (λ (shapes : List Template). parts_of shapes (items_in (queue ++ new))) takes.shapes ∙ ap (parts_of (with_shape table.shapes t)) all ∙ map-append (part_of (with_shape table.shapes t)) (items_in queue) added ∙ ap (λ (ps : List Part). ps ++ parts_of (with_shape table.shapes t) added) (sym old.1) ∙ ap (λ (ps : List Part). parts_of table.shapes (items_in queue) ++ ps) one.shown,
+      ap (λ (shapes : List Template). stream_parts shapes (items_in (queue ++ new))) takes.shapes ∙ ap (stream_parts (with_shape table.shapes t)) all ∙ map-append (part_of (with_shape table.shapes t)) (items_in queue) added ∙ ap (λ (ps : List Part). ps ++ stream_parts (with_shape table.shapes t) added) (sym old.1) ∙ ap (λ (ps : List Part). stream_parts table.shapes (items_in queue) ++ ps) one.shown,
     )
 
 -- the place of a shape is below the limit, and the shape stands there
@@ -351,9 +351,9 @@ given_run shapes limits spare handed announced waiting t (text ∷ texts) some =
 
 -- what a stream keeps after it
 pub given_run-view : (k : KeptStream) (run : RunOf) (shapes : List Template) (limits : StreamLimits) (spare handed announced : ℕ) (waiting after : List Part) (grown : List Template) → k ≡ kept_with shapes limits spare handed announced waiting → 0 < length run.texts → grown ≡ with_shape shapes run.template → after ≡ waiting ++ run_parts shapes run.template run.texts
-    → kept_with grown limits (spare - length run.texts) handed announced after ≡ after_given k (records_of run)
+    → kept_with grown limits (spare - length run.texts) handed announced after ≡ after_given k (run_records run)
 given_run-view k run shapes limits spare handed announced waiting after grown is some grown_is after_is =
     ap (λ (ss : List Template). kept_with ss limits (spare - length run.texts) handed announced after) grown_is
     ∙ ap (kept_with (with_shape shapes run.template) limits (spare - length run.texts) handed announced) after_is
     ∙ sym (given_run shapes limits spare handed announced waiting run.template run.texts some)
-    ∙ ap (λ (l : KeptStream). after_given l (records_of run)) (sym is)
+    ∙ ap (λ (l : KeptStream). after_given l (run_records run)) (sym is)

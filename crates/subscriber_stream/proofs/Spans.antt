@@ -7,8 +7,8 @@ use Rattle.ipfix_template.specs.declared.template.Template.{Template}
 use Rattle.subscriber_stream.specs.declared.waiting.Waiting.{Waiting}
 use Rattle.subscriber_stream.specs.declared.waiting.Waiting.TheVariants.{Announce, Bring}
 use Rattle.subscriber_stream.specs.Message.{set_head}
-use Rattle.subscriber_stream.specs.Items.{Item, Brought, IsAnnouncement, AreItemsKept, joins, total, run, pieces}
-use Rattle.subscriber_stream.specs.Waiting.{items_of, items_in, IsFilledRun, set_after, span}
+use Rattle.subscriber_stream.specs.Items.{Item, Brought, IsAnnouncement, AreItemsKept, joins, total, run, set_pieces}
+use Rattle.subscriber_stream.specs.Waiting.{waiting_items, items_in, IsFilledRun, set_after, span}
 use Rattle.subscriber_stream.proofs.RunLaws.{brings, head, cost_is, same_id}
 use Rattle.subscriber_stream.proofs.Queues.{items_from}
 use Rattle.subscriber_stream.proofs.Pieces.{run-total}
@@ -35,11 +35,11 @@ run_front id (suc n) [] qs = omega (arith, ap (run id) (none_taken (suc n) qs))
 run_front id (suc n) (text ∷ texts) qs =
     rw (same_id id, one_less n (length texts) qs) (omega (arith, run_front id n texts qs, length-append text (concat (take n texts))))
 
-pieces_front : (shapes : List Template) (id n : ℕ) (texts : List (List ℕ)) (qs : List Item) → pieces shapes (Some id) (take n (brings id texts ++ qs)) ≡ concat (take n texts) ++ pieces shapes (Some id) (take (n - length texts) qs)
+pieces_front : (shapes : List Template) (id n : ℕ) (texts : List (List ℕ)) (qs : List Item) → set_pieces shapes (Some id) (take n (brings id texts ++ qs)) ≡ concat (take n texts) ++ set_pieces shapes (Some id) (take (n - length texts) qs)
 pieces_front shapes id zero texts qs = rw (none_less (length texts) qs) refl
-pieces_front shapes id (suc n) [] qs = ap (pieces shapes (Some id)) (none_taken (suc n) qs)
+pieces_front shapes id (suc n) [] qs = ap (set_pieces shapes (Some id)) (none_taken (suc n) qs)
 pieces_front shapes id (suc n) (text ∷ texts) qs =
-    rw (same_id id, one_less n (length texts) qs) (ap (λ (t : List ℕ). text ++ t) (pieces_front shapes id n texts qs) ∙ sym (append_assoc text (concat (take n texts)) (pieces shapes (Some id) (take (n - length texts) qs))))
+    rw (same_id id, one_less n (length texts) qs) (ap (λ (t : List ℕ). text ++ t) (pieces_front shapes id n texts qs) ∙ sym (append_assoc text (concat (take n texts)) (set_pieces shapes (Some id) (take (n - length texts) qs))))
 
 total_front : (id n : ℕ) (texts : List (List ℕ)) (qs : List Item) → total (Some id) (take n (brings id texts ++ qs)) ≡ length (concat (take n texts)) + total (Some id) (take (n - length texts) qs)
 total_front id zero texts qs = rw (none_less (length texts) qs) refl
@@ -55,7 +55,7 @@ regroup h t c p =
 
 -- it writes its span, and then what follows it is written
 pub span_written : (shapes : List Template) (last : Option ℕ) (left : ℕ) (w : Waiting) (queue : List Waiting) → 0 < left → IsFilledRun w
-    → pieces shapes last (take left (items_of w ++ items_in queue)) ≡ span shapes last left w queue ++ pieces shapes (set_after w) (take (left - length (items_of w)) (items_in queue))
+    → set_pieces shapes last (take left (waiting_items w ++ items_in queue)) ≡ span shapes last left w queue ++ set_pieces shapes (set_after w) (take (left - length (waiting_items w)) (items_in queue))
 span_written shapes last zero w queue some filled = absurd (omega arith)
 span_written shapes last (suc n) (Announce id octets) queue some filled =
     let e : suc n - 1 ≡ n = omega arith in rw e refl
@@ -63,7 +63,7 @@ span_written shapes last (suc n) (Bring id []) queue some filled = absurd (omega
 span_written shapes last (suc n) (Bring id (text ∷ texts)) queue some filled =
     let qs = items_in queue in
     let content = concat (take n texts) in
-    let rest = pieces shapes (Some id) (take (n - length texts) qs) in
+    let rest = set_pieces shapes (Some id) (take (n - length texts) qs) in
     let octets : length text + run id (take n (brings id texts ++ qs)) ≡ length (text ++ content) + run id (take (n - length texts) qs) = omega (arith, run_front id n texts qs, length-append text content) in
     let len : length (brings id texts) ≡ length texts = length-map texts (Brought id) in
     rw (len, one_less n (length texts) qs) (
@@ -84,21 +84,21 @@ span_small last id left texts qs some filled =
     omega (arith, total_span last id left texts qs some filled, run-total id (take (left - length texts) qs))
 
 -- the same, where the first so many of its records are in the message
-pub span_fits : (last : Option ℕ) (id left count octets others : ℕ) (w : Waiting) (texts : List (List ℕ)) (qs : List Item) → w ≡ Bring id texts → 0 < left → IsFilledRun w → count ≡ min (length texts) left → octets ≡ length (concat (take count texts)) → others ≡ run id (take (left - count) qs) → total last (take left (items_of w ++ qs)) ≤ longest_body → octets + others ≤ longest_body
+pub span_fits : (last : Option ℕ) (id left count octets others : ℕ) (w : Waiting) (texts : List (List ℕ)) (qs : List Item) → w ≡ Bring id texts → 0 < left → IsFilledRun w → count ≡ min (length texts) left → octets ≡ length (concat (take count texts)) → others ≡ run id (take (left - count) qs) → total last (take left (waiting_items w ++ qs)) ≤ longest_body → octets + others ≤ longest_body
 span_fits last id left count octets others w texts qs w_is some filled count_is octets_is others_is fits =
-    let len : length (items_of w) ≡ length texts = ap (λ (v : Waiting). length (items_of v)) w_is ∙ length-map texts (Brought id) in
+    let len : length (waiting_items w) ≡ length texts = ap (λ (v : Waiting). length (waiting_items v)) w_is ∙ length-map texts (Brought id) in
     let swapped : count ≡ min left (length texts) = omega (arith, count_is) in
     let first : take count texts ≡ take left texts = ap (λ (n : ℕ). take n texts) swapped ∙ take_min left texts in
     let behind : left - count ≡ left - length texts = omega (arith, count_is) in
-    let whole : total last (take left (items_of w ++ qs)) ≡ total last (take left (brings id texts ++ qs)) = ap (λ (v : Waiting). total last (take left (items_of v ++ qs))) w_is in
+    let whole : total last (take left (waiting_items w ++ qs)) ≡ total last (take left (brings id texts ++ qs)) = ap (λ (v : Waiting). total last (take left (waiting_items v ++ qs))) w_is in
     omega (arith, span_small last id left texts qs some (omega (arith, filled, len)), octets_is, others_is, ap (λ (ts : List (List ℕ)). length (concat ts)) first, ap (λ (n : ℕ). run id (take n qs)) behind, whole, fits)
 
 -- an announcement that waits is kept
-pub announcement_of : (shapes : List Template) (w : Waiting) (id octets : ℕ) → AreItemsKept shapes (items_of w) → w ≡ Announce id octets → IsAnnouncement shapes id octets
+pub announcement_of : (shapes : List Template) (w : Waiting) (id octets : ℕ) → AreItemsKept shapes (waiting_items w) → w ≡ Announce id octets → IsAnnouncement shapes id octets
 announcement_of shapes w id octets kept is =
-    let K : Waiting → Type 0 = λ v. AreItemsKept shapes (items_of v) in (subst K is kept).0
+    let K : Waiting → Type 0 = λ v. AreItemsKept shapes (waiting_items v) in (subst K is kept).0
 
-pub total_after : (last : Option ℕ) (left : ℕ) (w : Waiting) (qs : List Item) → 0 < left → IsFilledRun w → total (set_after w) (take (left - length (items_of w)) qs) ≤ total last (take left (items_of w ++ qs))
+pub total_after : (last : Option ℕ) (left : ℕ) (w : Waiting) (qs : List Item) → 0 < left → IsFilledRun w → total (set_after w) (take (left - length (waiting_items w)) qs) ≤ total last (take left (waiting_items w ++ qs))
 total_after last zero w qs some filled = absurd (omega arith)
 total_after last (suc n) (Announce id octets) qs some filled =
     let e : suc n - 1 ≡ n = omega arith in rw e (omega arith)
@@ -115,35 +115,35 @@ kept_behind shapes (v ∷ vs) ws kept =
 
 -- what was written up to this place, and what is still to be written
 pub record IsWriting (shapes : List Template) (queue : List Waiting) (count : ℕ) (start : List ℕ) (place left : ℕ) (last : Option ℕ) (out : List ℕ) : Type 0 where
-  pub written : out ++ pieces shapes last (take left (items_in (drop place queue))) ≡ start ++ pieces shapes None (take count (items_in queue))
+  pub written : out ++ set_pieces shapes last (take left (items_in (drop place queue))) ≡ start ++ set_pieces shapes None (take count (items_in queue))
   pub fits : total last (take left (items_in (drop place queue))) ≤ longest_body
   pub kept : AreItemsKept shapes (items_in (drop place queue))
 
 -- what the next step asks for
 pub record CanWrite (shapes : List Template) (queue : List Waiting) (place left : ℕ) (last : Option ℕ) (w : Waiting) : Type 0 where
-  pub kept : AreItemsKept shapes (items_of w)
-  pub fits : total last (take left (items_of w ++ items_in (drop (place + 1) queue))) ≤ longest_body
+  pub kept : AreItemsKept shapes (waiting_items w)
+  pub fits : total last (take left (waiting_items w ++ items_in (drop (place + 1) queue))) ≤ longest_body
 
 pub can_write : (shapes : List Template) (queue : List Waiting) (count : ℕ) (start : List ℕ) (place left : ℕ) (last : Option ℕ) (out : List ℕ) (w : Waiting) → IsWriting shapes queue count start place left last out → place < length queue → w ≡ get_or queue place w → CanWrite shapes queue place left last w
 can_write shapes queue count start place left last out w is lt at =
     let from = items_from queue place w lt at in
     let K : List Item → Type 0 = λ ws. AreItemsKept shapes ws in
     record {
-      kept = (kept_behind shapes (items_of w) (items_in (drop (place + 1) queue)) (subst K from is.kept)).0;
+      kept = (kept_behind shapes (waiting_items w) (items_in (drop (place + 1) queue)) (subst K from is.kept)).0;
       fits = omega (arith, is.fits, ap (λ (ws : List Item). total last (take left ws)) from);
     }
 
 pub IsWriting-next : (shapes : List Template) (queue : List Waiting) (count : ℕ) (start : List ℕ) (place left : ℕ) (last : Option ℕ) (out new : List ℕ) (w : Waiting) → IsWriting shapes queue count start place left last out → place < length queue → w ≡ get_or queue place w → 0 < left → IsFilledRun w → new ≡ out ++ span shapes last left w (drop (place + 1) queue)
-    → IsWriting shapes queue count start (place + 1) (left - length (items_of w)) (set_after w) new
+    → IsWriting shapes queue count start (place + 1) (left - length (waiting_items w)) (set_after w) new
 IsWriting-next shapes queue count start place left last out new w is lt at some filled new_is =
     let rest = drop (place + 1) queue in
     let from = items_from queue place w lt at in
     let K : List Item → Type 0 = λ ws. AreItemsKept shapes ws in
-    let others = pieces shapes (set_after w) (take (left - length (items_of w)) (items_in rest)) in
+    let others = set_pieces shapes (set_after w) (take (left - length (waiting_items w)) (items_in rest)) in
     record {
-      written = ap (λ (t : List ℕ). t ++ others) new_is ∙ append_assoc out (span shapes last left w rest) others ∙ ap (λ (t : List ℕ). out ++ t) (sym (span_written shapes last left w rest some filled)) ∙ ap (λ (ws : List Item). out ++ pieces shapes last (take left ws)) (sym from) ∙ is.written;
+      written = ap (λ (t : List ℕ). t ++ others) new_is ∙ append_assoc out (span shapes last left w rest) others ∙ ap (λ (t : List ℕ). out ++ t) (sym (span_written shapes last left w rest some filled)) ∙ ap (λ (ws : List Item). out ++ set_pieces shapes last (take left ws)) (sym from) ∙ is.written;
       fits = omega (arith, total_after last left w (items_in rest) some filled, is.fits, ap (λ (ws : List Item). total last (take left ws)) from);
-      kept = (kept_behind shapes (items_of w) (items_in rest) (subst K from is.kept)).1;
+      kept = (kept_behind shapes (waiting_items w) (items_in rest) (subst K from is.kept)).1;
     }
 
 -- ---- the records of one ID
@@ -156,7 +156,7 @@ pub counting_more : (queue : List Waiting) (id start count place left octets mor
     → IsCounting queue id start count (place + 1) (left - part) (octets + more)
 counting_more queue id start count place left octets more part w texts other is lt at w_is same part_is more_is =
     let qs = items_in (drop (place + 1) queue) in
-    let here : items_in (drop place queue) ≡ brings id texts ++ qs = items_from queue place w lt at ∙ ap (λ (v : Waiting). items_of v ++ qs) w_is ∙ ap (λ (n : ℕ). brings n texts ++ qs) (sym same) in
+    let here : items_in (drop place queue) ≡ brings id texts ++ qs = items_from queue place w lt at ∙ ap (λ (v : Waiting). waiting_items v ++ qs) w_is ∙ ap (λ (n : ℕ). brings n texts ++ qs) (sym same) in
     let swapped : part ≡ min left (length texts) = omega (arith, part_is) in
     let first : take part texts ≡ take left texts = ap (λ (n : ℕ). take n texts) swapped ∙ take_min left texts in
     let others : left - length texts ≡ left - part = omega (arith, part_is) in
@@ -176,7 +176,7 @@ other_set id other apart = by_test (nat_eq other id) refl where
   by_test true is = absurd (apart (sym (eqb-true other id is)))
 
 -- another set ends them
-ended : (id left : ℕ) (w : Waiting) (qs : List Item) → 0 < left → IsFilledRun w → joins (set_after w) id ≡ false → run id (take left (items_of w ++ qs)) ≡ 0
+ended : (id left : ℕ) (w : Waiting) (qs : List Item) → 0 < left → IsFilledRun w → joins (set_after w) id ≡ false → run id (take left (waiting_items w ++ qs)) ≡ 0
 ended id zero w qs some filled apart = absurd (omega arith)
 ended id (suc n) (Announce other octets) qs some filled apart = refl
 ended id (suc n) (Bring other []) qs some filled apart = absurd (omega arith)

@@ -8,11 +8,11 @@ use Rattle.ipfix_template.specs.declared.template.Template.{Template}
 use Rattle.ipfix_template.specs.DataRecord.{DataRecord}
 use Rattle.subscriber_stream.specs.declared.limits.StreamLimits.{StreamLimits}
 use Rattle.subscriber_stream.specs.Shapes.{is_among, with_shape, shapes_after, shapes_of}
-use Rattle.subscriber_stream.specs.Parts.{Part, Announcement, Entry, parts_for, parts_at, parts, record_in, records_in}
+use Rattle.subscriber_stream.specs.Parts.{Part, Announcement, Entry, parts_for, parts_at, parts, record_in, records_of_parts}
 use Rattle.subscriber_stream.specs.Message.{message, run_length, next_message, built, place_after}
 use Rattle.subscriber_stream.specs.declared.waiting.Waiting.{Waiting}
 use Rattle.subscriber_stream.specs.declared.waiting.Waiting.TheVariants.{Announce, Bring}
-use Rattle.subscriber_stream.specs.Items.{Item, Announced, Brought, parts_of, entries}
+use Rattle.subscriber_stream.specs.Items.{Item, Announced, Brought, stream_parts, entries}
 use Rattle.subscriber_stream.specs.Waiting.{items_in, rest_of}
 use Rattle.subscriber_stream.specs.Standing.{StreamStanding, KeptStream, StandsAt, at_start, queue_size, HasStreamRoom, FitsLimits}
 use Rattle.subscriber_stream.specs.Steps.{given_one, after_given, without_first, handed_one, handed_parts}
@@ -20,7 +20,7 @@ use Rattle.subscriber_stream.proofs.RunLaws.{brings}
 use Rattle.subscriber_stream.proofs.ShapeLaws.{shapes_after-first, shapes_after-append, shapes_on, shapes_of-push, length-shapes_after}
 
 -- the records among what waits
-pub queued_entries : (shapes : List Template) (ws : List Item) → length (records_in (parts_of shapes ws)) ≡ entries ws
+pub queued_entries : (shapes : List Template) (ws : List Item) → length (records_of_parts (stream_parts shapes ws)) ≡ entries ws
 queued_entries shapes [] = refl
 queued_entries shapes (Announced id octets ∷ ws) = queued_entries shapes ws
 queued_entries shapes (Brought id octets ∷ ws) = ap suc (queued_entries shapes ws)
@@ -40,20 +40,20 @@ at_part [] qs (suc p) part is = absurd cc
 at_part (x ∷ ps) qs (suc p) part is =
     let others = at_part ps qs p part is in (ap (λ (t : List Part). x ∷ t) others.0, others.1, omega (arith, others.2))
 
-length-records_in-push : (ps : List Part) (part : Part) → length (records_in (ps ++ part ∷ [])) ≡ length (records_in ps) + length (record_in part)
+length-records_in-push : (ps : List Part) (part : Part) → length (records_of_parts (ps ++ part ∷ [])) ≡ length (records_of_parts ps) + length (record_in part)
 length-records_in-push [] part = ap length (append-nil (record_in part)) ∙ omega arith
 length-records_in-push (q ∷ ps) part =
     let others = length-records_in-push ps part in
-    omega (arith, length-append (record_in q) (records_in (ps ++ part ∷ [])), length-append (record_in q) (records_in ps), others)
+    omega (arith, length-append (record_in q) (records_of_parts (ps ++ part ∷ [])), length-append (record_in q) (records_of_parts ps), others)
 
 after_first : (s : StreamStanding) (records : List DataRecord) (p : ℕ) (part : Part) (ps : List Part) → s.waiting ≡ part ∷ ps → StandsAt s records p → StandsAt (without_first s (part ∷ ps)) records (suc p)
 after_first s records p (Announcement id shape) ps is at =
     let place = at_part (parts records) ps p (Announcement id shape) (sym at.waiting ∙ is) in
-    let more : length (records_in (take (suc p) (parts records))) ≡ length (records_in (take p (parts records))) + 0 = ap (λ (t : List Part). length (records_in t)) place.0 ∙ length-records_in-push (take p (parts records)) (Announcement id shape) in
+    let more : length (records_of_parts (take (suc p) (parts records))) ≡ length (records_of_parts (take p (parts records))) + 0 = ap (λ (t : List Part). length (records_of_parts t)) place.0 ∙ length-records_in-push (take p (parts records)) (Announcement id shape) in
     record { within = place.2; place = omega (arith, at.place); shapes = at.shapes; handed = omega (arith, at.handed, more); waiting = sym place.1 }
 after_first s records p (Entry id r) ps is at =
     let place = at_part (parts records) ps p (Entry id r) (sym at.waiting ∙ is) in
-    let more : length (records_in (take (suc p) (parts records))) ≡ length (records_in (take p (parts records))) + 1 = ap (λ (t : List Part). length (records_in t)) place.0 ∙ length-records_in-push (take p (parts records)) (Entry id r) in
+    let more : length (records_of_parts (take (suc p) (parts records))) ≡ length (records_of_parts (take p (parts records))) + 1 = ap (λ (t : List Part). length (records_of_parts t)) place.0 ∙ length-records_in-push (take p (parts records)) (Entry id r) in
     record { within = place.2; place = omega (arith, at.place); shapes = at.shapes; handed = omega (arith, at.handed, more); waiting = sym place.1 }
 
 waiting_first : (s : StreamStanding) (part : Part) (ps : List Part) → (without_first s (part ∷ ps)).waiting ≡ ps
@@ -118,7 +118,7 @@ stands_given_one k records p r at =
       within = omega (arith, at.within, ap length more, length-append (parts records) (parts_for (shapes_of records) r));
       place = at.place;
       shapes = ap (λ (ss : List Template). with_shape ss r.template) at.shapes ∙ sym (shapes_of-push records r);
-      handed = at.handed ∙ ap (λ (t : List Part). length (records_in t)) (sym front);
+      handed = at.handed ∙ ap (λ (t : List Part). length (records_of_parts t)) (sym front);
       waiting = ap (λ (t : List Part). t ++ parts_for k.standing.shapes r) at.waiting ∙ ap (λ (ss : List Template). drop p (parts records) ++ parts_for ss r) at.shapes ∙ sym back;
     }
 
@@ -133,21 +133,21 @@ stands_given k (r ∷ rs) records p at =
 -- ---- room
 
 -- one record is among the parts of one record
-pub records_in-parts_for : (shapes : List Template) (r : DataRecord) → records_in (parts_for shapes r) ≡ r ∷ []
+pub records_in-parts_for : (shapes : List Template) (r : DataRecord) → records_of_parts (parts_for shapes r) ≡ r ∷ []
 records_in-parts_for shapes r = by_test (is_among r.template shapes) where
-  by_test : (b : Bool) → records_in (cond b (Entry (256 + position_or_len (same_template r.template) shapes) r ∷ []) (Announcement (256 + position_or_len (same_template r.template) shapes) r.template ∷ Entry (256 + position_or_len (same_template r.template) shapes) r ∷ [])) ≡ r ∷ []
+  by_test : (b : Bool) → records_of_parts (cond b (Entry (256 + position_or_len (same_template r.template) shapes) r ∷ []) (Announcement (256 + position_or_len (same_template r.template) shapes) r.template ∷ Entry (256 + position_or_len (same_template r.template) shapes) r ∷ [])) ≡ r ∷ []
   by_test true = refl
   by_test false = refl
 
-pub records_in-append : (ps qs : List Part) → records_in (ps ++ qs) ≡ records_in ps ++ records_in qs
+pub records_in-append : (ps qs : List Part) → records_of_parts (ps ++ qs) ≡ records_of_parts ps ++ records_of_parts qs
 records_in-append [] qs = refl
 records_in-append (p ∷ ps) qs =
-    ap (λ (t : List DataRecord). record_in p ++ t) (records_in-append ps qs) ∙ sym (append_assoc (record_in p) (records_in ps) (records_in qs))
+    ap (λ (t : List DataRecord). record_in p ++ t) (records_in-append ps qs) ∙ sym (append_assoc (record_in p) (records_of_parts ps) (records_of_parts qs))
 
 pub queued_given_one : (k : KeptStream) (r : DataRecord) → queue_size (given_one k r).standing ≡ queue_size k.standing + 1
 unfolding given_one
 queued_given_one k r =
-    ap length (records_in-append k.standing.waiting (parts_for k.standing.shapes r)) ∙ length-append (records_in k.standing.waiting) (records_in (parts_for k.standing.shapes r)) ∙ ap (λ (t : List DataRecord). queue_size k.standing + length t) (records_in-parts_for k.standing.shapes r)
+    ap length (records_in-append k.standing.waiting (parts_for k.standing.shapes r)) ∙ length-append (records_of_parts k.standing.waiting) (records_of_parts (parts_for k.standing.shapes r)) ∙ ap (λ (t : List DataRecord). queue_size k.standing + length t) (records_in-parts_for k.standing.shapes r)
 
 -- what a stream needs to take records one by one
 pub record CanTake (k : KeptStream) (rs : List DataRecord) : Type 0 where
@@ -204,7 +204,7 @@ IsHanding-next left n count k start le few is =
 -- ---- what the queue holds, handed out
 
 abbrev kept_of : List Template → StreamLimits → ℕ → ℕ → ℕ → List Item → KeptStream
-kept_of shapes limits spare handed announced ws = record { standing = record { shapes = shapes; handed = handed; announced = announced; waiting = parts_of shapes ws }; limits = limits; spare = spare }
+kept_of shapes limits spare handed announced ws = record { standing = record { shapes = shapes; handed = handed; announced = announced; waiting = stream_parts shapes ws }; limits = limits; spare = spare }
 
 -- an announcement
 pub announce_out : (shapes : List Template) (limits : StreamLimits) (spare handed announced : ℕ) (queue others : List Waiting) (id octets : ℕ) → queue ≡ Announce id octets ∷ others
@@ -297,7 +297,7 @@ length-take-nil n xs is = omega (arith, length-take n xs, ap length is)
 -- the message of what waits is the one that is built
 pub next_is_built : (s : StreamStanding) (records : List DataRecord) (p now target : ℕ) → StandsAt s records p → next_message now target s.handed s.waiting ≡ built records p now target
 next_is_built s records p now target at =
-    ap (λ (n : ℕ). next_message now target n s.waiting) at.handed ∙ ap (next_message now target (length (records_in (take p (parts records))))) at.waiting
+    ap (λ (n : ℕ). next_message now target n s.waiting) at.handed ∙ ap (next_message now target (length (records_of_parts (take p (parts records))))) at.waiting
 
 pub next_some : (now target handed : ℕ) (ws : List Part) → 0 < length ws → next_message now target handed ws ≡ Some (message now handed (take (run_length target ws) ws))
 unfolding next_message
@@ -325,7 +325,7 @@ stands_at_end s records p target none at =
 -- room behind a list is room behind what the stream keeps of it
 pub room_is_limits : (k : KeptStream) (records : List DataRecord) (p : ℕ) (more : List DataRecord) → StandsAt k.standing records p → (HasStreamRoom k more → FitsLimits k.limits records p more) × (FitsLimits k.limits records p more → HasStreamRoom k more)
 room_is_limits k records p more at =
-    let count : queue_size k.standing ≡ length (records_in (drop p (parts records))) = ap (λ (ps : List Part). length (records_in ps)) at.waiting in
+    let count : queue_size k.standing ≡ length (records_of_parts (drop p (parts records))) = ap (λ (ps : List Part). length (records_of_parts ps)) at.waiting in
     let shapes : length (shapes_after k.standing.shapes more) ≡ length (shapes_of (records ++ more)) = ap (λ (ss : List Template). length (shapes_after ss more)) at.shapes ∙ ap length (sym (shapes_on records more)) in (
       λ room. record { queue = omega (arith, room.queue, count); shapes = omega (arith, room.shapes, shapes) },
       λ fits. record { queue = omega (arith, fits.queue, count); shapes = omega (arith, fits.shapes, shapes) },

@@ -26,8 +26,8 @@ abbrev pub part_of : List Template → Item → Part
 part_of shapes (Announced id octets) = Announcement id (shape_at shapes id)
 part_of shapes (Brought id octets) = Entry id (kept_record (shape_at shapes id) octets)
 
-abbrev pub parts_of : List Template → List Item → List Part
-parts_of shapes ws = map (part_of shapes) ws
+abbrev pub stream_parts : List Template → List Item → List Part
+stream_parts shapes ws = map (part_of shapes) ws
 
 -- the ID has a template, and the octets are those of the template's record
 pub record IsAnnouncement (shapes : List Template) (id octets : ℕ) : Type 0 where
@@ -109,6 +109,6 @@ abbrev pub piece : List Template → Option ℕ → Item → List Item → List 
 piece shapes last (Announced id octets) ws = set_head (template_set (shape_at shapes id)) octets ++ template_record id (is_options (shape_at shapes id)) (shape_at shapes id)
 piece shapes last (Brought id octets) ws = (if joins last id then [] else set_head id (length octets + run id ws)) ++ octets
 
-abbrev pub pieces : List Template → Option ℕ → List Item → List ℕ
-pieces shapes last [] = []
-pieces shapes last (w ∷ ws) = piece shapes last w ws ++ pieces shapes (data_set w) ws
+abbrev pub set_pieces : List Template → Option ℕ → List Item → List ℕ
+set_pieces shapes last [] = []
+set_pieces shapes last (w ∷ ws) = piece shapes last w ws ++ set_pieces shapes (data_set w) ws

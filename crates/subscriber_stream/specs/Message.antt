@@ -8,7 +8,7 @@ use Rattle.ipfix_template.specs.declared.template.Template.{Template}
 use Rattle.ipfix_template.specs.DataRecord.{DataRecord}
 use Rattle.ipfix_template.specs.Template.{is_options, template_record}
 use Rattle.ipfix_template.specs.Values.{record_text}
-use Rattle.subscriber_stream.specs.Parts.{Part, Announcement, Entry, parts, records_in}
+use Rattle.subscriber_stream.specs.Parts.{Part, Announcement, Entry, parts, records_of_parts}
 
 -- a set: one announcement, or the records of one ID that stand one after another
 pub data Set : Type 0 where
@@ -78,7 +78,7 @@ next_message now target handed (part ∷ ps) = Some (message now handed (take (r
 
 -- the message built from place p on: its Sequence Number is the number of records among the parts before
 abbrev pub built : List DataRecord → ℕ → ℕ → ℕ → Option (List ℕ)
-built records p now target = next_message now target (length (records_in (take p (parts records)))) (drop p (parts records))
+built records p now target = next_message now target (length (records_of_parts (take p (parts records)))) (drop p (parts records))
 
 -- the place after that message, or the end
 abbrev pub place_after : List DataRecord → ℕ → ℕ → ℕ

@@ -29,5 +29,5 @@ record_in (Announcement id shape) = []
 record_in (Entry id r) = r ∷ []
 
 -- the records among parts
-abbrev pub records_in : List Part → List DataRecord
-records_in ps = flat_map record_in ps
+abbrev pub records_of_parts : List Part → List DataRecord
+records_of_parts ps = flat_map record_in ps

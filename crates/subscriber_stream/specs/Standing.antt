@@ -4,7 +4,7 @@ use Rattle.ipfix_template.specs.declared.template.Template.{Template}
 use Rattle.ipfix_template.specs.DataRecord.{DataRecord}
 use Rattle.subscriber_stream.specs.declared.limits.StreamLimits.{StreamLimits}
 use Rattle.subscriber_stream.specs.Shapes.{shapes_after, shapes_of}
-use Rattle.subscriber_stream.specs.Parts.{Part, parts, records_in}
+use Rattle.subscriber_stream.specs.Parts.{Part, parts, records_of_parts}
 
 -- what a stream is to its callers: the shapes that it has announced or is to announce, how many records and how many
 -- announcements it handed out, and the parts that wait
@@ -29,12 +29,12 @@ pub record StandsAt (s : StreamStanding) (records : List DataRecord) (p : ℕ) :
   pub within : p ≤ length (parts records)
   pub place : s.handed + s.announced ≡ p
   pub shapes : s.shapes ≡ shapes_of records
-  pub handed : s.handed ≡ length (records_in (take p (parts records)))
+  pub handed : s.handed ≡ length (records_of_parts (take p (parts records)))
   pub waiting : s.waiting ≡ drop p (parts records)
 
 -- how many records wait
 abbrev pub queue_size : StreamStanding → ℕ
-queue_size s = length (records_in s.waiting)
+queue_size s = length (records_of_parts s.waiting)
 
 -- the limits leave room for these records: in the queue, and among the shapes
 pub record HasStreamRoom (k : KeptStream) (more : List DataRecord) : Type 0 where
@@ -43,5 +43,5 @@ pub record HasStreamRoom (k : KeptStream) (more : List DataRecord) : Type 0 wher
 
 -- the same, said of the list that was given before, of which the parts from place p on wait
 pub record FitsLimits (limits : StreamLimits) (records : List DataRecord) (p : ℕ) (more : List DataRecord) : Type 0 where
-  pub queue : length (records_in (drop p (parts records))) + length more ≤ limits.queue
+  pub queue : length (records_of_parts (drop p (parts records))) + length more ≤ limits.queue
   pub shapes : length (shapes_of (records ++ more)) ≤ limits.shapes

@@ -8,16 +8,16 @@ use Rattle.subscriber_stream.specs.Message.{set_head}
 use Rattle.subscriber_stream.specs.Items.{Item, Announced, Brought, joins, run, piece}
 
 -- what waits there, part by part
-abbrev pub items_of : Waiting → List Item
-items_of (Announce id octets) = Announced id octets ∷ []
-items_of (Bring id texts) = map (Brought id) texts
+abbrev pub waiting_items : Waiting → List Item
+waiting_items (Announce id octets) = Announced id octets ∷ []
+waiting_items (Bring id texts) = map (Brought id) texts
 
 abbrev pub items_in : List Waiting → List Item
-items_in queue = flat_map items_of queue
+items_in queue = flat_map waiting_items queue
 
 -- a run brings a record
 abbrev pub IsFilledRun : Waiting → Type 0
-IsFilledRun w = 0 < length (items_of w)
+IsFilledRun w = 0 < length (waiting_items w)
 
 abbrev pub AreFilled : List Waiting → Type 0
 AreFilled [] = Unit {0}

@@ -4,7 +4,7 @@ ghost use Rattle.ipfix_template.specs.declared.template.Template.{Template};
 ghost use Rattle.ipfix_template.specs.Equality.{same_template};
 ghost use Rattle.ipfix_template.specs.DataRecord.{DataRecord};
 ghost use Rattle.subscriber_stream.specs.Shapes.{shapes_of, shapes_after};
-ghost use Rattle.subscriber_stream.specs.Parts.{Part, parts, records_in};
+ghost use Rattle.subscriber_stream.specs.Parts.{Part, parts, records_of_parts};
 ghost use Rattle.subscriber_stream.specs.Message.{Set, sets_of, message, run_length};
 ghost use Rattle.subscriber_stream.specs.LongestSets.{AreLongestSets};
 ghost use Rattle.subscriber_stream.specs.Standing.{StreamStanding, StandsAt};
@@ -22,7 +22,7 @@ pub fn octets_of_pulls()
 
 /// The records among the parts of a list are the list.
 pub fn parts_bring_the_list()
-    ensures { (records : List DataRecord) → records_in (parts records) ≡ records }
+    ensures { (records : List DataRecord) → records_of_parts (parts records) ≡ records }
 {}
 
 /// The parts of a list begin the parts of each longer one.

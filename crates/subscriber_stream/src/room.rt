@@ -1,6 +1,6 @@
 //! How many templates records bring that a stream does not know.
 ghost use Rattle.std.specs.Prelude.{◌≡◌, ◌+◌, ◌≤◌, ◌<◌, ◌↔◌, ℕ, IsTrue, length, take, if◌then◌else◌};
-ghost use Rattle.ipfix_records.specs.Runs.{records_of, records_in};
+ghost use Rattle.ipfix_records.specs.Runs.{run_records, records_of_runs};
 ghost use Rattle.subscriber_stream.specs.Shapes.{is_used, shapes_after};
 
 use crate::shape_table::ShapeTable;
@@ -10,7 +10,7 @@ use ipfix_template::Template;
 /// Whether there are at most `most` templates in the table with those of the records.
 pub(crate) fn has_shape_room(shapes: &ShapeTable, runs: &[Run], most: u32) -> bool
     ensures { IsTrue result
-        ↔ (length (shapes_after shapes.now.shapes (records_in runs.now)) ≤ most) }
+        ↔ (length (shapes_after shapes.now.shapes (records_of_runs runs.now)) ≤ most) }
 {
     let known = shapes.len();
     // Each run brings one template at most, so that most lists need no further look.
@@ -23,7 +23,7 @@ pub(crate) fn has_shape_room(shapes: &ShapeTable, runs: &[Run], most: u32) -> bo
 /// How many distinct templates of the records the table has not.
 fn new_shapes(shapes: &ShapeTable, runs: &[Run]) -> usize
     ensures { length shapes.now.shapes + result
-        ≡ length (shapes_after shapes.now.shapes (records_in runs.now)) }
+        ≡ length (shapes_after shapes.now.shapes (records_of_runs runs.now)) }
 {
     let mut count = 0;
     for place in 0..runs.len() {
@@ -37,8 +37,8 @@ fn new_shapes(shapes: &ShapeTable, runs: &[Run]) -> usize
 /// Whether the run at a place has records, and a template that neither the table nor a record before it has.
 fn is_new_at(shapes: &ShapeTable, runs: &[Run], place: usize) -> bool
     requires { place < length runs.now }
-    ensures { length (shapes_after shapes.now.shapes (records_in (take (place + 1) runs.now)))
-        ≡ length (shapes_after shapes.now.shapes (records_in (take place runs.now)))
+    ensures { length (shapes_after shapes.now.shapes (records_of_runs (take (place + 1) runs.now)))
+        ≡ length (shapes_after shapes.now.shapes (records_of_runs (take place runs.now)))
         + (if result then 1 else 0) }
 {
     let next = &runs[place];
@@ -51,7 +51,7 @@ fn is_new_at(shapes: &ShapeTable, runs: &[Run], place: usize) -> bool
 
 /// Whether a record has the template.
 fn is_used(runs: &[Run], template: &Template) -> bool
-    ensures { result ≡ is_used template.now (records_in runs.now) }
+    ensures { result ≡ is_used template.now (records_of_runs runs.now) }
 {
     for earlier in runs {
         if brings(earlier, template) {
@@ -63,7 +63,7 @@ fn is_used(runs: &[Run], template: &Template) -> bool
 
 /// Whether a record of the run has the template.
 fn brings(run: &Run, template: &Template) -> bool
-    ensures { result ≡ is_used template.now (records_of run.now) }
+    ensures { result ≡ is_used template.now (run_records run.now) }
 {
     run.len() > 0 && template == run.template()
 }

@@ -59,13 +59,13 @@ impl Drop for Stream {
 impl Model for Stream {
     ghost use Rattle.std.specs.VecDeque.{deque_capacity};
     ghost use Rattle.subscriber_stream.specs.Standing.{KeptStream};
-    ghost use Rattle.subscriber_stream.specs.Items.{parts_of};
+    ghost use Rattle.subscriber_stream.specs.Items.{stream_parts};
     ghost use Rattle.subscriber_stream.specs.Waiting.{items_in};
     ghost use Rattle.subscriber_stream.specs.Steps.{IsConsistent};
 
     ghost Value = { KeptStream };
 
-    ghost view = { λ s. record { standing = record { shapes = s.shapes.shapes; handed = s.handed; announced = s.announced; waiting = parts_of s.shapes.shapes (items_in s.queue.items) }; limits = s.limits; spare = s.spare } };
+    ghost view = { λ s. record { standing = record { shapes = s.shapes.shapes; handed = s.handed; announced = s.announced; waiting = stream_parts s.shapes.shapes (items_in s.queue.items) }; limits = s.limits; spare = s.spare } };
 
     ghost invariant = { λ s. IsConsistent s.shapes s.queue.items (deque_capacity s.queue) s.limits
         (record { waiting = s.waiting; handed = s.handed; announced = s.announced }) s.spare };
@@ -75,7 +75,7 @@ impl Stream {
     ghost use Rattle.subscriber_stream.specs.Standing.{at_start, StandsAt, HasStreamRoom, FitsLimits, queue_size};
     ghost use Rattle.subscriber_stream.specs.Calls.{TakesRecords, GivesNext};
     ghost use Rattle.subscriber_stream.specs.Steps.{after_given, handed_parts};
-    ghost use Rattle.ipfix_records.specs.Runs.{records_of};
+    ghost use Rattle.ipfix_records.specs.Runs.{run_records};
 
     /// A stream that was given no record, and that holds at most what `limits` allow. What it comes
     /// to keep is taken from `alloc`. Its templates are hashed with keys that everybody knows.
@@ -214,11 +214,11 @@ impl Stream {
 
     /// Takes the records of a run into the reserved room.
     fn push_run(&mut self, next: Run)
-        requires room { HasStreamRoom self.old (records_of next) }
+        requires room { HasStreamRoom self.old (run_records next) }
         requires reserved { length next.texts ≤ self.old.spare }
         requires count { self.old.standing.handed + queue_size self.old.standing + length next.texts
             < 2 ^ 64 }
-        ensures { self.new ≡ after_given self.old (records_of next) }
+        ensures { self.new ≡ after_given self.old (run_records next) }
     {
         let count = next.len();
         if count == 0 {

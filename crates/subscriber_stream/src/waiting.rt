@@ -29,11 +29,11 @@ pub(crate) struct Front {
 impl Waiting {
     ghost use Rattle.ipfix_octets.specs.MessageFormat.{longest_message};
     ghost use Rattle.subscriber_stream.specs.Items.{fits, total};
-    ghost use Rattle.subscriber_stream.specs.Waiting.{items_of, set_after, IsFilledRun};
+    ghost use Rattle.subscriber_stream.specs.Waiting.{waiting_items, set_after, IsFilledRun};
 
     /// How many parts it is: an announcement is one, and so is a record.
     pub(crate) fn len(&self) -> usize
-        ensures { result ≡ length (items_of self.now) }
+        ensures { result ≡ length (waiting_items self.now) }
     {
         match self {
             Waiting::Announce { .. } => 1,
@@ -54,7 +54,7 @@ impl Waiting {
     /// The octets that its first part adds to a message that ends with no Data Set.
     pub(crate) fn first_octets(&self) -> usize
         requires { IsFilledRun self.now }
-        ensures exact { result ≡ total None (take 1 (items_of self.now)) }
+        ensures exact { result ≡ total None (take 1 (waiting_items self.now)) }
         ensures few { result < 2 ^ 32 + 4 }
     {
         match self {
@@ -67,9 +67,9 @@ impl Waiting {
     /// octets before them and ends with the Data Set of the ID `last`, or with no Data Set.
     pub(crate) fn fitting(&self, target: u16, last: Option<u16>, octets: usize) -> Front
         requires { octets ≤ longest_message }
-        ensures parts { result.parts ≡ fits target last octets (items_of self.now) }
+        ensures parts { result.parts ≡ fits target last octets (waiting_items self.now) }
         ensures octets { result.octets
-            ≡ octets + total last (take result.parts (items_of self.now)) }
+            ≡ octets + total last (take result.parts (waiting_items self.now)) }
         ensures small { result.octets ≤ longest_message }
     {
         match self {

@@ -4,8 +4,8 @@ ghost use Rattle.sequences.specs.Octets.{be_octets};
 ghost use Rattle.ipfix_octets.specs.MessageFormat.{ipfix_version, longest_message, header_octets, least_template_id};
 ghost use Rattle.ipfix_template.specs.declared.data_record.TheConstants.{RECORD_ROOM};
 ghost use Rattle.subscriber_stream.specs.Message.{message, set_head, template_set};
-ghost use Rattle.subscriber_stream.specs.Items.{AreItemsKept, parts_of, total, run, pieces, longest_body};
-ghost use Rattle.subscriber_stream.specs.Waiting.{items_of, items_in, IsFilledRun, AreFilled, span};
+ghost use Rattle.subscriber_stream.specs.Items.{AreItemsKept, stream_parts, total, run, set_pieces, longest_body};
+ghost use Rattle.subscriber_stream.specs.Waiting.{waiting_items, items_in, IsFilledRun, AreFilled, span};
 
 use crate::shape_table::ShapeTable;
 use crate::waiting::{Front, Waiting, joins};
@@ -36,7 +36,7 @@ pub(crate) fn message_of(
         ≡ header_octets + total None (take whole.parts (items_in queue.now.items)) }
     requires fits { whole.octets ≤ longest_message }
     ensures { IfOk result (λ m. m ≡ message now handed
-        (parts_of shapes.now.shapes (take whole.parts (items_in queue.now.items)))) }
+        (stream_parts shapes.now.shapes (take whole.parts (items_in queue.now.items)))) }
 {
     let mut out = Vec::with_capacity(alloc, whole.octets)?;
     put_header(whole.octets, now, (handed % (1 << 32)) as u32, &mut out)?;
@@ -69,7 +69,7 @@ fn put_parts(
     requires kept { AreItemsKept shapes.now.shapes (items_in queue.now.items) }
     requires fits { total None (take count (items_in queue.now.items)) ≤ longest_body }
     ensures { OnOk result (out.new.items
-        ≡ out.old.items ++ pieces shapes.now.shapes None (take count (items_in queue.now.items))) }
+        ≡ out.old.items ++ set_pieces shapes.now.shapes None (take count (items_in queue.now.items))) }
 {
     let mut left = count;
     let mut last = None;
@@ -97,12 +97,12 @@ fn put_span(
     out: &mut Vec<u8>,
 ) -> Result<(), AllocError>
     requires filled { IsFilledRun next.now × AreFilled queue.now.items }
-    requires kept { AreItemsKept shapes.now.shapes (items_of next.now) }
+    requires kept { AreItemsKept shapes.now.shapes (waiting_items next.now) }
     // The parts behind the place follow it in the message, and all of it fits.
     requires place { place ≤ length queue.now.items }
     requires some { 0 < left }
     requires fits { total last
-        (take left (items_of next.now ++ items_in (drop place queue.now.items))) ≤ longest_body }
+        (take left (waiting_items next.now ++ items_in (drop place queue.now.items))) ≤ longest_body }
     ensures { OnOk result (out.new.items
         ≡ out.old.items ++ span shapes.now.shapes last left next.now (drop place queue.now.items)) }
 {

@@ -13,7 +13,7 @@ const OCTETS: &[u8] = b"0123456789";
 /// Room for what a test writes.
 const ROOM: usize = 16;
 
-/// A device whose writer takes at most so many octets a call, and fails after so many calls.
+/// A device whose writer takes at most `most` octets a call, and fails after `calls` calls.
 fn narrow(
     alloc: Global,
     most: usize,
@@ -30,7 +30,7 @@ fn holds(rt: &impl Abort, device: Device<Narrow>, wanted: &[u8], failed: bool) {
     assert!(rt; writer.octets.as_slice() == wanted);
 }
 
-/// That all of the octets are written, or so many.
+/// That the write of all `octets` answers `wanted`: all were written, or how many were sent before it stopped.
 fn expect_written<S: Sink>(
     rt: &impl Abort,
     sink: &mut S,
@@ -60,7 +60,7 @@ fn none_taken(rt: HostRuntime) -> Result<(), Fail> {
     Ok(())
 }
 
-/// That a write of one octet at a time stops after so many.
+/// That a write of one octet at a time stops after `sent` octets.
 fn expect_stopped(rt: &impl Abort, alloc: Global, sent: usize) -> Result<(), Fail> {
     let mut device = narrow(alloc, 1, sent, Interrupted)?;
     expect_written(rt, &mut device, OCTETS, Err(WriteStopped { sent }));
@@ -85,7 +85,7 @@ fn write_after_a_failure(rt: HostRuntime) -> Result<(), Fail> {
     Ok(())
 }
 
-/// That a read of at most so many octets, sixteen at most, gives these.
+/// That a read of at most `room` octets, sixteen at most, gives the octets `wanted`.
 fn expect_read<S: Source>(rt: &impl Abort, source: &mut S, room: usize, wanted: &[u8]) {
     let mut buffer = [0u8; ROOM];
     let answer = source.read(&mut buffer[..room.min(ROOM)]);
@@ -93,7 +93,7 @@ fn expect_read<S: Source>(rt: &impl Abort, source: &mut S, room: usize, wanted: 
     assert!(rt; buffer.get(..wanted.len()) == Some(wanted));
 }
 
-/// That a device which is read three octets at a time fails after so many calls.
+/// That a device which is read three octets at a time fails after `calls` calls.
 fn expect_failed_read(rt: &impl Abort, calls: usize) {
     let mut device = Device::new(Sparing::new(OCTETS, 3, calls, Interrupted));
     let mut buffer = [0u8; 7];
@@ -140,7 +140,7 @@ fn write_text(device: &mut Device<Narrow>) -> Result<(), Failed> {
     writeln!(device, "{} octets", 10)
 }
 
-/// That a text isn't written where the write after so many calls fails.
+/// That a text isn't written where the write after `calls` calls fails.
 fn expect_failed_text(rt: &impl Abort, alloc: Global, calls: usize) -> Result<(), Fail> {
     let mut device = narrow(alloc, 4, calls, BrokenPipe)?;
     assert!(rt; write_text(&mut device) == Err(Failed));

@@ -11,7 +11,7 @@ const ONE_RECORD: &[u8] = b"\x00\x0a\x00\x32\x65\x53\xf1\x00\x00\x00\x00\x00\x00
 \x01\x00\x00\x0e\xc0\x00\x02\x4d\x01\xbb\x00\x00\x05\xdc";
 
 /// A piece of a stream, and the answer: how many messages become whole, each the one record, or the fault.
-/// After it so many octets wait, and this fault stands.
+/// After it `pending` octets wait, and `fault` stands.
 struct Piece {
     octets: &'static [u8],
     answer: Result<usize, Fault>,
@@ -248,7 +248,8 @@ fn fronts_of_a_message(rt: HostRuntime) {
     }
 }
 
-/// The same with a length that is right. Where the header ends, and where its first set ends, it is a message.
+/// Each front of the message from 16 octets on, with its own length in the header. It is a message only where it ends
+/// with the header or with the first set.
 #[test]
 fn fronts_with_their_length(rt: HostRuntime) -> Result<(), AllocError> {
     for length in 16u8..50 {

@@ -67,11 +67,11 @@ enum Step {
     GiveMessage(&'static [u8]),
     /// There is no room for these records.
     NoRoom(&'static [Given]),
-    /// So many records wait, templates are known, and records were handed out.
+    /// How many records wait, how many templates are known, and how many records were handed out, in this order.
     Counts(u32, u32, u64),
     /// A message of this target is pulled, and is this one.
     Pull(u16, &'static [u8]),
-    /// A message of this target is pulled, and is so many octets long.
+    /// A message of this target is pulled, and has this length: first the target, then the length, both in octets.
     PullLength(u16, usize),
     /// Nothing waits.
     End,
@@ -442,7 +442,7 @@ fn pulls(stream: &mut Stream, target: u16, wanted: &[u8]) -> Result<bool, AllocE
     }
 }
 
-/// Whether its next message has so many octets.
+/// Whether the next message of a stream, pulled with the target `target`, is `length` octets long.
 fn pulls_octets(stream: &mut Stream, target: u16, length: usize) -> Result<bool, AllocError> {
     match stream.pull(NOW, target)? {
         Some(message) => Ok(message.len() == length),

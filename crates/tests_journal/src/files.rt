@@ -202,7 +202,7 @@ fn the_first_fault_is_named(rt: HostRuntime) -> Result<(), Fail> {
     Ok(())
 }
 
-/// A device that takes at most so many octets a call, and fails after so many calls.
+/// A device that takes at most `most` octets a call, and fails after `calls` calls.
 fn device(alloc: Global, most: usize, calls: usize) -> Result<Device<Narrow>, AllocError> {
     Ok(Device::new(Narrow::new(alloc, 202, most, calls, Interrupted)?))
 }
@@ -291,7 +291,8 @@ static PARTS: [(usize, usize, usize, usize); 16] = [
     (0, 0, 0, 2),
 ];
 
-/// That a call fails behind so many octets of a part, which are told, and nothing is written behind them.
+/// That a call fails behind `sent` octets of the part of the file that begins at the octet `begin`. The fault tells
+/// `sent`, and nothing is written behind these octets.
 fn expect_stopped(
     rt: &impl Abort,
     alloc: Global,
@@ -320,7 +321,7 @@ fn a_device_that_fails_says_how_much_it_took(rt: HostRuntime) -> Result<(), Fail
     Ok(())
 }
 
-/// A device that gives at most so many octets a call, and fails after so many calls.
+/// A device that gives at most `most` octets a call, and fails after `calls` calls.
 fn source(octets: &[u8], most: usize, calls: usize) -> Device<Sparing<'_>> {
     Device::new(Sparing::new(octets, most, calls, Interrupted))
 }
@@ -376,7 +377,8 @@ fn is_told(
     Ok(told && parts == ENDS.iter().filter(|end| **end <= read).count())
 }
 
-/// The same from the octets' begin, where memory was refused: what was read last is lost then.
+/// Whether octets of a file are read by a source up to where it ends or fails, and that is told. Where memory was
+/// refused, they are read again from their begin: what was read last is lost then.
 fn is_told_again(
     alloc: Global,
     octets: &[u8],

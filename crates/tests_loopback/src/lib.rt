@@ -4,7 +4,7 @@
 //! - `serving`: what an exporter, an administrator and collectors get, and what is noted of them.
 //! - `plans`: that a plan's numbers reach the calls, and what is set on a collector's socket. `times`: by which clock messages are
 //!   stamped.
-//! - `stage`: a server's plan with free addresses, and its collectors' doors. `play`: a run with all its peers. `peers`: who
+//! - `stage`: a server's plan with free addresses, and its collectors' listeners. `play`: a run with all its peers. `peers`: who
 //!   connects to a server. `world`: what a server is run on. `octets`: messages.
 //!
 //! What many peers and hostile ones do is tested by `tests/`, on the program.

@@ -91,8 +91,8 @@ fn meet<R: Net<Listener = TcpListener, Stream = TcpStream> + Threads + Wait + Cl
     thread::scope(thread::scope_env(), rt, |scope| {
         let server = scope.spawn(move || run(world, alloc, stage))?;
         let mut collectors = Vec::new(alloc);
-        for door in &stage.doors {
-            let collector = door.accept().expect(rt, "a server").0;
+        for listener in &stage.listeners {
+            let collector = listener.accept().expect(rt, "a server").0;
             // It sends nothing, so that the server need not wait for its end.
             collector.shutdown(Shutdown::Write).expect(rt, "an end");
             collectors.push(collector)?;

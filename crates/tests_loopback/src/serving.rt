@@ -29,7 +29,7 @@ rule for acme in * from 192.0.2.0/24 to * pass\n\
 rule for beta in * from 192.0.2.77/32 to * pass\n\
 rule for * in * from * to * element * keep\n";
 
-/// That a note tells this of the collector at this place, with what it got, and so many records.
+/// That a note tells `end` of the collector at `place`, with the octets that it got, and with `records` records.
 fn expect_collector(
     rt: &impl Abort,
     alloc: Global,

@@ -1,4 +1,4 @@
-//! A server that is to be run: its plan with free addresses, and the doors of its collectors.
+//! A server that is to be run: its plan with free addresses, and the listeners of its collectors.
 
 use log::Log;
 use mediator_calls::{Limits, Mediator};
@@ -37,22 +37,28 @@ pub(crate) const USUAL: Scene = Scene {
     turns: 1000,
 };
 
-/// A plan, the limits of its mediator, and the doors of its collectors.
+/// A plan, the limits of its mediator, and the listeners of its collectors.
 #[derive(Drop)]
 pub(crate) struct Stage {
     pub(crate) plan: RunPlan,
     pub(crate) limits: Limits,
-    pub(crate) doors: Vec<TcpListener>,
+    pub(crate) listeners: Vec<TcpListener>,
 }
 
-/// A door on a port that was free.
-fn open_door<R: Net<Listener = TcpListener, Stream = TcpStream> + Abort>(rt: &R) -> TcpListener {
+/// A listener on a port that was free.
+fn open_listener<R: Net<Listener = TcpListener, Stream = TcpStream> + Abort>(
+    rt: &R,
+) -> TcpListener {
     TcpListener::bind(rt, "127.0.0.1:0").expect(rt, "a free port")
 }
 
-/// The address of a door.
-fn address_of(rt: &impl Abort, alloc: Global, door: &TcpListener) -> Result<String, AllocError> {
-    let address = door.local_addr().expect(rt, "an address");
+/// The address of a listener.
+fn address_of(
+    rt: &impl Abort,
+    alloc: Global,
+    listener: &TcpListener,
+) -> Result<String, AllocError> {
+    let address = listener.local_addr().expect(rt, "an address");
     format!(in alloc; "{address}")
 }
 
@@ -61,7 +67,7 @@ fn free_address<R: Net<Listener = TcpListener, Stream = TcpStream> + Abort>(
     rt: &R,
     alloc: Global,
 ) -> Result<String, AllocError> {
-    address_of(rt, alloc, &open_door(rt))
+    address_of(rt, alloc, &open_listener(rt))
 }
 
 /// A server for one exporter, and collectors that listen.
@@ -70,14 +76,14 @@ pub(crate) fn set_up<R: Net<Listener = TcpListener, Stream = TcpStream> + Abort>
     alloc: Global,
     scene: Scene,
 ) -> Result<Stage, AllocError> {
-    let (mut doors, mut deliver) = (Vec::new(alloc), Vec::new(alloc));
+    let (mut listeners, mut deliver) = (Vec::new(alloc), Vec::new(alloc));
     for name in scene.subscribers {
-        let door = open_door(rt);
+        let listener = open_listener(rt);
         deliver.push(Collector {
             subscriber: String::from_str(alloc, *name)?,
-            address: address_of(rt, alloc, &door)?,
+            address: address_of(rt, alloc, &listener)?,
         })?;
-        doors.push(door)?;
+        listeners.push(listener)?;
     }
     let limits = Limits {
         queue: 100,
@@ -106,7 +112,7 @@ pub(crate) fn set_up<R: Net<Listener = TcpListener, Stream = TcpStream> + Abort>
     Ok(Stage {
         plan,
         limits,
-        doors,
+        listeners,
     })
 }
 

@@ -10,11 +10,11 @@ use mediator_core::{Fault, Limits};
 pub(crate) const WEB: &str =
     "policy 1\naggregate web key destinationTransportPort interval 300 grace 60\nrule for acme in * from * to * aggregate web\n";
 
-/// The same, closed at their end.
+/// What goes to each port in five minutes, closed at their end.
 pub(crate) const WEB_AT_ONCE: &str =
     "policy 1\naggregate web key destinationTransportPort interval 300 grace 0\nrule for acme in * from * to * aggregate web\n";
 
-/// The same aggregate as the first, and everything withheld.
+/// What goes to each port in five minutes, closed a minute after their end, where everything is withheld.
 const WEB_WITHHELD: &str =
     "policy 1\naggregate web key destinationTransportPort interval 300 grace 60\nrule for * in * from * to * withhold\n";
 

@@ -15,24 +15,27 @@ use policy_text::{Fault as PolicyFault, FaultKind};
 pub(crate) enum Step {
     Open(Result<u64, Fault>),
     Close(u64, Result<(), Fault>),
-    /// A session's message of a number is accepted at a position, and brings so many records and nothing else.
+    /// A session's message of a number, with these octets, is accepted at a position, and brings a count of records and
+    /// nothing else. The values stand in this order.
     Accept(u64, u64, &'static [u8], u64, u64),
     /// A session's message of a number.
     Receive(u64, u64, &'static [u8], Result<Receipt, Fault>),
     Edit(&'static str, Result<u64, Fault>),
     Subscribe(&'static str, Result<u64, Fault>),
     Unsubscribe(u64, Result<(), Fault>),
-    /// The clock goes on to so many milliseconds since 1970.
+    /// The clock goes on to this time, in milliseconds since 1970.
     Advance(u64, Result<(), Fault>),
-    /// A subscription's message of at most so many octets.
+    /// A subscription, the most octets that its message is to have, and the message.
     Pull(u64, u16, Result<Option<&'static [u8]>, Fault>),
-    /// A subscription is served: so many records wait, were handed out, and so many templates are known.
+    /// A subscription is served. Behind it stand how many records wait, how many were handed out, and how many
+    /// templates are known.
     Served(u64, u32, u64, u32),
-    /// The same of one that was cut.
+    /// A subscription was cut. Behind it stand how many records wait, how many were handed out, and how many
+    /// templates are known.
     WasCut(u64, u32, u64, u32),
     /// No such subscription is live.
     Gone(u64),
-    /// The lines of the oldest so many entries of the audit.
+    /// How many entries of the audit are taken at most, and the lines of these, which are the oldest.
     Audit(u32, &'static [&'static str]),
 }
 
@@ -160,17 +163,17 @@ const BEGIN: &[Step] = &[
     Step::Open(Ok(1)),
 ];
 
-/// The same without the policy.
+/// Acme and a session, without a policy: entries 0 and 1.
 const BEGIN_UNEDITED: &[Step] = &[Step::Subscribe("acme", Ok(1)), Step::Open(Ok(1))];
 
-/// The same with a policy that has no rules.
+/// A policy that has no rules, acme, and a session: entries 0 to 2.
 const BEGIN_WITHOUT_RULES: &[Step] = &[
     Step::Edit("policy 1", Ok(1)),
     Step::Subscribe("acme", Ok(1)),
     Step::Open(Ok(1)),
 ];
 
-/// The same with beta behind acme.
+/// A policy that passes everything, acme, beta, and a session: entries 0 to 3.
 const BEGIN_TWO: &[Step] = &[
     Step::Edit(PASS, Ok(1)),
     Step::Subscribe("acme", Ok(1)),

@@ -77,7 +77,7 @@ pub(crate) fn are_lines(
     Ok(same)
 }
 
-/// The receipt of a message that brings so many records and nothing else.
+/// The receipt of a message at `position` that brings `records` records and nothing else.
 pub(crate) fn plain(position: u64, records: u64) -> Receipt {
     Receipt {
         position,

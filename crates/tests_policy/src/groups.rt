@@ -80,7 +80,7 @@ fn refuse_all(groups: &mut RunningGroups, found: Shares) -> Result<(), AllocErro
     Ok(())
 }
 
-/// The same, with a message for each of its records.
+/// Makes ready for what a message of each record of `tally` alone adds, and adds nothing.
 fn refuse_each(alloc: Global, groups: &mut RunningGroups, tally: Tally) -> Result<(), AllocError> {
     let Tally { sub, counts } = tally;
     for count in counts {

@@ -2,7 +2,7 @@
 use flow_prefix::{Fault as PrefixFault, Prefix, keep_bits};
 use std::test::Fail;
 
-/// Octets, and what is left where so many bits are kept.
+/// Octets, how many of their bits are kept, and the octets that this leaves.
 static KEPT: [(&[u8], usize, &[u8]); 13] = [
     (&[192, 0, 2, 77], 24, &[192, 0, 2, 0]),
     (&[192, 0, 2, 77], 28, &[192, 0, 2, 64]),

@@ -104,7 +104,7 @@ impl Random {
     }
 }
 
-/// Lines of so many rules.
+/// The lines of `count` random rules.
 fn random_rules(alloc: Global, random: &mut Random, count: usize) -> Result<String, AllocError> {
     let mut lines = String::new(alloc);
     for _ in 0..count {

@@ -46,7 +46,7 @@ pub(crate) fn record_of(
     Record::try_new(alloc, template, Values::from_vec(values)).ok()
 }
 
-/// The same, of fields that stand in a table.
+/// A record of the fields of a table, the first `scope` of them scope fields.
 pub(crate) fn built(alloc: Global, fields: &[Field], scope: u16) -> Result<Record, Fail> {
     let mut specs = Vec::new(alloc);
     let mut values = Vec::new(alloc);

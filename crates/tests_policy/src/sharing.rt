@@ -19,7 +19,7 @@ rule for acme in * from * to * element sourceTransportPort remove
 rule for * in * from * to * element * keep
 ";
 
-/// What acme and beta are given of the message, with so many notes at most.
+/// What acme and beta are given of the message, with at most `most` notes.
 fn shared(alloc: Global, most: u64) -> Result<Shares, Fail> {
     let policy = Policy::parse(alloc, POLICY)?;
     let read = Session::new(alloc).apply(FLOW)?;
@@ -83,7 +83,7 @@ fn isolation(rt: HostRuntime) -> Result<(), Fail> {
     Ok(())
 }
 
-/// Of the two notes of the message so many are kept, and both are counted.
+/// At most `most` of the two notes of the message are kept, and both are counted.
 #[test]
 fn notes_that_are_kept(rt: HostRuntime) -> Result<(), Fail> {
     for most in 0..4_u64 {
@@ -94,8 +94,8 @@ fn notes_that_are_kept(rt: HostRuntime) -> Result<(), Fail> {
     Ok(())
 }
 
-/// What is taken of what was judged elsewhere on these terms, with two notes at most, where another policy is in force by then, or
-/// the same one, and where so many may be kept.
+/// What is taken of what was judged elsewhere by `POLICY`, with at most two notes. By then the policy `text` is in
+/// force, and at most `most` notes may be kept.
 fn taken(alloc: Global, text: &str, most: u64) -> Result<Option<Shares>, Fail> {
     let read = Session::new(alloc).apply(FLOW)?;
     let served = [

@@ -13,7 +13,7 @@ use std::test::Fail;
 const TEMPLATE: &[u8] = b"\x00\x0a\x00\x24\x65\x53\xf1\x00\x00\x00\x00\x00\x00\x00\x00\x07\
 \x00\x02\x00\x14\x01\x00\x00\x03\x00\x08\x00\x04\x00\x07\x00\x02\x00\x01\x00\x04";
 
-/// The same template under the ID 257.
+/// Template 257 of sourceIPv4Address, sourceTransportPort and octetDeltaCount, in domain 7.
 const ANOTHER_ID: &[u8] = b"\x00\x0a\x00\x24\x65\x53\xf1\x00\x00\x00\x00\x00\x00\x00\x00\x07\
 \x00\x02\x00\x14\x01\x01\x00\x03\x00\x08\x00\x04\x00\x07\x00\x02\x00\x01\x00\x04";
 
@@ -29,7 +29,7 @@ const WITHDRAWAL: &[u8] = b"\x00\x0a\x00\x18\x65\x53\xf1\x00\x00\x00\x00\x00\x00
 const FLOW: &[u8] = b"\x00\x0a\x00\x1e\x65\x53\xf1\x00\x00\x00\x00\x00\x00\x00\x00\x07\
 \x01\x00\x00\x0e\xc0\x00\x02\x4d\x01\xbb\x00\x00\x05\xdc";
 
-/// The same record behind a Set 2 that has no template.
+/// One record of the template 256, behind a Set 2 that has no template.
 const BEHIND_EMPTY_SET: &[u8] = b"\x00\x0a\x00\x22\x65\x53\xf1\x00\x00\x00\x00\x00\x00\x00\x00\x07\
 \x00\x02\x00\x04\x01\x00\x00\x0e\xc0\x00\x02\x4d\x01\xbb\x00\x00\x05\xdc";
 
@@ -63,7 +63,7 @@ fn is_stale(message: &Prepared, session: &mut Session) -> bool {
     matches!(taken(message, session), Ok(None))
 }
 
-/// Whether a session takes in so many records, where so many Data Sets are skipped for want of a template.
+/// Whether a session takes in `records` records, where `unknown` Data Sets are skipped for want of a template.
 fn gives(message: &Prepared, session: &mut Session, records: usize, unknown: u64) -> bool {
     match taken(message, session) {
         Ok(Some(read)) => read.records.len() == records && read.skips.unknown == unknown,

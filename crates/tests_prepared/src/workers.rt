@@ -38,7 +38,7 @@ static WORKERS: [u64; 3] = [1, 2, 4];
 
 static NO_WORKERS: [u64; 3] = [0, 65, u64::MAX];
 
-/// For so many turns a piece is held back.
+/// For how many turns a piece is held back at most.
 const TURNS: u64 = 100_000_000;
 
 type Answers = Result<Vec<Result<Prepared, PrepareFault>>, WorkersFault>;

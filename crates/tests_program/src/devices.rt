@@ -73,7 +73,7 @@ fn passing(hex: bool) -> OfflineOptions<'static> {
     }
 }
 
-/// A writer that takes at most so many octets a call, and fails after so many calls.
+/// A writer that takes at most `most` octets a call, and fails after `calls` calls.
 fn narrow(alloc: Global, most: usize, calls: usize) -> Result<Narrow, AllocError> {
     Narrow::new(alloc, ROOM, most, calls, BrokenPipe)
 }
@@ -95,7 +95,7 @@ fn is_left(ran: &Ran, flows: &TwoFlows, sent: usize, done: bool, stream: &Place)
     answered && written.len() == sent && flows.whole.starts_with(written)
 }
 
-/// A run over the flows, whose writer takes at most so many octets a call and fails after so many calls.
+/// A run over the flows, whose writer takes at most `most` octets a call and fails after `calls` calls.
 fn run_into<R: Files + AllocGlobal>(
     rt: &R,
     flows: &TwoFlows,
@@ -174,14 +174,14 @@ fn fails_to_filter<R: Files + AllocGlobal>(rt: &R) -> Result<bool, Fail> {
     Ok(has_failed(&answer))
 }
 
-/// The same of a policy's counts.
+/// Whether it is seen at the flush that the reader of a policy's counts has gone.
 fn fails_to_count<R: Files + AllocGlobal>(rt: &R) -> Result<bool, Fail> {
     let mut output = buffer(rt.alloc())?;
     let answer = check_policy(rt, PolicySource::Text(PASS), &mut output);
     Ok(has_failed(&answer))
 }
 
-/// The same of the version.
+/// Whether it is seen at the flush that the reader of the version has gone.
 fn fails_to_show(alloc: Global) -> Result<bool, Fail> {
     let words = ["--version"];
     let mut output = buffer(alloc)?;
@@ -220,8 +220,8 @@ fn failed_before(rt: HostRuntime) -> Result<(), Fail> {
     Ok(())
 }
 
-/// A reader that gives at most so many octets a call and fails after so many calls; how much is written, and whether the run is
-/// done.
+/// A reader that gives at most `most` octets a call and fails after `calls` calls; `sent`, how many octets are written,
+/// and `done`, whether the run is done.
 #[derive(Clone, Copy)]
 struct Reader {
     name: &'static str,
@@ -313,15 +313,16 @@ fn readers(rt: HostRuntime) {
     expect_failing_reads(&rt);
 }
 
-/// Whether so many octets of the report are taken, two a call, where so many calls are, and the rest is dropped.
+/// Whether the octets `told` of the report are taken, two a call, where the call after `calls` calls fails, and the
+/// rest is dropped.
 fn tells(alloc: Global, calls: usize, told: &[u8]) -> Result<bool, AllocError> {
     let mut errors = Device::new(narrow(alloc, 2, calls)?);
     tell(REPORT, &mut errors);
     Ok(errors.into_inner().octets.as_slice() == told)
 }
 
-/// Whether these octets of a fault of the output are taken, two a call, where the call behind so many fails: the line that names
-/// the output ends there, and the fault's own line comes.
+/// Whether the octets `told` of a fault of the output are taken, two a call, where the call after `calls` calls fails:
+/// the line that names the output ends there, and the fault's own line comes.
 fn blames(alloc: Global, calls: usize, told: &[u8]) -> Result<bool, AllocError> {
     let mut errors = Device::new(narrow(alloc, 2, calls)?);
     let fault = ProgramFault::failed(Place::Output, io::Error::from(BrokenPipe));

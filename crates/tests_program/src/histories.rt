@@ -8,15 +8,15 @@ use crate::offline::{ONE_RECORD, REMOVE};
 use bytes::Bytes;
 use disclosure_audit::{AuditEntry, RemovedField, What};
 use event_journal::Journal;
-use history_verify::{Count, Fault as VerifyFault, Verified, verify};
+use history_verify::{Fault as VerifyFault, SubscriptionCount, Verified, verify};
 use mediator_core::{Call, Fault, Finished, Limits, Reply, SessionId, Transcript, run};
 use mediator_legal_runs::{runs_are_legal, verify_finished};
 use std::alloc::{AllocError, Global};
 use std::process::Abort;
 use std::test::Fail;
 
-/// Whether a count is of this subscription and name, with so many records.
-fn is_count(count: Option<&Count>, sub: u64, name: &str, disclosed: u64) -> bool {
+/// Whether a count is of the subscription `sub` with the name `name`, and of `disclosed` records.
+fn is_count(count: Option<&SubscriptionCount>, sub: u64, name: &str, disclosed: u64) -> bool {
     match count {
         Some(count) => {
             count.sub == sub && count.name.as_str() == name && count.disclosed == disclosed
@@ -106,7 +106,8 @@ fn ended_once(alloc: Global) -> Result<Finished, Fault>
     Ok(mediator.finish())
 }
 
-/// The same, by a second run where memory was refused to the first.
+/// What stays of a run of these calls, each of which was accepted: of a second run where memory was refused to the
+/// first.
 fn ended(alloc: Global) -> Result<Finished, Fault>
     ensures { IfOk result (λ f. IsLegal f.journal.entries) }
 {

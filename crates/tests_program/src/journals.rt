@@ -111,7 +111,8 @@ fn reads(alloc: Global, journal: &Journal) -> Result<bool, Fault> {
     Ok(reader.next(&mut source)? == None)
 }
 
-/// The same from its begin, where memory was refused: what was read last is lost then.
+/// Whether the file is read from a source, entry by entry, as this journal. Where memory was refused, it is read again
+/// from its begin: what was read last is lost then.
 fn reads_again(alloc: Global, journal: &Journal) -> Result<bool, Fault> {
     match reads(alloc, journal) {
         Err(Fault::OutOfMemory) => reads(alloc, journal),

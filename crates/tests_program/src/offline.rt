@@ -174,8 +174,8 @@ fn run_by(
     })
 }
 
-/// That a run answers this, and leaves so many octets of what is due, and of the audit. Where it is refused memory, it leaves
-/// fronts of them, and is made again.
+/// That a run answers `due`, and leaves the first `written` octets of the messages, and the first `audited` octets of
+/// the audit. Where it is refused memory, it leaves fronts of them, and is made again.
 fn expect_run(
     rt: &impl Abort,
     alloc: Global,

@@ -41,7 +41,8 @@ fn was_refused(ran: &Ran) -> bool {
     matches!(ran.answer, Err(ProgramFault::OutOfMemory)) && ran.written.is_empty()
 }
 
-/// A run over octets of which a read gives at most so many, and which fail after so many reads. Its output has room for all.
+/// A run over `octets`, of which a read gives at most `most`. The reader fails after `reads` reads. The output has room
+/// for all.
 fn run_once(
     alloc: Global,
     quiet: bool,
@@ -132,7 +133,7 @@ fn readers(rt: HostRuntime) -> Result<(), Fail> {
     Ok(())
 }
 
-/// A run whose writer takes an octet at a time, and fails after so many.
+/// A run whose writer takes an octet at a time, and fails after `sent` octets.
 fn run_into(alloc: Global, sent: usize) -> Result<Ran, AllocError> {
     let mut output = Device::new(Narrow::new(alloc, ROOM, 1, sent, BrokenPipe)?);
     let mut progress = OnTerminal::new(Device::new(io::sink()), false);
@@ -143,7 +144,7 @@ fn run_into(alloc: Global, sent: usize) -> Result<Ran, AllocError> {
     })
 }
 
-/// Whether a run ended because its writer failed, which has so many octets of what is due.
+/// Whether a run ended because its writer failed, which has the first `sent` octets of what is due.
 fn has_front(ran: &Ran, sent: usize) -> bool {
     let written = ran.written.as_slice();
     let failed = match &ran.answer {

@@ -234,7 +234,7 @@ fn expect_session(
     expect_row(rt, alloc, row)
 }
 
-/// The writer failed behind so many octets.
+/// What is answered where the writer failed behind `sent` octets.
 fn stopped(sent: usize) -> Result<u64, ServeFault> {
     Err(ServeFault::Write { sent: sent as u64 })
 }

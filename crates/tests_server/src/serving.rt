@@ -13,7 +13,7 @@ use event_journal::Entry;
 use ipfix_message::Fault as DecodeError;
 use ipfix_reader::FramingFault;
 use ipfix_session::Fault as ReadError;
-use mediator_connections::{Fault as ServeFault, Served, serve_exporter};
+use mediator_connections::{Fault as ServeFault, ServedExporter, serve_exporter};
 use mediator_core::Fault;
 use octet_io::Device;
 use shared_mediator::{Closed, EntryLedger, RecordLedger, SharedMediator};
@@ -42,12 +42,12 @@ pub(crate) struct Row {
     turns: u64,
     workers: u64,
     due: Result<(), ServeFault>,
-    brought: Served,
+    brought: ServedExporter,
 }
 
-/// So many messages, records and gaps.
-const fn brought((messages, records, gaps): (u64, u64, u64)) -> Served {
-    Served {
+/// What an exporter's stream brought: how many messages, how many records and how many gaps.
+const fn brought((messages, records, gaps): (u64, u64, u64)) -> ServedExporter {
+    ServedExporter {
         messages,
         records,
         gaps,
@@ -228,8 +228,8 @@ fn refusals(rt: HostRuntime) -> Result<(), Fail> {
     Ok(())
 }
 
-/// Whether so many messages were accepted, and nothing came behind them but the session's end; nothing where the journal is full
-/// then.
+/// Whether `messages` messages were accepted, and nothing came behind them but the session's end. Where the journal is
+/// full by then, with `most` entries, the session's end doesn't come either.
 fn is_closed(closed: &Closed, messages: u64, most: u64) -> bool {
     let journal = closed.mediator.journal();
     let place = BEFORE.saturating_add(messages);

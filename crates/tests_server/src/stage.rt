@@ -25,7 +25,7 @@ pub(crate) enum Case {
     Serve(serving::Row),
     /// A subscription is delivered.
     Deliver(delivering::Row),
-    /// The same, while messages are offered.
+    /// A subscription is delivered while messages are offered.
     DeliverMeanwhile(delivering::Row),
     /// An administrator's connection is served.
     Administer(administering::Row),

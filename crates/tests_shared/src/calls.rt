@@ -104,7 +104,7 @@ pub(crate) fn expect_status<E: EntryLedger, H: RecordLedger, R: Wait + Abort>(
     assert!(rt; answer == Ok(due), "{answer:?}");
 }
 
-/// That this message of so many records is pulled, and no second one.
+/// That the message `message` of `records` records is pulled, and no second one.
 pub(crate) fn expect_message<E: EntryLedger, H: RecordLedger, R: Wait + Abort>(
     rt: &R,
     shared: &SharedMediator<E, H>,
@@ -204,7 +204,7 @@ fn expect_gone<E: EntryLedger, H: RecordLedger, R: Wait + Abort>(
     assert!(rt; full == Err(Fault::JournalFull));
 }
 
-/// Whether a journal of so many entries is left, and the text of its last edit.
+/// Whether a journal of `entries` entries is left, whose last edit has the text `text`.
 fn is_left(finished: Finished, entries: u64, text: &str) -> bool {
     finished.journal.len() == entries && finished.journal.last_edit() == Some(text)
 }

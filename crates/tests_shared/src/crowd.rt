@@ -34,7 +34,7 @@ const NAMES: &[&str] = &[
 pub(crate) const ADDED: &str =
     "policy 1\naggregate web key destinationTransportPort interval 300 grace 60\nrule for eve in * from * to * aggregate web\nrule for * in * from * to * pass\nrule for * in * from * to * element * keep\n";
 
-/// The same, and Bob gets nothing.
+/// Eve's flows are added up, Bob gets nothing, and all others get each.
 const NOT_BOB: &str =
     "policy 1\naggregate web key destinationTransportPort interval 300 grace 60\nrule for eve in * from * to * aggregate web\nrule for bob in * from * to * withhold\nrule for * in * from * to * pass\nrule for * in * from * to * element * keep\n";
 
@@ -63,12 +63,14 @@ fn administer<E: EntryLedger, H: RecordLedger, R: Wait + Abort>(
     for n in 0..EDITS {
         let text = if n % 2 == 0 { NOT_BOB } else { ADDED };
         admin.edit(rt, shared, text).expect(rt, "an edit");
-        let guest = admin.subscribe(rt, shared, "guest").expect(rt, "a guest");
+        let passing = admin
+            .subscribe(rt, shared, "passing")
+            .expect(rt, "a subscription");
         admin
             .advance(rt, shared, START + n * 40_000)
             .expect(rt, "an advance");
         thread::yield_now();
-        admin.unsubscribe(rt, shared, guest).expect(rt, "an end");
+        admin.unsubscribe(rt, shared, passing).expect(rt, "an end");
     }
     admin
 }

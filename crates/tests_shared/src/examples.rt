@@ -13,7 +13,7 @@ use std::process::Abort;
 use std::sync::Wait;
 use std::sync::ledger::Blank;
 
-/// A new mediator, shared by at most so many handles of each kind.
+/// A new mediator, shared by at most `handles` handles of each kind.
 fn share<R: Wait + Abort>(rt: &R, alloc: Global, handles: u32) -> Result<(), AllocError> {
     let Ok(mediator) = Mediator::new(alloc, limits(10, 10, 10)) else {
         return Err(AllocError);

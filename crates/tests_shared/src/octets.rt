@@ -8,7 +8,7 @@ pub(crate) const PASS: &str =
 pub(crate) const WITHHOLD: &str =
     "policy 1\nrule for * in * from * to * withhold\nrule for * in * from * to * pass\nrule for * in * from * to * element * keep\n";
 
-/// So many records in a queue, templates of a subscription and entries of the journal.
+/// Limits: `queue` records in a queue, `shapes` templates of a subscription, and `entries` entries of the journal.
 pub(crate) const fn limits(queue: u32, shapes: u32, entries: u64) -> Limits {
     Limits {
         queue,
@@ -28,7 +28,7 @@ pub(crate) const ONE_RECORD: &[u8] =
 \x00\x02\x00\x14\x01\x00\x00\x03\x00\x08\x00\x04\x00\x07\x00\x02\x00\x01\x00\x04\
 \x01\x00\x00\x0e\xc0\x00\x02\x4d\x01\xbb\x00\x00\x05\xdc";
 
-/// The same with Sequence Number 1.
+/// A template of source address, source port and octet count, and one record of it, with Sequence Number 1.
 pub(crate) const NEXT_RECORD: &[u8] =
     b"\x00\x0a\x00\x32\x65\x53\xf1\x00\x00\x00\x00\x01\x00\x00\x00\x07\
 \x00\x02\x00\x14\x01\x00\x00\x03\x00\x08\x00\x04\x00\x07\x00\x02\x00\x01\x00\x04\
@@ -39,7 +39,7 @@ pub(crate) const TEMPLATE: &[u8] =
     b"\x00\x0a\x00\x24\x65\x53\xf1\x00\x00\x00\x00\x00\x00\x00\x00\x07\
 \x00\x02\x00\x14\x01\x00\x00\x03\x00\x08\x00\x04\x00\x07\x00\x02\x00\x01\x00\x04";
 
-/// One record of it that comes behind so many, with this port.
+/// The message of one record of the template, behind `before` records, with the source port `port`.
 pub(crate) fn port_record(before: u32, port: u16) -> [u8; 30] {
     let mut message = *b"\x00\x0a\x00\x1e\x65\x53\xf1\x00\x00\x00\x00\x00\x00\x00\x00\x07\
 \x01\x00\x00\x0e\xc0\x00\x02\x4d\x01\xbb\x00\x00\x05\xdc";
@@ -83,7 +83,8 @@ pub(crate) const TWO_DISCLOSED: &[u8] =
 /// The start of a first flow, in milliseconds since 1970: that of an interval of five minutes.
 pub(crate) const START: u64 = 1_700_000_100_000;
 
-/// The message of one flow that comes behind so many: it starts at this time, in milliseconds since 1970, and goes to this port.
+/// The message of one flow, behind `before` records. The flow starts at `start`, in milliseconds since 1970, and goes
+/// to the port `port`.
 pub(crate) fn flow(before: u32, start: u64, port: u16) -> [u8; 66] {
     let mut message = *b"\x00\x0a\x00\x42\x65\x53\xf1\x00\x00\x00\x00\x00\x00\x00\x00\x07\
 \x00\x02\x00\x18\x01\x00\x00\x04\x00\x98\x00\x08\x00\x0b\x00\x02\x00\x01\x00\x08\x00\x02\x00\x04\

@@ -28,7 +28,7 @@ const BOB: Standing = (2, 0, 2, false);
 /// That of the port 3 waits for Cyd.
 const CYD: Standing = (3, 1, 0, false);
 
-/// So many entries are asked for at once.
+/// How many entries are asked for at once.
 const PIECE: u32 = 150;
 
 /// The first entry of each piece, from 0, and how many there are.
@@ -86,7 +86,7 @@ fn deliveries<E: EntryLedger, H: RecordLedger, R: Wait + Abort>(
     made
 }
 
-/// That a message that is offered brings so many records, or is refused so.
+/// That a message that is offered brings the number of records in `due`, or is refused with the fault in `due`.
 pub(crate) fn expect_records<E: EntryLedger, H: RecordLedger, R: Wait + Abort>(
     rt: &R,
     alloc: Global,

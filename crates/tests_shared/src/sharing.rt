@@ -25,7 +25,7 @@ use std::time::Clock;
 pub(crate) enum Case {
     /// Each call once by one thread, and its refusal.
     Calls,
-    /// The same, and the exporter's handle isn't given back.
+    /// Each call once by one thread, and its refusal, and the exporter's handle isn't given back.
     NoExporter,
     /// The delivery's handle isn't.
     NoDelivery,
@@ -63,7 +63,7 @@ pub(crate) struct Ended {
     pub(crate) taken: Vec<Taken>,
 }
 
-/// Plays a case with at most so many handles of each kind.
+/// Plays a case with at most `handles` handles of each kind.
 pub(crate) fn share<R: Threads + Wait + Abort + Clock + Sync>(
     rt: &R,
     alloc: Global,

@@ -18,12 +18,13 @@ use std::thread;
 use std::thread::Threads;
 use std::time::{Clock, Duration};
 
-/// So many milliseconds after two threads have said that they begin, both are taken to wait.
+/// The time after which two threads that have said that they begin are both taken to wait, in milliseconds.
 const BEFORE: u64 = 50;
 
-/// So many milliseconds lie between two looks at a count, and so many looks in ten seconds.
+/// The time between two looks at a count, in milliseconds.
 const PAUSE: u64 = 2;
 
+/// The most looks at a count: those of ten seconds.
 const LOOKS: u64 = 5000;
 
 /// What is done while two deliveries wait.

@@ -2,7 +2,7 @@ use Rattle.std.proofs.Common.{rules, inr, subst}
 use Rattle.std.proofs.lemmas.Result.{IfErr-weaker}
 use Rattle.std.specs.Io.KnownBytes.{Appends}
 use Rattle.octet_io.specs.Device.{device_inner}
-use Rattle.ipmd_commands.specs.HexText.{lines_of}
+use Rattle.ipmd_commands.specs.HexText.{hex_lines}
 use Rattle.ipmd_commands.proofs.Lines.{all_written}
 use Rattle.ipmd_commands.proofs.output.write_lines.Goals as goal
 
@@ -17,7 +17,7 @@ returns-clause-err g c =
       inr (record {
         messages = c.in_ok-messages.messages.items;
         cut = c.in_ok-messages.ensures;
-        written = all_written held written holds (lines_of c.in_ok-messages.messages.items) (subst (λ m. Appends held written (lines_of m)) (search rules) c.in_ok-write_each.ensures.ok) c.flush.ensures.kept;
+        written = all_written held written holds (hex_lines c.in_ok-messages.messages.items) (subst (λ m. Appends held written (hex_lines m)) (search rules) c.in_ok-write_each.ensures.ok) c.flush.ensures.kept;
       }),
     ))
     c.flush.ensures.err

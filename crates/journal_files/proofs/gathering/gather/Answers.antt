@@ -1,7 +1,7 @@
 use Rattle.std.proofs.Common.{◌∙◌, sym, ap, arith}
 use Rattle.std.proofs.lemmas.Result.{err_from_is_err_and}
 use Rattle.journal_files.specs.Gathering.{announced}
-use Rattle.journal_files.specs.Streaming.{next_of}
+use Rattle.journal_files.specs.Streaming.{next_entry_of}
 use Rattle.journal_files.proofs.Gathered.{loses_after, gathers_more, from_nothing}
 use Rattle.journal_files.proofs.Decided.{gathered_none, filled_false, filled_true, single, no_kind, gathered_front, gathered_body}
 use Rattle.journal_files.proofs.Stopping.{stops_by}
@@ -20,7 +20,7 @@ returns-in_default-clause-gathered g c =
 pub returns-in_err-fill-2-clause-err : goal.returns-in_err-fill-2-clause-err
 returns-in_err-fill-2-clause-err g c =
     let p = err_from_is_err_and c.from_residual-in_err-fill-2.result c.from_residual-in_err-fill-2.ensures.1 in
-    rw (p.1, p.2) (λ place. stops_by c.in_err-fill-2.field-0.0 (next_of place) _ _ _ _ _ c.in_ok-fill.ensures.stays c.in_err-fill-2.ensures.err (loses_after _ _ _ _ _ c.in_ok-fill.ensures.gathers c.in_err-fill-2.ensures.loses))
+    rw (p.1, p.2) (λ place. stops_by c.in_err-fill-2.field-0.0 (next_entry_of place) _ _ _ _ _ c.in_ok-fill.ensures.stays c.in_err-fill-2.ensures.err (loses_after _ _ _ _ _ c.in_ok-fill.ensures.gathers c.in_err-fill-2.ensures.loses))
 
 pub returns-then-not-branch-2-clause-gathered : goal.returns-then-not-branch-2-clause-gathered
 returns-then-not-branch-2-clause-gathered g c =
@@ -30,13 +30,13 @@ returns-then-not-branch-2-clause-gathered g c =
 pub returns-in_err-skip-clause-err : goal.returns-in_err-skip-clause-err
 returns-in_err-skip-clause-err g c =
     let p = err_from_is_err_and c.from_residual-in_err-skip.result c.from_residual-in_err-skip.ensures.1 in
-    rw (p.1, p.2) (λ place. stops_by c.in_err-skip.field-0.0 (next_of place) _ _ _ _ _ (c.in_ok-fill-2.ensures.stays ∙ c.in_ok-fill.ensures.stays) c.in_err-skip.ensures.err
+    rw (p.1, p.2) (λ place. stops_by c.in_err-skip.field-0.0 (next_entry_of place) _ _ _ _ _ (c.in_ok-fill-2.ensures.stays ∙ c.in_ok-fill.ensures.stays) c.in_err-skip.ensures.err
     (loses_after _ _ _ _ _ (gathers_more _ _ _ _ _ _ c.in_ok-fill.ensures.gathers c.in_ok-fill-2.ensures.gathers) c.in_err-skip.ensures.loses))
 
 pub returns-in_err-fill-3-clause-err : goal.returns-in_err-fill-3-clause-err
 returns-in_err-fill-3-clause-err g c =
     let p = err_from_is_err_and c.from_residual-in_err-fill-3.result c.from_residual-in_err-fill-3.ensures.1 in
-    rw (p.1, p.2) (λ place. stops_by c.in_err-fill-3.field-0.0 (next_of place) _ _ _ _ _ (c.in_ok-fill-2.ensures.stays ∙ c.in_ok-fill.ensures.stays) c.in_err-fill-3.ensures.err
+    rw (p.1, p.2) (λ place. stops_by c.in_err-fill-3.field-0.0 (next_entry_of place) _ _ _ _ _ (c.in_ok-fill-2.ensures.stays ∙ c.in_ok-fill.ensures.stays) c.in_err-fill-3.ensures.err
     (loses_after _ _ _ _ _ (gathers_more _ _ _ _ _ _ c.in_ok-fill.ensures.gathers c.in_ok-fill-2.ensures.gathers) c.in_err-fill-3.ensures.loses))
 
 pub returns-clause-gathered : goal.returns-clause-gathered

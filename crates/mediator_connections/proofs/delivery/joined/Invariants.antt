@@ -1,6 +1,6 @@
 use Rattle.std.proofs.Common.{◌≡◌, take}
-use Rattle.mediator_connections.specs.Delivering.{octets_of}
+use Rattle.mediator_connections.specs.Delivering.{handed_octets}
 use Rattle.mediator_connections.proofs.delivery.joined.Given as goal
 
 abbrev pub invariant-joins : goal.invariant-joins
-invariant-joins l = l.octets.items ≡ octets_of (take l.handed-index l.messages)
+invariant-joins l = l.octets.items ≡ handed_octets (take l.handed-index l.messages)

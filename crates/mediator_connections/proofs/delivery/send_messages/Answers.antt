@@ -1,6 +1,6 @@
 use Rattle.std.proofs.Common.{rules, ◌≡◌, ◌+◌, ◌<◌, ◌^◌, length, sym, ◌∙◌, subst, arith}
 use Rattle.shared_mediator.specs.Handles.{KeepsSome}
-use Rattle.mediator_connections.specs.Delivering.{StopsSending, octets_of}
+use Rattle.mediator_connections.specs.Delivering.{StopsSending, handed_octets}
 use Rattle.mediator_connections.proofs.Offering.{err_gives}
 use Rattle.mediator_connections.proofs.Sending.{pulled, sends_on, sends_inside}
 use Rattle.mediator_connections.proofs.delivery.send_messages.Goals as goal
@@ -27,7 +27,7 @@ returns-in_err-sent-clause-stops g c =
     err_gives c.from_residual-in_err-sent.result c.from_residual-in_err-sent.ensures
     (λ e is. sends_inside e (g.C.Clock.shows c.args.clock.now) c.args.target c.pulls.sent c.args.handle.now c.pulls.handle after messages (g.W.Sink.contents c.args.writer.now) holds writes failed c.pulls.invariant.2 p
     (omega (arith, c.in_ok-messages.ensures.most))
-    (subst (λ x. StopsSending x (octets_of messages) c.pulls.sent holds writes failed) (sym is) c.in_err-sent.ensures.err))
+    (subst (λ x. StopsSending x (handed_octets messages) c.pulls.sent holds writes failed) (sym is) c.in_err-sent.ensures.err))
 
 pub pulls-preserved-then-not-is_empty : goal.pulls-preserved-then-not-is_empty
 pulls-preserved-then-not-is_empty g c =

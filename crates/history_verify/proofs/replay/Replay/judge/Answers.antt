@@ -1,6 +1,6 @@
 use Rattle.std.proofs.Common.{map, ap, ◌∙◌}
 use Rattle.std.specs.Prelude.{not}
-use Rattle.mediator_shares.specs.Noting.{kept_of}
+use Rattle.mediator_shares.specs.Noting.{kept_notes}
 use Rattle.mediator_shares.specs.Sharing.{shares_of, tallies_of, notes_of}
 use Rattle.disclosure_audit.specs.Queue.{stamp}
 use Rattle.history_verify.proofs.UnborneLaws.{not_empty_where}
@@ -15,4 +15,4 @@ returns-clause-judged c = λ h session number octets s is.
     (c.in_ok-shares.ensures.shares ∙ ap (shares_of c.header.result.domain c.args.self.now.in_force c.records-records.result.now) c.deref.ensures.value)
     (c.in_ok-shares.ensures.tallies ∙ ap (tallies_of c.header.result.domain c.args.self.now.in_force c.records-records.result.now) c.deref.ensures.value)
     (c.in_ok-stamped.ensures ∙ ap (map (stamp c.args.self.now.position)) c.into_kept.ensures.kept
-    ∙ notes_wanted c.args.self.now.audit.wanted c.args.self.now.position c.most-most.result _ _ c.most-most.ensures (c.in_ok-shares.ensures.notes ∙ ap (λ l. kept_of c.most-most.result (notes_of c.header.result.domain c.args.self.now.in_force c.records-records.result.now l)) c.deref.ensures.value) c.into_kept.ensures.few)
+    ∙ notes_wanted c.args.self.now.audit.wanted c.args.self.now.position c.most-most.result _ _ c.most-most.ensures (c.in_ok-shares.ensures.notes ∙ ap (λ l. kept_notes c.most-most.result (notes_of c.header.result.domain c.args.self.now.in_force c.records-records.result.now l)) c.deref.ensures.value) c.into_kept.ensures.few)

@@ -1,13 +1,13 @@
 use Rattle.std.proofs.Common.{◌+◌, ◌<◌, ◌^◌, ◌∙◌, ℕ, sym, ap, subst, refl, arith}
 use Rattle.std.specs.Prelude.{slice_get, IfSome}
-use Rattle.history_verify.specs.declared.count.Count.{Count}
+use Rattle.history_verify.specs.declared.count.SubscriptionCount.{SubscriptionCount}
 use Rattle.history_verify.specs.Parts.{more_at}
 use Rattle.history_verify.proofs.GivingLaws.{no_less, room_at, counted_one, counted_nobody}
 use Rattle.history_verify.proofs.subscribers.Subscribers.give_one.Goals as goal
 
 pub count_more-requires : goal.count_more-requires
 count_more-requires c = record {
-  room = subst (λ (n : ℕ). IfSome (slice_get c.args.self.now.begun.items c.in-Some.place) (λ (k : Count). k.disclosed + n < 2 ^ 64)) (sym c.len.ensures.value)
+  room = subst (λ (n : ℕ). IfSome (slice_get c.args.self.now.begun.items c.in-Some.place) (λ (k : SubscriptionCount). k.disclosed + n < 2 ^ 64)) (sym c.len.ensures.value)
       (room_at c.args.self.now c.args.share.now c.in-Some.place c.requires.room (omega (arith, c.in-Some.ensures.0, c.in-Some.ensures.1)));
 }
 

@@ -5,7 +5,7 @@ use Rattle.ipfix_session.specs.declared.fault.Fault.{Fault}
 use Rattle.ipfix_session.specs.Contents.{Contents}
 use Rattle.ipfix_session.specs.Keeping.{Keeps, StandIn}
 use Rattle.ipfix_session.specs.Standing.{templates_of}
-use Rattle.ipfix_session.specs.Answers.{Gives, as_contents}
+use Rattle.ipfix_session.specs.Answers.{GivesMeant, as_contents}
 use Rattle.ipfix_session.proofs.ItemsStand.{items_stand}
 use Rattle.ipfix_session.proofs.SessionSteps.{before, header_is, contents_are, known_keeps, no_header_fault}
 use Rattle.ipfix_session.proofs.templates.Templates.read.Goals as goal
@@ -26,7 +26,7 @@ returns-clause-messages c = λ older knows.
     let message = c.args.message.now in
     let header = c.in_ok-header.header in
     let is = header_is message header (c.in_ok-header.ensures.exact ∙ ap read_header c.deref-octets.ensures) in
-    subst (λ (r : Result Contents Fault). Gives as_contents c.read_items.result r) (sym (contents_are older message c.args.said.items c.requires.said))
+    subst (λ (r : Result Contents Fault). GivesMeant as_contents c.read_items.result r) (sym (contents_are older message c.args.said.items c.requires.said))
     (c.read_items.ensures (before older message) (known_keeps c.args.self.now older message header is knows))
 
 pub returns-clause-items : goal.returns-clause-items

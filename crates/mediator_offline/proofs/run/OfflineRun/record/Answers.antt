@@ -2,16 +2,16 @@ use Rattle.std.proofs.Common.{refl, sym, ap, subst, ◌∙◌}
 use Rattle.std.specs.Prelude.{OnOk, OnErr}
 use Rattle.std.specs.Io.KnownBytes.{Appends}
 use Rattle.mediator_offline.specs.Runs.{audit_waiting}
-use Rattle.mediator_offline.specs.Lines.{lines_of, WritesBeginning}
+use Rattle.mediator_offline.specs.Lines.{audit_text, WritesBeginning}
 use Rattle.mediator_offline.proofs.Lines.{lines_for-asked, unasked}
 use Rattle.mediator_offline.proofs.Receiving.{on_ok, drained_are, recorded}
 use Rattle.mediator_offline.proofs.run.OfflineRun.record.Goals as goal
 
 pub returns-clause-written : goal.returns-clause-written
-returns-clause-written g c = subst (λ l. OnOk c.write_lines.result (Appends (g.A.Sink.contents c.args.writer.now) (g.A.Sink.contents c.write_lines.new.writer) l)) (ap lines_of (c.as_slice.ensures.value ∙ drained_are c.args.self.now c.requires.known.history c.in-Ok.entries.items c.requires.known.state c.requires.few (c.in-Ok.ensures.ok c.requires.known.history c.requires.known.state).0) ∙ sym (lines_for-asked c.args.self.now.job.audit (audit_waiting c.args.self.now) c.if-not-self.false)) c.write_lines.ensures.ok
+returns-clause-written g c = subst (λ l. OnOk c.write_lines.result (Appends (g.A.Sink.contents c.args.writer.now) (g.A.Sink.contents c.write_lines.new.writer) l)) (ap audit_text (c.as_slice.ensures.value ∙ drained_are c.args.self.now c.requires.known.history c.in-Ok.entries.items c.requires.known.state c.requires.few (c.in-Ok.ensures.ok c.requires.known.history c.requires.known.state).0) ∙ sym (lines_for-asked c.args.self.now.job.audit (audit_waiting c.args.self.now) c.if-not-self.false)) c.write_lines.ensures.ok
 
 pub returns-clause-err : goal.returns-clause-err
-returns-clause-err g c = subst (λ l. OnErr c.write_lines.result (WritesBeginning (g.A.Sink.contents c.args.writer.now) (g.A.Sink.contents c.write_lines.new.writer) l)) (ap lines_of (c.as_slice.ensures.value ∙ drained_are c.args.self.now c.requires.known.history c.in-Ok.entries.items c.requires.known.state c.requires.few (c.in-Ok.ensures.ok c.requires.known.history c.requires.known.state).0) ∙ sym (lines_for-asked c.args.self.now.job.audit (audit_waiting c.args.self.now) c.if-not-self.false)) c.write_lines.ensures.err
+returns-clause-err g c = subst (λ l. OnErr c.write_lines.result (WritesBeginning (g.A.Sink.contents c.args.writer.now) (g.A.Sink.contents c.write_lines.new.writer) l)) (ap audit_text (c.as_slice.ensures.value ∙ drained_are c.args.self.now c.requires.known.history c.in-Ok.entries.items c.requires.known.state c.requires.few (c.in-Ok.ensures.ok c.requires.known.history c.requires.known.state).0) ∙ sym (lines_for-asked c.args.self.now.job.audit (audit_waiting c.args.self.now) c.if-not-self.false)) c.write_lines.ensures.err
 
 pub returns-clause-drained : goal.returns-clause-drained
 returns-clause-drained g c = on_ok c.write_lines.result (recorded c.args.self.now (record { alloc = c.args.self.now.alloc; job = c.args.self.now.job; state = c.drain_audit.new.self; messages = c.args.self.now.messages; records = c.args.self.now.records; sent = c.args.self.now.sent }) c.in-Ok.entries.items c.requires.known c.requires.few (record {

@@ -4,7 +4,7 @@ use Rattle.std.proofs.lemmas.List.{length-map}
 use Rattle.flow_anonymize.specs.Classes.{classes_of}
 use Rattle.flow_anonymize.specs.Outcome.{Decision, passed, decision_of}
 use Rattle.flow_anonymize.specs.Plans.{PlansFor, outcome_for}
-use Rattle.mediator_shares.specs.Judges.{Judges, for_of, given_to}
+use Rattle.mediator_shares.specs.Judges.{Judges, for_of, share_of_judge}
 use Rattle.mediator_shares.proofs.JudgeLaws.{own_for, which_for, set_same}
 use Rattle.mediator_shares.proofs.SharingLaws.{as_share, grown, share_grows}
 use Rattle.mediator_shares.proofs.judges.Judges.disclose.Goals as goal
@@ -30,7 +30,7 @@ pub returns-clause-given : goal.returns-clause-given
 returns-clause-given c = λ p before after s at split l.
     let r = c.args.flow_record.now in
     IfOk-weaker c.disclose.result _ _ (λ done grew.
-    share_grows given_to c.self.inside.judges.items c.args.place c.index_mut.result.now (record { sub = c.index_mut.result.now.sub; plans = c.disclose.new.self }) (passed (outcome_for (for_of c.index_mut.result.now) r)) before after s
+    share_grows share_of_judge c.self.inside.judges.items c.args.place c.index_mut.result.now (record { sub = c.index_mut.result.now.sub; plans = c.disclose.new.self }) (passed (outcome_for (for_of c.index_mut.result.now) r)) before after s
     (ap (λ (j : Judges). j.shares) c.self.view_is ∙ split) l c.index_mut.ensures.value (ap (as_share c.index_mut.result.now.sub) grew)
     ∙ ap (λ (q : PlansFor). before ++ grown s (passed (outcome_for q r)) ∷ after) (sym (which c p at))) c.disclose.ensures.given
 

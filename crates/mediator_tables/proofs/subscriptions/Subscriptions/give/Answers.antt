@@ -3,7 +3,7 @@ use Rattle.std.proofs.lemmas.List.{nil_from_length}
 use Rattle.std.specs.Vec.Iter.{into_iter_items}
 use Rattle.ipfix_session.specs.Keeping.{at_key}
 use Rattle.mediator_tables.specs.SubscriptionTable.{SubscriptionRows, shown, given_to}
-use Rattle.mediator_tables.specs.Naming.{number_of, name_at}
+use Rattle.mediator_tables.specs.Naming.{number_under, name_of_sub}
 use Rattle.mediator_tables.proofs.NameLaws.{named_same, name_given}
 use Rattle.mediator_tables.proofs.ShareLaws.{giving_start, giving_ready, giving_next, giving_end}
 use Rattle.mediator_tables.proofs.subscriptions.Subscriptions.give.Goals as goal
@@ -26,7 +26,7 @@ pub shares-preserved : goal.shares-preserved
 shares-preserved c =
     let s = c.shares.self-inside in
     record {
-      named = named_same (number_of s.names) (number_of s.names) (name_at s.by_number.entries) (name_at c.give_one.new.live.entries) (λ n. refl)
+      named = named_same (number_under s.names) (number_under s.names) (name_of_sub s.by_number.entries) (name_of_sub c.give_one.new.live.entries) (λ n. refl)
           (λ q. name_given (given_to q (shown c.in-Some.share ∷ [])) (at_key q s.by_number.entries) (at_key q c.give_one.new.live.entries) (c.give_one.ensures.each q)) c.shares.invariant.named;
       giving = giving_next c.args.self.now.live s.by_number.entries c.give_one.new.live.entries (map shown c.args.shares.items)
           (map shown (into_iter_items c.shares.share-iterator)) (map shown (into_iter_items c.next.new.self)) (shown c.in-Some.share) (ap (map shown) c.in-Some.ensures.steps.0)

@@ -1,7 +1,7 @@
 use Rattle.std.proofs.Common.{◌∙◌, refl, ap, arith}
 use Rattle.std.specs.Option.{option_map}
 use Rattle.mediator_tables.specs.SubscriptionTable.{SubscriptionRows, at, shown, seen_subscription}
-use Rattle.mediator_tables.specs.Naming.{number_of, name_at}
+use Rattle.mediator_tables.specs.Naming.{number_under, name_of_sub}
 use Rattle.mediator_tables.proofs.NameLaws.{named_same, names_seen}
 use Rattle.mediator_tables.proofs.ShareLaws.{spare_more}
 use Rattle.mediator_tables.proofs.subscriptions.Subscriptions.reserve.Goals as goal
@@ -17,14 +17,14 @@ shares-init c = record {
 pub invariant_of-self-in_err-reserve_one : goal.invariant_of-self-in_err-reserve_one
 invariant_of-self-in_err-reserve_one c =
     let s = c.shares.self-inside in
-    named_same (number_of s.names) (number_of s.names) (name_at s.by_number.entries) (name_at c.reserve_one.new.live.entries) (λ n. refl)
+    named_same (number_under s.names) (number_under s.names) (name_of_sub s.by_number.entries) (name_of_sub c.reserve_one.new.live.entries) (λ n. refl)
     (names_seen s.by_number.entries c.reserve_one.new.live.entries c.reserve_one.ensures.unchanged) c.shares.invariant.named
 
 pub shares-preserved : goal.shares-preserved
 shares-preserved c =
     let s = c.shares.self-inside in
     record {
-      named = named_same (number_of s.names) (number_of s.names) (name_at s.by_number.entries) (name_at c.reserve_one.new.live.entries) (λ n. refl)
+      named = named_same (number_under s.names) (number_under s.names) (name_of_sub s.by_number.entries) (name_of_sub c.reserve_one.new.live.entries) (λ n. refl)
           (names_seen s.by_number.entries c.reserve_one.new.live.entries c.reserve_one.ensures.unchanged) c.shares.invariant.named;
       same = λ q. c.reserve_one.ensures.unchanged q ∙ c.shares.invariant.same q;
       served = c.shares.invariant.served;

@@ -1,5 +1,5 @@
 use Rattle.std.proofs.Common.{◌-◌, arith}
-use Rattle.shared_mediator.specs.Counted.{counted_as}
+use Rattle.shared_mediator.specs.Counted.{with_counts}
 use Rattle.shared_mediator.specs.Handing.{HasCountRoom}
 use Rattle.shared_mediator.proofs.Pulling.{Tells, tells, counted_after, has_count_room, hands_some, hands_none}
 use Rattle.mediator_calls.proofs.CallLaws.{if_ok_at}
@@ -22,7 +22,7 @@ invariant_of-self-2 c =
 pub returns-clause-ok : goal.returns-clause-ok
 returns-clause-ok c =
     let told : Tells c.self.inside.mediator c.args.sub.0 c.args.target c.in-Ok.before c.in-Ok-status.after = tells c.self.inside.mediator c.pull.new.self c.args.sub.0 c.args.now c.args.target c.in-Ok-pull.message c.in-Ok.before c.in-Ok-status.after c.in-Ok.ensures.ok c.in-Ok-pull.ensures.ok c.in-Ok-status.ensures.ok in
-    let room : HasCountRoom (counted_as c.self.inside.mediator c.self.inside.from c.self.inside.gone) c.args.sub.0 =
+    let room : HasCountRoom (with_counts c.self.inside.mediator c.self.inside.from c.self.inside.gone) c.args.sub.0 =
     has_count_room c.self.inside.mediator c.self.inside.from c.self.inside.gone c.self.inside.handed c.args.sub.0 c.in-Ok.before.queued c.self.invariant c.in-Ok.ensures.ok.queued (omega (arith, c.if-before-self.false)) in
     elim c.match-message-3.branch [
       | in-Some w ↦ if_ok_at _ c.match-message-3.result _ w.result-is

@@ -7,7 +7,7 @@ use Rattle.ipfix_template.specs.Equality.{same_template}
 use Rattle.ipfix_records.proofs.RunLaws.{length_records_of}
 use Rattle.subscriber_stream.specs.declared.waiting.Waiting.{Waiting}
 use Rattle.subscriber_stream.specs.Shapes.{with_shape}
-use Rattle.subscriber_stream.specs.Items.{parts_of}
+use Rattle.subscriber_stream.specs.Items.{stream_parts}
 use Rattle.subscriber_stream.specs.Waiting.{items_in}
 use Rattle.subscriber_stream.proofs.Rooms.{shapes_with_run}
 use Rattle.subscriber_stream.proofs.Standings.{queued_entries}
@@ -83,4 +83,4 @@ invariant_of-self c =
 
 pub returns : goal.returns
 returns c =
-    rw c.len-count.ensures.value (given_run-view c.args.self.now c.args.next _ _ _ _ _ _ _ _ (sym c.self.view_is) (takes c).some (takes c).shapes (ap (λ (ws : List Waiting). parts_of c.place_reserved-place.new.self.shapes (items_in ws)) (queue_is c) ∙ (taken c.self.inside.shapes c.place_reserved-place.new.self c.self.inside.queue.items _ _ _ _ _ _ _ c.self.invariant (takes c)).1))
+    rw c.len-count.ensures.value (given_run-view c.args.self.now c.args.next _ _ _ _ _ _ _ _ (sym c.self.view_is) (takes c).some (takes c).shapes (ap (λ (ws : List Waiting). stream_parts c.place_reserved-place.new.self.shapes (items_in ws)) (queue_is c) ∙ (taken c.self.inside.shapes c.place_reserved-place.new.self c.self.inside.queue.items _ _ _ _ _ _ _ c.self.invariant (takes c)).1))
