@@ -10,5 +10,6 @@ pub mod PlanLaws
 pub mod CacheLaws
 pub mod OutputLaws
 pub mod TextLaws
+pub mod StretchLaws
 pub mod StepLaws
 pub mod ReasonLaws

@@ -1,6 +1,8 @@
 -- Plans: what they show, and of which records.
-use Rattle.std.proofs.Common.{◌≡◌, ◌≢◌, ℕ, List, sym, ap, subst, refl}
+use Rattle.std.proofs.Common.{◌≡◌, ◌≢◌, ℕ, List, sym, ap, subst, refl, ◌∙◌}
 use Rattle.std.specs.Arc.{arc_value}
+use Rattle.sequences.specs.Octets.{AreOctets}
+use Rattle.ipfix_template.specs.Values.{record_text}
 use Rattle.ipfix_template.specs.declared.field.FieldSpec.{FieldSpec}
 use Rattle.ipfix_template.specs.declared.template.Template.{Template}
 use Rattle.ipfix_template.proofs.TextLaws.{kept_from, kept_is}
@@ -12,11 +14,12 @@ use Rattle.policy_judge.specs.declared.verdict.ElementVerdict.{ElementVerdict}
 use Rattle.disclosure_audit.specs.declared.entry.RemovedField.{RemovedField}
 use Rattle.flow_anonymize.specs.declared.steps.Step.{Step}
 use Rattle.flow_anonymize.specs.declared.disclosure.Disclosure.TheVariants.{Passed, Aggregated, Withheld}
-use Rattle.flow_anonymize.specs.Outcome.{Outcome, IsKeptAsText}
+use Rattle.flow_anonymize.specs.declared.plan.Passing.{Passing}
+use Rattle.flow_anonymize.specs.Outcome.{Outcome, passed_text, IsKeptAsText}
 use Rattle.flow_anonymize.specs.Remaining.{kept_fields, kept_values, removed_fields}
 use Rattle.flow_anonymize.specs.Within.{AreJudged}
 use Rattle.flow_anonymize.specs.Disclosed.{remaining, first_lost, transformed, by_action}
-use Rattle.flow_anonymize.specs.Steps.{AreSteps}
+use Rattle.flow_anonymize.specs.Steps.{AreSteps, steps_in, shown_by}
 use Rattle.flow_anonymize.specs.Planning.{Plan, planned, passing_record, ShowsRecord, IsShowable, ShowsNone, IsPlanFrom}
 use Rattle.flow_anonymize.proofs.Sound.{left_is_sound}
 use Rattle.flow_anonymize.proofs.PermittedLaws.{passed_by}
@@ -47,7 +50,7 @@ showable r verdict ws (Passed passing removed) judged is =
     let kept : DataRecord = passing_record passing r.values in
     let passed = passed_by verdict.action verdict.rule (first_lost r.template.scope (removed_fields ws)) (remaining r ws) (removed_fields ws) kept removed (sym (is.leaves r.values)) in
     let left = left_is_sound r ws judged.sound judged.each passed.none_lost passed.has_octets in
-    let P : List ElementVerdict → Type 0 = λ ws. ShowsRecord r (arc_value passing.template) ws passing.steps.items in
+    let P : List ElementVerdict → Type 0 = λ ws. ShowsRecord r (arc_value passing.template) ws (steps_in passing.steps) in
     let fields : (arc_value passing.template).fields ≡ kept_fields r.template.fields ws = ap (λ (x : DataRecord). x.template.fields) (sym passed.record_is) in
     let values : kept_values r.values ws ≡ kept.values = ap (λ (x : DataRecord). x.values) passed.record_is in
     let sound : IsSound (record { template = arc_value passing.template; values = kept_values r.values ws }) = subst (λ (v : List (List ℕ)). IsSound (record { template = arc_value passing.template; values = v })) (sym values) (subst IsSound passed.record_is left) in
@@ -64,6 +67,15 @@ kept_as_text (Passed passing removed) r shows =
     record { is_kept = kept_from (arc_value passing.template) values _ shows.sound refl; same = kept_is (arc_value passing.template) values _ shows.sound.fit refl }
 kept_as_text (Aggregated rule definition) r shows = tt
 kept_as_text (Withheld rule reason) r shows = tt
+
+-- the steps show it of the record's text
+pub shows_text : (plan : Plan) (passing : Passing) (removed : List RemovedField) (r : DataRecord) (octets : List ℕ) → plan ≡ Passed passing removed → IsShowable plan r → IsSound r → octets ≡ record_text r.template.fields r.values → AreOctets octets
+    → shown_by (steps_in passing.steps) octets ≡ passed_text (planned plan r.values)
+shows_text plan passing removed r octets is showable sound text all =
+    let shows : ShowsRecord r (arc_value passing.template) passing.verdicts.items (steps_in passing.steps) = subst (λ (p : Plan). IsShowable p r) is showable in
+    let values = kept_values r.values passing.verdicts.items in
+    ap (shown_by (steps_in passing.steps)) text ∙ shows.by_steps r.values sound.fit (subst AreOctets text all) ∙ ap (λ (fs : List FieldSpec). record_text fs values) (sym shows.fields)
+    ∙ ap (λ (p : Plan). passed_text (planned p r.values)) (sym is)
 
 -- ---- steps that are made for equal fields and verdicts
 

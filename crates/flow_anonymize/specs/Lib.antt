@@ -31,4 +31,5 @@ pub mod Output
 pub mod PlanCache
 pub use Rattle.ipfix_records.specs.Runs
 pub use Rattle.ipfix_records.specs.Pieces
+pub mod Stretches
 pub mod Steps

@@ -13,7 +13,7 @@ use Rattle.flow_anonymize.specs.declared.plan.Passing.{Passing}
 use Rattle.flow_anonymize.specs.Outcome.{Outcome}
 use Rattle.flow_anonymize.specs.Remaining.{kept_fields, kept_values}
 use Rattle.flow_anonymize.specs.Within.{FitActions}
-use Rattle.flow_anonymize.specs.Steps.{AreSteps}
+use Rattle.flow_anonymize.specs.Steps.{AreSteps, steps_in}
 use Rattle.flow_anonymize.specs.Disclosed.{transformed, by_verdict}
 
 abbrev pub Plan : Type 0
@@ -40,7 +40,7 @@ pub record ShowsRecord (r : DataRecord) (t : Template) (verdicts : List ElementV
 
 -- what a plan needs of a record, if something of it is shown
 abbrev pub IsShowable : Plan → DataRecord → Type 0
-IsShowable (Passed passing removed) r = ShowsRecord r (arc_value passing.template) passing.verdicts.items passing.steps.items
+IsShowable (Passed passing removed) r = ShowsRecord r (arc_value passing.template) passing.verdicts.items (steps_in passing.steps)
 IsShowable (Aggregated rule definition) r = Unit {0}
 IsShowable (Withheld rule reason) r = Unit {0}
 
@@ -52,7 +52,7 @@ ShowsNone (Withheld rule reason) = Unit {0}
 
 -- what is shown of records with these fields is shown by these verdicts, and by steps for them
 abbrev pub ShowsBy : List FieldSpec → List ElementVerdict → Plan → Type 0
-ShowsBy fields verdicts (Passed passing removed) = (passing.verdicts.items ≡ verdicts) × AreSteps fields verdicts passing.steps.items
+ShowsBy fields verdicts (Passed passing removed) = (passing.verdicts.items ≡ verdicts) × AreSteps fields verdicts (steps_in passing.steps)
 ShowsBy fields verdicts (Aggregated rule definition) = Unit {0}
 ShowsBy fields verdicts (Withheld rule reason) = Unit {0}
 

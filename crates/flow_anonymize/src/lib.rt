@@ -6,8 +6,8 @@
 //! - `disclosure`: [`Disclosure`], with [`RemovedFields`] and [`Reason`] of the audit.
 //! - `transform`: [`disclose`]; `by_table`: [`disclose_by`], by a table of the rules.
 //! - `fields`: the verdict on each field, and which fields stay; `plan`: what becomes of all
-//!   records for which the verdicts are equal; `steps`, `change`, `values`: what is shown of a
-//!   record's octets.
+//!   records for which the verdicts are equal; `steps`, `stretch`, `change`, `values`: what is shown
+//!   of a record's octets.
 //! - `plans`: [`Plans`], which keeps plans for records that come again, in a `plan_cache` of slots, for
 //!   as long as it lives; `output`: the records that pass, as runs; `record_classes`:
 //!   [`RecordClasses`].
@@ -41,6 +41,7 @@ mod plans;
 mod record_classes;
 mod slot;
 mod steps;
+mod stretch;
 mod transform;
 mod values;
 

@@ -9,7 +9,7 @@ ghost use Rattle.flow_anonymize.specs.Disclosed.{remaining_template, first_lost,
 
 use crate::disclosure::Disclosure;
 use crate::fields::{kept_fields, removed_fields};
-use crate::steps::{Step, put_by_steps, steps_of};
+use crate::steps::{Steps, octets_for_proof, put_by_steps, steps_of};
 use crate::values::kept_text;
 use disclosure_audit::{Reason, RemovedField, RemovedFields};
 use ipfix_template::{Fields, Record, RecordView, Template};
@@ -25,7 +25,7 @@ pub(crate) type Plan = Disclosure<Passing>;
 pub(crate) struct Passing {
     template: Arc<Template>,
     verdicts: Vec<ElementVerdict>,
-    steps: Vec<Step>,
+    steps: Steps,
 }
 
 impl Disclosure<Passing> {
@@ -148,7 +148,9 @@ impl Disclosure<Passing> {
     {
         match self {
             Disclosure::Passed { kept, .. } => {
-                put_by_steps(&kept.steps, flow_record.as_octets(), text)
+                let octets = flow_record.as_octets();
+                octets_for_proof(octets);
+                put_by_steps(&kept.steps, octets, text)
             }
             Disclosure::Aggregated { .. } => Ok(()),
             Disclosure::Withheld { .. } => Ok(()),
@@ -193,6 +195,7 @@ impl Disclosure<Passing> {
 ghost use Rattle.flow_anonymize.specs.declared.disclosure.Disclosure.TheVariants.{Passed};
 ghost use Rattle.flow_anonymize.specs.Remaining.{kept_values};
 ghost use Rattle.flow_anonymize.specs.Planning.{ShowsRecord};
+ghost use Rattle.flow_anonymize.specs.Steps.{steps_in};
 
 /// The record that passes.
 fn pass(
@@ -200,10 +203,11 @@ fn pass(
     template: &Arc<Template>,
     removed: &RemovedFields,
     verdicts: &[ElementVerdict],
-    steps: &[Step],
+    steps: &Steps,
     flow_record: &Record,
 ) -> Result<Disclosure<Record>, AllocError>
-    requires { ShowsRecord flow_record.now (arc_value template.now) verdicts.now steps.now }
+    requires { ShowsRecord
+        flow_record.now (arc_value template.now) verdicts.now (steps_in steps.now) }
     ensures { IfOk result (λ d. d ≡ Passed (record {
       template = arc_value template.now;
       values = kept_values flow_record.now.values verdicts.now;

@@ -1,10 +1,14 @@
 //! What is shown of a record, by a few steps over its octets that are worked out once for a plan.
-ghost use Rattle.std.specs.Prelude.{◌≡◌, ◌+◌, ◌≤◌, ◌++◌, ◌∷◌, [], List, length, take, drop, IfOk, IfSome, OnOk, OnErr};
+ghost use Rattle.std.specs.Prelude.{◌≡◌, ◌+◌, ◌≤◌, ◌++◌, ◌∷◌, [], List, length, take, drop, map, IfOk, IfSome, OnOk, OnErr};
+ghost use Rattle.sequences.specs.Octets.{AreOctets};
 ghost use Rattle.flow_anonymize.specs.declared.steps.Step.{Step};
 ghost use Rattle.flow_anonymize.specs.Changes.{changed_value};
-ghost use Rattle.flow_anonymize.specs.Steps.{variable_span, shown_at, behind, shown_by, step_of, changed_step, ShowAlike, AreSteps};
+ghost use Rattle.flow_anonymize.specs.declared.steps.Step.TheVariants.{Octets};
+ghost use Rattle.flow_anonymize.specs.Stretches.{zeroed, stretch_shown};
+ghost use Rattle.flow_anonymize.specs.Steps.{variable_span, shown_at, behind, shown_by, steps_in, step_of, truncating_step, changed_step, ShowAlike, AreSteps};
 
 use crate::change::{Change, put_changed};
+use crate::stretch::{Stretch, behind, put_stretches, split};
 use ipfix_octets::read_varlen;
 use ipfix_template::FieldSpec;
 use policy_judge::{ElementAction, ElementVerdict};
@@ -13,10 +17,8 @@ use std::alloc::{AllocError, Global};
 /// A step over the octets of a record's values.
 #[derive(Clone, Copy)]
 pub(crate) enum Step {
-    /// This many octets are shown as they stand.
-    Show(usize),
-    /// This many octets are left out.
-    Skip(usize),
+    /// Octets whose number the template fixes.
+    Octets(Stretch),
     /// A value of variable length is shown as it stands, behind its length (RFC 7011, section 7).
     ShowVariable,
     /// A value of variable length is left out, and its length too.
@@ -27,6 +29,15 @@ pub(crate) enum Step {
     ChangedVariable(Change),
 }
 
+/// Steps over the octets of a record's values, one after another.
+#[derive(Drop)]
+pub(crate) enum Steps {
+    /// Each is over octets whose number the template fixes.
+    Fixed(Vec<Stretch>),
+    /// Some are over values of variable length, or change values.
+    Mixed(Vec<Step>),
+}
+
 /// The steps for records of these fields by these verdicts.
 ///
 /// # Errors
@@ -35,11 +46,26 @@ pub(crate) fn steps_of(
     alloc: Global,
     fields: &[FieldSpec],
     verdicts: &[ElementVerdict],
+) -> Result<Steps, AllocError>
+    ensures { IfOk result (λ steps. AreSteps fields.now verdicts.now (steps_in steps)) }
+{
+    let steps = made_steps(alloc, fields, verdicts)?;
+    match stretches_of(alloc, &steps)? {
+        Some(stretches) => Ok(Steps::Fixed(stretches)),
+        None => Ok(Steps::Mixed(steps)),
+    }
+}
+
+/// The steps for these fields by these verdicts, as few as they can be joined to.
+fn made_steps(
+    alloc: Global,
+    fields: &[FieldSpec],
+    verdicts: &[ElementVerdict],
 ) -> Result<Vec<Step>, AllocError>
     ensures { IfOk result (λ steps. AreSteps fields.now verdicts.now steps.items) }
 {
     let mut steps = Vec::new(alloc);
-    let mut last = Step::Show(0);
+    let mut last = Step::Octets(Stretch::of(0, 0, 0));
     'fields: for (field, verdict) in fields.iter().zip(verdicts) {
         let next = step_of(field, verdict.action);
         last = join(last, next, &mut steps)?;
@@ -52,16 +78,27 @@ pub(crate) fn steps_of(
 fn step_of(field: &FieldSpec, action: ElementAction) -> Step
     ensures { result ≡ step_of field.now action }
 {
-    let variable = field.is_variable();
     let octets = usize::from(field.length);
     match action {
-        ElementAction::Keep if variable => Step::ShowVariable,
-        ElementAction::Keep => Step::Show(octets),
-        ElementAction::Remove if variable => Step::SkipVariable,
-        ElementAction::Remove => Step::Skip(octets),
-        ElementAction::Truncate(bits) => changed_step(field, Change::Truncate(bits)),
+        ElementAction::Keep if field.is_variable() => Step::ShowVariable,
+        ElementAction::Keep => Step::Octets(Stretch::of(octets, 0, 0)),
+        ElementAction::Remove if field.is_variable() => Step::SkipVariable,
+        ElementAction::Remove => Step::Octets(Stretch::of(0, 0, octets)),
+        ElementAction::Truncate(bits) => truncating_step(field, bits),
         ElementAction::Degrade(seconds) => changed_step(field, Change::Degrade(seconds)),
     }
+}
+
+/// The step for a field of which the values keep their first bits: where these fill octets, they stay as they stand.
+fn truncating_step(field: &FieldSpec, bits: usize) -> Step
+    ensures { result ≡ truncating_step field.now bits }
+{
+    if field.is_variable() || bits % 8 != 0 {
+        return changed_step(field, Change::Truncate(bits));
+    }
+    let octets = usize::from(field.length);
+    let whole = octets.min(bits / 8);
+    Step::Octets(Stretch::of(whole, octets - whole, 0))
 }
 
 /// The step for a field of which the values are changed.
@@ -91,19 +128,16 @@ fn join(last: Step, next: Step, steps: &mut Vec<Step>) -> Result<Step, AllocErro
     }
 }
 
-/// One step in place of two neighbours that both show octets as they stand, or both leave octets out, or of which one takes no
-/// octets: so each step but the last takes some, and a record has no more steps than octets.
+/// One step in place of two neighbours over octets whose number is fixed, or of which one takes no octets: so each step but the
+/// last takes some, and a record has no more steps than octets.
 fn joined(last: Step, next: Step) -> Option<Step>
     ensures { IfSome result
         (λ both. (after : List Step) → ShowAlike (both ∷ after) (last ∷ next ∷ after)) }
 {
     match (last, next) {
-        (Step::Show(0), next) => Some(next),
-        (Step::Skip(0), next) => Some(next),
-        (last, Step::Show(0)) => Some(last),
-        (last, Step::Skip(0)) => Some(last),
-        (Step::Show(front), Step::Show(back)) => Some(Step::Show(front.checked_add(back)?)),
-        (Step::Skip(front), Step::Skip(back)) => Some(Step::Skip(front.checked_add(back)?)),
+        (Step::Octets(front), Step::Octets(back)) => Some(Step::Octets(front.joined(back)?)),
+        (Step::Octets(none), next) if none.is_empty() => Some(next),
+        (last, Step::Octets(none)) if none.is_empty() => Some(last),
         _ => None,
     }
 }
@@ -113,23 +147,57 @@ fn end(last: Step, steps: &mut Vec<Step>) -> Result<(), AllocError>
     ensures { OnOk result (ShowAlike steps.new.items (steps.old.items ++ last ∷ [])) }
 {
     match last {
-        Step::Show(0) => {}
-        Step::Skip(_) => {}
+        Step::Octets(stretch) if stretch.shows_none() => {}
         Step::SkipVariable => {}
         _ => steps.push(last)?,
     }
     Ok(())
 }
 
+/// The stretches of steps, where all are over octets whose number is fixed.
+fn stretches_of(alloc: Global, steps: &[Step]) -> Result<Option<Vec<Stretch>>, AllocError>
+    ensures { IfOk result
+        (λ found. IfSome found (λ stretches. map Octets stretches.items ≡ steps.now)) }
+{
+    let mut stretches = Vec::with_capacity(alloc, steps.len())?;
+    for step in steps {
+        match step {
+            Step::Octets(stretch) => stretches.push(*stretch)?,
+            _ => return Ok(None),
+        }
+    }
+    Ok(Some(stretches))
+}
+
+/// Tells proofs that octets are less than 256, by their type. It does nothing.
+pub(crate) fn octets_for_proof(octets: &[u8])
+    ensures { AreOctets octets.now }
+{}
+
 /// Appends what the steps show of octets.
 ///
 /// # Errors
 /// Want of memory, and then nothing is appended.
 pub(crate) fn put_by_steps(
-    steps: &[Step],
+    steps: &Steps,
     octets: &[u8],
     text: &mut Vec<u8>,
 ) -> Result<(), AllocError>
+    ensures ok { OnOk result
+        (text.new.items ≡ text.old.items ++ shown_by (steps_in steps.now) octets.now) }
+    ensures err { OnErr result (text.new.items ≡ text.old.items) }
+{
+    match steps {
+        Steps::Fixed(stretches) => put_stretches(stretches, octets, text),
+        Steps::Mixed(steps) => put_all_steps(steps, octets, text),
+    }
+}
+
+/// Appends what the steps show of octets.
+///
+/// # Errors
+/// Want of memory, and then nothing is appended.
+fn put_all_steps(steps: &[Step], octets: &[u8], text: &mut Vec<u8>) -> Result<(), AllocError>
     ensures ok { OnOk result (text.new.items ≡ text.old.items ++ shown_by steps.now octets.now) }
     ensures err { OnErr result (text.new.items ≡ text.old.items) }
 {
@@ -161,14 +229,9 @@ fn put_step<'o>(step: Step, octets: &'o [u8], text: &mut Vec<u8>) -> Result<&'o 
     ensures err { OnErr result (take (length text.old.items) text.new.items ≡ text.old.items) }
 {
     match step {
-        Step::Show(count) => {
-            let (here, rest) = split(octets, count);
-            text.extend_from_slice(here)?;
-            Ok(rest)
-        }
-        Step::Skip(count) => {
-            let (_, rest) = split(octets, count);
-            Ok(rest)
+        Step::Octets(stretch) => {
+            put_shown_and_zeros(stretch, octets, text)?;
+            Ok(behind(stretch, octets))
         }
         Step::ShowVariable => {
             let (start, len) = variable_span(octets);
@@ -197,12 +260,30 @@ fn put_step<'o>(step: Step, octets: &'o [u8], text: &mut Vec<u8>) -> Result<&'o 
     }
 }
 
-/// The first `count` octets, or all where there are fewer, and those behind them.
-fn split(octets: &[u8], count: usize) -> (&[u8], &[u8])
-    ensures front { result.0.now ≡ take count octets.now }
-    ensures back { result.1.now ≡ drop count octets.now }
+/// Appends what a stretch shows of octets.
+fn put_shown_and_zeros(
+    stretch: Stretch,
+    octets: &[u8],
+    text: &mut Vec<u8>,
+) -> Result<(), AllocError>
+    ensures ok { OnOk result (text.new.items ≡ text.old.items ++ stretch_shown stretch octets.now) }
+    ensures err { OnErr result (take (length text.old.items) text.new.items ≡ text.old.items) }
 {
-    octets.split_at(count.min(octets.len()))
+    let (here, behind) = split(octets, stretch.shown);
+    text.extend_from_slice(here)?;
+    let (hidden, _) = split(behind, stretch.zeros);
+    put_zeros(hidden.len(), text)
+}
+
+/// Appends `count` octets that are 0.
+fn put_zeros(count: usize, text: &mut Vec<u8>) -> Result<(), AllocError>
+    ensures ok { OnOk result (text.new.items ≡ text.old.items ++ zeroed count) }
+    ensures err { OnErr result (text.new.items ≡ text.old.items) }
+{
+    match text.len().checked_add(count) {
+        Some(length) => text.resize(length, 0),
+        None => Err(AllocError),
+    }
 }
 
 /// Where the value of variable length at the front of octets starts, and its length; both are 0 where none stands there.

@@ -3,10 +3,10 @@ ghost use Rattle.std.specs.Prelude.{◌≡◌, length, IfOk};
 ghost use Rattle.std.specs.List.{list_all};
 ghost use Rattle.ipfix_template.specs.Values.{record_text};
 ghost use Rattle.flow_anonymize.specs.Remaining.{kept_fields, kept_values};
-ghost use Rattle.flow_anonymize.specs.Steps.{shown_by, AreSteps};
+ghost use Rattle.flow_anonymize.specs.Steps.{shown_by, steps_in, AreSteps};
 ghost use Rattle.flow_anonymize.specs.Within.{is_whole};
 
-use crate::steps::{Step, put_by_steps};
+use crate::steps::{Steps, octets_for_proof, put_by_steps};
 use bytes::Bytes;
 use ipfix_template::Record;
 use policy_judge::{ElementAction, ElementVerdict};
@@ -18,9 +18,10 @@ pub(crate) fn kept_text(
     alloc: Global,
     flow_record: &Record,
     verdicts: &[ElementVerdict],
-    steps: &[Step],
+    steps: &Steps,
 ) -> Result<Bytes, AllocError>
-    requires by_steps { AreSteps flow_record.now.template.fields verdicts.now steps.now }
+    requires by_steps { AreSteps
+        flow_record.now.template.fields verdicts.now (steps_in steps.now) }
     requires each { length verdicts.now ≡ length flow_record.now.template.fields }
     ensures { IfOk result (λ text. text
         ≡ record_text (kept_fields flow_record.now.template.fields verdicts.now)
@@ -30,6 +31,7 @@ pub(crate) fn kept_text(
     if are_whole(verdicts) {
         return octets.clone();
     }
+    octets_for_proof(octets);
     written_text(alloc, octets, steps)
 }
 
@@ -50,8 +52,8 @@ fn is_whole(verdict: &ElementVerdict) -> bool
 }
 
 /// What steps show of octets.
-fn written_text(alloc: Global, octets: &[u8], steps: &[Step]) -> Result<Bytes, AllocError>
-    ensures { IfOk result (λ text. text ≡ shown_by steps.now octets.now) }
+fn written_text(alloc: Global, octets: &[u8], steps: &Steps) -> Result<Bytes, AllocError>
+    ensures { IfOk result (λ text. text ≡ shown_by (steps_in steps.now) octets.now) }
 {
     let mut text = Vec::with_capacity(alloc, octets.len())?;
     put_by_steps(steps, octets, &mut text)?;

@@ -307,7 +307,7 @@ impl Replay {
         let Some(open) = self.exporters.in_turn(session, number) else {
             return Err(self.bad());
         };
-        see_octets(octets);
+        octets_for_proof(octets);
         match open.session.read(octets) {
             Ok(reading) => Ok(reading),
             Err(ReadError::OutOfMemory) => Err(Fault::OutOfMemory),
@@ -475,6 +475,6 @@ impl Replay {
 ghost use Rattle.sequences.specs.Octets.{AreOctets};
 
 /// Tells proofs that the octets of `message` are less than 256, by their type. It does nothing.
-fn see_octets(message: &[u8])
+fn octets_for_proof(message: &[u8])
     ensures { AreOctets message.now }
 {}

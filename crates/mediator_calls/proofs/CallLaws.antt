@@ -132,7 +132,7 @@ pub edits : (s t : State KeptJournal) (text : List ℕ) (n : ℕ) → StandsForJ
 edits s t text n stands edited untouched journaled = record {
   policy = edited.policy;
   spelled = edited.spelled;
-  number = edited.number;
+  revision = edited.revision;
   goes_on = goes_on s t (Edit text ∷ []) stands edited.accepts untouched journaled;
 }
 

@@ -110,11 +110,11 @@ RefusesAdvance _ m t = ⊥
 
 -- ---- policies
 
--- the number of edits so far
+-- its revision is the number of edits so far
 pub record Edits (old : Mediation) (text : List ℕ) (n : ℕ) (new : Mediation) : Type 0 where
   pub policy : Policy
   pub spelled : policy_of text ≡ Ok policy
-  pub number : n ≡ edits_made old.history + 1
+  pub revision : n ≡ edits_made old.history + 1
   pub goes_on : GoesOn old (Edit text ∷ []) new
 
 -- ---- subscriptions

@@ -62,7 +62,7 @@ pub enum Reply {
     Closed,
     /// The message was accepted, and this is what became of it.
     Received(Receipt),
-    /// The policy was put in force. This is the number of edits, with it.
+    /// The policy was put in force. This is its revision: the number of edits, with it.
     Edited(u64),
     /// The subscription began. This is its number.
     Subscribed(SubId),

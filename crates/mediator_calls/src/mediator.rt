@@ -224,13 +224,13 @@ impl Mediator {
         self.state.receive_prepared(session, number, prepared)
     }
 
-    /// Puts the policy that `text` spells in force, and answers how many edits there were then. What was accepted
-    /// before is judged by the policy of its time, and running groups close as they stand.
+    /// Puts the policy that `text` spells in force, and answers its revision: the number of edits, with it. What was
+    /// accepted before is judged by the policy of its time, and running groups close as they stand.
     ///
     /// # Errors
     /// [`Fault::Policy`] where the text is no policy, [`Fault::JournalFull`] or [`Fault::OutOfMemory`].
     pub fn edit(&mut self, text: &str) -> Result<u64, Fault>
-        ensures ok { IfOk result (λ edits. Edits self.old text.now edits self.new) }
+        ensures ok { IfOk result (λ revision. Edits self.old text.now revision self.new) }
         ensures unchanged { OnErr result (self.new ≡ self.old) }
         ensures err { IfErr result (λ e.
             RefusesEdit e (journal_limits self.old.limits) self.old.history text.now) }

@@ -175,8 +175,8 @@ holds_after sub old (call.Close session) reply.Closed new messages p is h =
 holds_after sub old (call.Receive session number message) (reply.Received receipt) new messages p is h =
     silent sub old (call.Receive session number message) (reply.Received receipt) new messages p refl refl
     (holds_on sub old new _ messages p is.goes_on (unswitched sub old.history _ (cuts_switch_none sub (Message session.0 number message) _ refl)) h)
-holds_after sub old (call.Edit text) (reply.Edited edits) new messages p is h =
-    silent sub old (call.Edit text) (reply.Edited edits) new messages p refl refl (holds_on sub old new _ messages p is.goes_on (unswitched sub old.history _ (refl, tt)) h)
+holds_after sub old (call.Edit text) (reply.Edited revision) new messages p is h =
+    silent sub old (call.Edit text) (reply.Edited revision) new messages p refl refl (holds_on sub old new _ messages p is.goes_on (unswitched sub old.history _ (refl, tt)) h)
 holds_after sub old (call.Subscribe name) (reply.Subscribed s) new messages p is h =
     silent sub old (call.Subscribe name) (reply.Subscribed s) new messages p refl refl (holds_begun sub s.0 old new _ messages p is h)
 holds_after sub old (call.Unsubscribe s) reply.Unsubscribed new messages p is h =

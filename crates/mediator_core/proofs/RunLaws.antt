@@ -150,7 +150,7 @@ entry_added : (old : Mediation) (c : Call) (r : Reply) (new : Mediation) → Ans
 entry_added old call.Open (reply.Opened session) new is = entries_on old new _ _ is.goes_on refl
 entry_added old (call.Close session) reply.Closed new is = entries_on old new _ _ is.goes_on refl
 entry_added old (call.Receive session number message) (reply.Received receipt) new is = with_cuts_adds old new (Message session.0 number message) refl is.goes_on
-entry_added old (call.Edit text) (reply.Edited edits) new is = entries_on old new _ _ is.goes_on refl
+entry_added old (call.Edit text) (reply.Edited revision) new is = entries_on old new _ _ is.goes_on refl
 entry_added old (call.Subscribe name) (reply.Subscribed sub) new is = entries_on old new _ _ is.goes_on refl
 entry_added old (call.Unsubscribe sub) reply.Unsubscribed new is = entries_on old new _ _ is.goes_on refl
 entry_added old (call.Advance t) reply.Advanced new is = with_cuts_adds old new (Advance t) refl is.goes_on
@@ -246,7 +246,7 @@ drained_after : (old : Mediation) (c : Call) (r : Reply) (new : Mediation) (out 
 drained_after old call.Open (reply.Opened session) new out is d = drained_on old new _ out is.goes_on d
 drained_after old (call.Close session) reply.Closed new out is d = drained_on old new _ out is.goes_on d
 drained_after old (call.Receive session number message) (reply.Received receipt) new out is d = drained_on old new _ out is.goes_on d
-drained_after old (call.Edit text) (reply.Edited edits) new out is d = drained_on old new _ out is.goes_on d
+drained_after old (call.Edit text) (reply.Edited revision) new out is d = drained_on old new _ out is.goes_on d
 drained_after old (call.Subscribe name) (reply.Subscribed sub) new out is d = drained_on old new _ out is.goes_on d
 drained_after old (call.Unsubscribe sub) reply.Unsubscribed new out is d = drained_on old new _ out is.goes_on d
 drained_after old (call.Advance t) reply.Advanced new out is d = drained_on old new _ out is.goes_on d

@@ -40,7 +40,7 @@ Answers old c (reply.Refused why) new = Refuses old c why × (new ≡ old)
 Answers old call.Open (reply.Opened session) new = Opens old session.0 new
 Answers old (call.Close session) reply.Closed new = Closes old session.0 new
 Answers old (call.Receive session number message) (reply.Received receipt) new = Receives old session.0 number message receipt new
-Answers old (call.Edit text) (reply.Edited edits) new = Edits old (string_bytes text) edits new
+Answers old (call.Edit text) (reply.Edited revision) new = Edits old (string_bytes text) revision new
 Answers old (call.Subscribe name) (reply.Subscribed sub) new = Subscribes old (string_bytes name) sub.0 new
 Answers old (call.Unsubscribe sub) reply.Unsubscribed new = Unsubscribes old sub.0 new
 Answers old (call.Advance t) reply.Advanced new = Advances old t new
@@ -72,7 +72,7 @@ abbrev pub entry_in : Call → Reply → List Entry
 entry_in call.Open (reply.Opened session) = entry.Open session.0 ∷ []
 entry_in (call.Close session) reply.Closed = entry.Close session.0 ∷ []
 entry_in (call.Receive session number message) (reply.Received receipt) = entry.Message session.0 number message ∷ []
-entry_in (call.Edit text) (reply.Edited edits) = entry.Edit (string_bytes text) ∷ []
+entry_in (call.Edit text) (reply.Edited revision) = entry.Edit (string_bytes text) ∷ []
 entry_in (call.Subscribe name) (reply.Subscribed sub) = entry.Subscribe sub.0 (string_bytes name) ∷ []
 entry_in (call.Unsubscribe sub) reply.Unsubscribed = entry.Unsubscribe sub.0 ∷ []
 entry_in (call.Advance t) reply.Advanced = entry.Advance t ∷ []

@@ -38,7 +38,7 @@ fn answer(mediator: &mut Mediator, call: Call) -> Reply
             message,
         } => answer_receive(mediator, session, number, message),
         Call::Edit { text } => match mediator.edit(text.as_str()) {
-            Ok(edits) => Reply::Edited(edits),
+            Ok(revision) => Reply::Edited(revision),
             Err(fault) => Reply::Refused(fault),
         },
         Call::Subscribe { name } => match mediator.subscribe(name.as_str()) {

@@ -42,7 +42,7 @@ kept_after old call.Open (reply.Opened session) new is so = goes_on_kept old new
 kept_after old (call.Close session) reply.Closed new is so = goes_on_kept old new (Close session.0) is.goes_on so is.opened
 kept_after old (call.Receive session number message) (reply.Received receipt) new is so =
     cuts_kept old new (Message session.0 number message) is.goes_on so (accepted_message old new session.0 number message receipt is)
-kept_after old (call.Edit text) (reply.Edited edits) new is so =
+kept_after old (call.Edit text) (reply.Edited revision) new is so =
     goes_on_kept old new (Edit (string_bytes text)) is.goes_on so (record { policy = is.policy; spelled = is.spelled })
 kept_after old (call.Subscribe name) (reply.Subscribed sub) new is so =
     goes_on_kept old new (Subscribe sub.0 (string_bytes name)) is.goes_on so (record { number = is.number; named = is.named; free = is.free })

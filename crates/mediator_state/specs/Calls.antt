@@ -185,11 +185,11 @@ RefusesAdvanceAfter _ limits e h t = ⊥
 
 -- ---- policies
 
--- the number of edits so far
+-- its revision is the number of edits so far
 pub record EditsAfter (text : List ℕ) (n : ℕ) (h : List Entry) (accepted : List Entry → Type 0) : Type 0 where
   pub policy : Policy
   pub spelled : policy_of text ≡ Ok policy
-  pub number : n ≡ edits_made h + 1
+  pub revision : n ≡ edits_made h + 1
   pub accepts : accepted (Edit text ∷ [])
 
 pub record HasPolicy (text : List ℕ) : Type 0 where

@@ -5,7 +5,7 @@ ghost use Rattle.event_journal.specs.declared.entry.Entry.TheVariants.{Advance};
 ghost use Rattle.mediator_tables.specs.SubscriptionTable.{shown};
 
 use crate::engine::Engine;
-use crate::plan::see_shares;
+use crate::plan::shares_for_proof;
 use mediator_tables::{Served, Share, SubId};
 use std::alloc::{AllocError, Global};
 
@@ -35,7 +35,7 @@ impl Engine {
     {
         let served = self.subscriptions.served()?;
         let closing = self.close_for(t, &served)?;
-        see_shares(&closing.shares);
+        shares_for_proof(&closing.shares);
         Ok(closing)
     }
 

@@ -227,7 +227,7 @@ impl Engine {
     }
 
     /// Puts `in_force` in force, which [`with_policy`](Engine::with_policy) made, behind a history of `position`
-    /// entries; and answers how many edits there were then. It takes no memory.
+    /// entries; and answers its revision: the number of edits, with it. It takes no memory.
     pub(crate) fn put_in_force(&mut self, in_force: InForce, position: u64) -> u64
         requires somewhere { StandsSomewhere self.old position }
         requires short { position ≤ MOST_ENTRIES }

@@ -23,7 +23,7 @@ use mediator_shares::{InForce, Judgement, Notes, Shares};
 use mediator_tables::{OpenSession, Served, SessionId, Share, Subscriptions, Tally};
 use prepared_message::Prepared;
 use std::alloc::{AllocError, Global};
-use stream_meaning::see_records;
+use stream_meaning::records_for_proof;
 
 /// What a message would do.
 #[derive(Drop)]
@@ -258,7 +258,7 @@ fn judged_at(position: u64, cuts: Vec<u64>, left: Shares) -> Judged
     // Each record may be streamed, by its type.
     ensures streamable { AllByRecursion AreStreamed (map shown result.shares.items) }
 {
-    see_shares(&left.shares);
+    shares_for_proof(&left.shares);
     let behind = position + cuts.len() as u64;
     Judged {
         cuts,
@@ -343,15 +343,15 @@ fn share_left(
 }
 
 /// Tells proofs that the octets of `message` are less than 256, by their type. It does nothing.
-pub(crate) fn see_octets(message: &[u8])
+pub(crate) fn octets_for_proof(message: &[u8])
     ensures { AreOctets message.now }
 {}
 
 /// Tells proofs that each record of `shares` may be streamed, by its type. It changes nothing.
-pub(crate) fn see_shares(shares: &[Share])
+pub(crate) fn shares_for_proof(shares: &[Share])
     ensures { AllByRecursion AreStreamed (map shown shares.now) }
 {
     'shares: for share in shares {
-        see_records(&share.given);
+        records_for_proof(&share.given);
     }
 }

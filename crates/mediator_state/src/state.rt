@@ -10,7 +10,7 @@ ghost use Rattle.mediator_shares.specs.Judgements.{IsJudgementOf};
 
 use crate::engine::Engine;
 use crate::fault::Fault;
-use crate::plan::see_octets;
+use crate::plan::octets_for_proof;
 use crate::receipt::{Receipt, Status};
 use bytes::Bytes;
 use disclosure_audit::AuditEntry;
@@ -335,7 +335,7 @@ impl<C: Chronicle + Drop> State<C> {
             (λ h. RefusesReceiveAfter e (C.limits self.old.chronicle) self.old.engine h
             session.0 number message)) }
     {
-        see_octets(&message);
+        octets_for_proof(&message);
         let position = self.chronicle.len();
         let plan = self.engine.plan(position, session, reading, judgement)?;
         let message = Entry::Message {
@@ -353,8 +353,8 @@ impl<C: Chronicle + Drop> State<C> {
         Ok(self.engine.accept(position, plan, reserved))
     }
 
-    /// Puts the policy that `text` spells in force, and answers how many edits there were then. What was accepted
-    /// before is judged by the policy of its time, and running groups close as they stand.
+    /// Puts the policy that `text` spells in force, and answers its revision: the number of edits, with it. What was
+    /// accepted before is judged by the policy of its time, and running groups close as they stand.
     ///
     /// # Errors
     /// [`Fault::Policy`] where the text is no policy, [`Fault::JournalFull`] or [`Fault::OutOfMemory`]. Nothing has
@@ -362,8 +362,8 @@ impl<C: Chronicle + Drop> State<C> {
     pub fn edit(&mut self, text: &str) -> Result<u64, Fault>
         requires stands { StandsForSome C.tells self.old }
         // The entry of the call stands as the next one, and nothing is handed out.
-        ensures ok { IfOk result (λ n. Proceeds C.tells C.limits self.old self.new
-            (EditsAfter text.now n)) }
+        ensures ok { IfOk result (λ revision. Proceeds C.tells C.limits self.old self.new
+            (EditsAfter text.now revision)) }
         // A refused call changes nothing, and names the first cause.
         ensures unchanged { OnErr result (StaysSame C.tells C.limits self.old self.new) }
         ensures err { IfErr result (λ e. ForEachHistory C.tells self.old
@@ -375,9 +375,9 @@ impl<C: Chronicle + Drop> State<C> {
         let entry = Entry::Edit { text };
         let position = self.chronicle.len();
         self.make_room(&entry)?;
-        let edits = self.engine.put_in_force(in_force, position);
+        let revision = self.engine.put_in_force(in_force, position);
         self.chronicle.push_reserved(entry);
-        Ok(edits)
+        Ok(revision)
     }
 
     /// Begins a subscription for a subscriber of this `name`, and answers its number: 1 for the first one, and so on.

@@ -93,7 +93,7 @@ abbrev pub answer_text : Reply → List ℕ
 answer_text (reply.Opened session) = codes "ok " ++ decimal session.0 ++ 10 ∷ []
 answer_text reply.Closed = codes "ok" ++ 10 ∷ []
 answer_text (reply.Received receipt) = receipt_text receipt ++ 10 ∷ []
-answer_text (reply.Edited edits) = codes "ok " ++ decimal edits ++ 10 ∷ []
+answer_text (reply.Edited revision) = codes "ok " ++ decimal revision ++ 10 ∷ []
 answer_text (reply.Subscribed sub) = codes "ok " ++ decimal sub.0 ++ 10 ∷ []
 answer_text reply.Unsubscribed = codes "ok" ++ 10 ∷ []
 answer_text reply.Advanced = codes "ok" ++ 10 ∷ []

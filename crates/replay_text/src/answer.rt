@@ -42,7 +42,7 @@ pub fn answer_text(alloc: Global, reply: &Reply) -> Result<String, AllocError>
         Reply::Opened(session) => number_text(alloc, session.0),
         Reply::Closed | Reply::Unsubscribed | Reply::Advanced => String::from_str(alloc, "ok\n"),
         Reply::Received(receipt) => received_text(alloc, receipt),
-        Reply::Edited(edits) => number_text(alloc, *edits),
+        Reply::Edited(revision) => number_text(alloc, *revision),
         Reply::Subscribed(sub) => number_text(alloc, sub.0),
         Reply::Pulled(None) => String::from_str(alloc, "ok none\n"),
         Reply::Pulled(Some(message)) => message_text(alloc, message),

@@ -37,7 +37,8 @@ at_least-step cut cuts low high up rest (inl l) (inr m) = absurd (omega arith)
 at_least-step cut cuts low high up rest (inr l) (inl m) = omega (arith, none_more cut cuts low l, one_more cut cuts high m, rest)
 at_least-step cut cuts low high up rest (inr l) (inr m) = omega (arith, none_more cut cuts low l, none_more cut cuts high m, rest)
 
-at_least : (cuts : List ℕ) (low high : ℕ) → low ≤ high → class_of cuts low ≤ class_of cuts high
+-- a greater address has no smaller class
+pub at_least : (cuts : List ℕ) (low high : ℕ) → low ≤ high → class_of cuts low ≤ class_of cuts high
 at_least [] low high up = omega arith
 at_least (cut ∷ cuts) low high up = at_least-step cut cuts low high up (at_least cuts low high up) (cases_lt cut low) (cases_lt cut high)
 

@@ -1,8 +1,9 @@
 -- The cuts of rules, listed and sorted.
-use Rattle.std.proofs.Common.{◌≡◌, ℕ, ◌+◌, ◌-◌, ◌*◌, ◌≤◌, Bool, true, false, List, [], ◌∷◌, ◌++◌, length, Option, Some, None, IfSome, cond, refl, ap, sym, subst, arith, nat_lt, length-append}
-use Rattle.std.specs.List.{Contains, flat_map}
-use Rattle.std.specs.List.Sorted.{IsPermutation}
-use Rattle.std.proofs.lemmas.Bool.{lt-ltb}
+use Rattle.std.proofs.Common.{◌≡◌, ◌⊎◌, ℕ, ◌+◌, ◌-◌, ◌*◌, ◌<◌, ◌≤◌, eqb, get_or, inl, inr, Bool, true, false, List, [], ◌∷◌, ◌++◌, length, Option, Some, None, IfSome, cond, refl, ap, sym, subst, arith, nat_lt, length-append}
+use Rattle.std.specs.List.{Contains, dedup, flat_map}
+use Rattle.std.specs.List.Sorted.{IsNonDecreasing, IsStrictlyIncreasing, IsPermutation}
+use Rattle.std.proofs.lemmas.Bool.{cases_lt, lt-ltb}
+use Rattle.std.proofs.lemmas.List.Kept.{Contains-dedup_nat, AllPairs-from_increasing}
 use Rattle.std.proofs.lemmas.List.Concat.{flat_map-cons}
 use Rattle.std.proofs.lemmas.List.Sorted.{Contains-permutation, length_permutation}
 use Rattle.std.proofs.lemmas.List.Elements.{Contains-append_left, Contains-append_right}
@@ -70,6 +71,14 @@ sorted_few listed sorted rules same each few =
     let same_length : length listed ≡ length (flat_map cuts_of rules) = ap length same in
     omega (arith, length_permutation listed sorted each, same_length, few_cuts rules, few)
 
-pub sorted_have : (listed sorted : List ℕ) (rules : List Rule) → listed ≡ flat_map cuts_of rules → IsPermutation listed sorted → HaveCuts sorted rules
-sorted_have listed sorted rules same each =
-    have_cuts sorted rules (λ x there. Contains-permutation listed sorted x each (subst (λ xs. Contains xs x) (sym same) there))
+-- and when each is kept once
+pub once_have : (listed sorted once : List ℕ) (rules : List Rule) → listed ≡ flat_map cuts_of rules → IsPermutation listed sorted → once ≡ dedup eqb sorted → HaveCuts once rules
+once_have listed sorted once rules same each is =
+    have_cuts once rules (λ x there.
+    subst (λ (xs : List ℕ). Contains xs x) (sym is) (Contains-dedup_nat sorted x (Contains-permutation listed sorted x each (subst (λ xs. Contains xs x) (sym same) there))))
+
+pub increasing_ascends : (cuts : List ℕ) → IsStrictlyIncreasing cuts → IsNonDecreasing cuts
+increasing_ascends cuts up i j d le lt = by (cases_lt i j) where
+  by : (i < j) ⊎ (j ≤ i) → get_or cuts i d ≤ get_or cuts j d
+  by (inl less) = let below : get_or cuts i d < get_or cuts j d = AllPairs-from_increasing cuts up i j d less lt in omega (arith, below)
+  by (inr more) = let same : i ≡ j = omega (arith, le, more) in omega (arith, ap (λ k. get_or cuts k d) same)

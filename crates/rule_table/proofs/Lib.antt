@@ -13,6 +13,7 @@ pub mod CountLaws
 pub mod CutLaws
 pub mod KeyLaws
 pub mod NarrowLaws
+pub mod HeadLaws
 pub mod PlaceLaws
 pub mod ClassLaws
 pub mod CoverLaws

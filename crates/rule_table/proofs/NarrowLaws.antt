@@ -1,5 +1,5 @@
 -- How many of ascending cuts are below an address, by each 16th of them.
-use Rattle.std.proofs.Common.{◌≡◌, ◌⊎◌, ℕ, zero, suc, ◌+◌, ◌-◌, ◌*◌, ◌<◌, ◌≤◌, List, [], ◌∷◌, ◌++◌, cond, length, take, drop, get_or, ap, sym, ◌∙◌, arith, inl, inr, nat_lt, length-drop}
+use Rattle.std.proofs.Common.{◌≡◌, ◌⊎◌, ℕ, zero, suc, ◌+◌, ◌-◌, ◌*◌, ◌<◌, ◌≤◌, List, [], ◌∷◌, ◌++◌, cond, length, min, take, drop, get_or, ap, sym, ◌∙◌, arith, inl, inr, nat_lt, length-drop}
 use Rattle.std.specs.List.Sorted.{IsNonDecreasing}
 use Rattle.std.proofs.lemmas.Bool.{cases_lt, le-ltb}
 use Rattle.std.proofs.lemmas.List.{get_or-take, get_or-drop, get_or_append_left, length-take-le}
@@ -72,12 +72,19 @@ block_at cuts tops address n up are some whole is = record {
 in_block : (cuts : List ℕ) (from to j : ℕ) → j < to - from → get_or (take (to - from) (drop from cuts)) j 0 ≡ get_or cuts (from + j) 0
 in_block cuts from to j l = get_or-take (to - from) (drop from cuts) j 0 l ∙ get_or-drop from cuts j 0
 
--- the class is that of the cuts before the block, which are all below the address, and of the block
-pub class_in_block : (cuts : List ℕ) (address from to : ℕ) → IsNonDecreasing cuts → IsBlock cuts address from → to ≡ from + 16 → from + class_of (take (to - from) (drop from cuts)) address ≡ class_of cuts address
-class_in_block cuts address from to up b ends =
-    class_at cuts address (from + class_of (take (to - from) (drop from cuts)) address) (omega (arith, few, wide, b.within, ends)) (λ k l. below_by k l (cases_lt k from)) (λ k l m. above_by k l m (cases_lt k to)) where
+-- the cuts before this part of them are below the address, and those behind it are not
+pub record IsPart (cuts : List ℕ) (address from to : ℕ) : Type 0 where
+  pub ordered : from ≤ to
+  pub within : to ≤ length cuts
+  pub before : (k : ℕ) → k < from → get_or cuts k 0 < address
+  pub behind : (k : ℕ) → to ≤ k → k < length cuts → address ≤ get_or cuts k 0
+
+-- the class is that of the cuts before the part, which are all below the address, and of the part
+pub class_in_part : (cuts : List ℕ) (address from to : ℕ) → IsNonDecreasing cuts → IsPart cuts address from to → from + class_of (take (to - from) (drop from cuts)) address ≡ class_of cuts address
+class_in_part cuts address from to up part =
+    class_at cuts address (from + class_of (take (to - from) (drop from cuts)) address) (omega (arith, few, wide, part.within, part.ordered)) (λ k l. below_by k l (cases_lt k from)) (λ k l m. above_by k l m (cases_lt k to)) where
       wide : length (take (to - from) (drop from cuts)) ≡ to - from
-      wide = length-take-le (to - from) (drop from cuts) (omega (arith, length-drop from cuts, b.within, ends))
+      wide = length-take-le (to - from) (drop from cuts) (omega (arith, length-drop from cuts, part.within, part.ordered))
 
       few : class_of (take (to - from) (drop from cuts)) address ≤ length (take (to - from) (drop from cuts))
       few = count_by-le-length (λ cut. nat_lt cut address) (take (to - from) (drop from cuts))
@@ -86,7 +93,7 @@ class_in_block cuts address from to up b ends =
       point = point_of (take (to - from) (drop from cuts)) address (IsNonDecreasingBy-take (λ n. n) (to - from) (drop from cuts) (IsNonDecreasingBy-drop (λ n. n) from cuts up))
 
       below_by : (k : ℕ) → k < from + class_of (take (to - from) (drop from cuts)) address → (k < from) ⊎ (from ≤ k) → get_or cuts k 0 < address
-      below_by k l (inl before) = b.before k before
+      below_by k l (inl before) = part.before k before
       below_by k l (inr behind) =
           let j = k - from in
           let here : from + j ≡ k = omega (arith, behind) in
@@ -94,12 +101,33 @@ class_in_block cuts address from to up b ends =
           omega (arith, less, in_block cuts from to j (omega (arith, l, behind, few, wide)), ap (λ i. get_or cuts i 0) here)
 
       above_by : (k : ℕ) → from + class_of (take (to - from) (drop from cuts)) address ≤ k → k < length cuts → (k < to) ⊎ (to ≤ k) → address ≤ get_or cuts k 0
-      above_by k l m (inr behind) = b.behind k (omega (arith, behind, ends)) m
+      above_by k l m (inr behind) = part.behind k (omega (arith, behind)) m
       above_by k l m (inl before) =
           let j = k - from in
           let here : from + j ≡ k = omega (arith, l) in
           let le : address ≤ get_or (take (to - from) (drop from cuts)) j 0 = point.above j (omega (arith, l)) (omega (arith, wide, before, l)) in
           omega (arith, le, in_block cuts from to j (omega (arith, before, l)), ap (λ i. get_or cuts i 0) here)
+
+-- where the cuts end in a block that are below the address
+pub class_in_block : (cuts : List ℕ) (address from to : ℕ) → IsNonDecreasing cuts → IsBlock cuts address from → to ≡ from + 16 → from + class_of (take (to - from) (drop from cuts)) address ≡ class_of cuts address
+class_in_block cuts address from to up b ends = class_in_part cuts address from to up (record {
+  ordered = omega (arith, ends);
+  within = omega (arith, b.within, ends);
+  before = λ k l. b.before k l;
+  behind = λ k le lt. b.behind k (omega (arith, le, ends)) lt;
+})
+
+-- the part between what is at least and at most the class
+pub part_between : (cuts : List ℕ) (address low high to : ℕ) → IsNonDecreasing cuts → low ≤ class_of cuts address → class_of cuts address ≤ high → to ≡ min high (length cuts) → IsPart cuts address low to
+part_between cuts address low high to up least most is =
+    let point = point_of cuts address up in
+    let few : class_of cuts address ≤ length cuts = count_by-le-length (λ cut. nat_lt cut address) cuts in
+    record {
+      ordered = omega (arith, least, most, is, few);
+      within = omega (arith, is);
+      before = λ k l. point.below k (omega (arith, l, least));
+      behind = λ k le lt. point.above k (omega (arith, le, lt, is, most)) lt;
+    }
 
 -- ---- blocks of blocks
 

@@ -2,7 +2,7 @@
 use Rattle.std.proofs.Common.{◌≡◌, ◌==◌, ℕ, ◌+◌, ◌-◌, ◌*◌, ◌<◌, ◌≤◌, Bool, true, false, cond, List, [], ◌∷◌, ◌++◌, length, take, drop, map, filter, get_or, Option, Some, None, IfSome, refl, sym, ap, subst, ◌∙◌, arith, length-append, length-drop, append-nil}
 use Rattle.std.specs.List.{zip, fold}
 use Rattle.std.proofs.lemmas.Bool.{eqb-true}
-use Rattle.std.proofs.lemmas.List.{drop-drop, drop_at, drop_more, take_at, map_push, append-nil}
+use Rattle.std.proofs.lemmas.List.{drop-drop, drop_at, drop_more, take_at, map_push, append-nil, length-take-le}
 use Rattle.std.proofs.lemmas.List.Elements.{All-push, filter_more}
 use Rattle.std.proofs.lemmas.List.Folds.{fold-map}
 use Rattle.sequences.proofs.ListLaws.{drop_read}
@@ -16,8 +16,9 @@ use Rattle.policy_judge.specs.Sides.{is_of}
 use Rattle.policy_judge.proofs.PairLaws.{IsAt, pair_within, pair_at, all_pairs}
 use Rattle.policy_judge.proofs.OccurrenceLaws.{field_at}
 use Rattle.rule_table.specs.declared.place.Place.{Place}
-use Rattle.rule_table.specs.declared.place.Place.TheVariants.{Octets, Field}
-use Rattle.rule_table.specs.Classes.{digit_of, with_digit, class_key}
+use Rattle.rule_table.specs.declared.place.Place.TheVariants.{Narrow, Wide, Field}
+use Rattle.sequences.specs.Octets.{be_value}
+use Rattle.rule_table.specs.Classes.{class_of, digit_of, with_digit, class_key}
 use Rattle.rule_table.specs.Places.{text_of, value_at, HasPlace, ShowsAt, ArePlaces, place_at, start_behind}
 
 -- ---- where the value of a field starts
@@ -96,16 +97,26 @@ next_few f i (Some start) next made near few = few_by i start next few near
 abbrev IsPlaceOf : DataRecord → ℕ → Place → Type 0
 IsPlaceOf r i place = HasPlace r place × (value_at r place ≡ get_or r.values i [])
 
-place_by : (r : DataRecord) (f : FieldSpec) (i start : ℕ) (b : Bool) → i < length r.template.fields → is_variable f ≡ b → (is_variable f ≡ false → IsFixed r i start (start + f.length)) → IsPlaceOf r i (cond b (Field i) (Octets start (start + f.length)))
-place_by r f i start true lt is fixed = (lt, refl)
-place_by r f i start false lt is fixed =
-    let there = fixed is in
-    ((omega arith, there.next.within), there.value)
+wide_by : (r : DataRecord) (f : FieldSpec) (i start : ℕ) (sixteen : Bool) → i < length r.template.fields → (f.length == 16) ≡ sixteen → (is_variable f ≡ false → IsFixed r i start (start + f.length)) → IsPlaceOf r i (cond sixteen (Wide start) (Field i))
+wide_by r f i start true lt is fixed =
+    let long : f.length ≡ 16 = eqb-true f.length 16 is in
+    let there = fixed (ap (λ (n : ℕ). n == 65535) long) in
+    let size : start + f.length - start ≡ 16 = omega (arith, long) in
+    (omega (arith, there.next.within, long), ap (λ (n : ℕ). take n (drop start (text_of r))) (sym size) ∙ there.value)
+wide_by r f i start false lt is fixed = (lt, refl)
+
+place_by : (r : DataRecord) (f : FieldSpec) (i start : ℕ) (four : Bool) → i < length r.template.fields → (f.length == 4) ≡ four → (is_variable f ≡ false → IsFixed r i start (start + f.length)) → IsPlaceOf r i (cond four (Narrow start) (cond (f.length == 16) (Wide start) (Field i)))
+place_by r f i start true lt is fixed =
+    let long : f.length ≡ 4 = eqb-true f.length 4 is in
+    let there = fixed (ap (λ (n : ℕ). n == 65535) long) in
+    let size : start + f.length - start ≡ 4 = omega (arith, long) in
+    (omega (arith, there.next.within, long), ap (λ (n : ℕ). take n (drop start (text_of r))) (sym size) ∙ there.value)
+place_by r f i start false lt is fixed = wide_by r f i start (f.length == 16) lt refl fixed
 
 shown_at : (r : DataRecord) (f : FieldSpec) (i : ℕ) → IsSound r → i < length r.template.fields → f ≡ get_or r.template.fields i f → (start : Option ℕ) → IfSome start (StartsAt r i) → IsPlaceOf r i (place_at start f i)
 shown_at r f i sound lt is None was = (lt, refl)
 shown_at r f i sound lt is (Some start) was =
-    place_by r f i start (is_variable f) lt refl (λ fixed. fixed_value r f i start sound lt is fixed was)
+    place_by r f i start (f.length == 4) lt refl (λ fixed. fixed_value r f i start sound lt is fixed was)
 
 -- ---- the places of a side's values
 
@@ -180,3 +191,35 @@ pub key_at_places : (cuts : List ℕ) (r : DataRecord) (places : List Place) →
 key_at_places cuts r places =
     sym (fold-map (λ key v. with_digit key (digit_of cuts v)) (value_at r) (Some 1) places)
     ∙ sym (fold-map with_digit (digit_of cuts) (Some 1) (map (value_at r) places))
+
+-- ---- the digit of an address of which the template fixes the place
+
+four_digit : (cuts octets : List ℕ) → length octets ≡ 4 → 2 * class_of cuts (be_value octets) + 1 ≡ digit_of cuts octets
+unfolding digit_of
+four_digit cuts octets four = rw four refl
+
+sixteen_digit : (cuts octets : List ℕ) → length octets ≡ 16 → 2 * class_of cuts (be_value octets) + 2 ≡ digit_of cuts octets
+unfolding digit_of
+sixteen_digit cuts octets sixteen = rw sixteen refl
+
+-- so many octets from a place on
+part_is : (n from : ℕ) (octets text : List ℕ) → octets ≡ text → take (from + n - from) (drop from octets) ≡ take n (drop from text)
+part_is n from octets text is = let size : from + n - from ≡ n = omega arith in ap (λ (k : ℕ). take k (drop from octets)) size ∙ ap (λ (xs : List ℕ). take n (drop from xs)) is
+
+part_long : (n from : ℕ) (text : List ℕ) → from + n ≤ length text → length (take n (drop from text)) ≡ n
+part_long n from text within = length-take-le n (drop from text) (omega (arith, within, length-drop from text))
+
+pub narrow_digit_of : (cuts : List ℕ) (r : DataRecord) (place : Place) (from : ℕ) (octets : List ℕ) (address digit : ℕ) → HasPlace r place → place ≡ Narrow from → octets ≡ text_of r
+    → address ≡ be_value (take (from + 4 - from) (drop from octets)) → digit ≡ 2 * class_of cuts address + 1 → digit ≡ digit_of cuts (value_at r place)
+narrow_digit_of cuts r place from octets address digit there is text number made =
+    let within : HasPlace r (Narrow from) = subst (λ (p : Place). HasPlace r p) is there in
+    let value = take 4 (drop from (text_of r)) in
+    let same : address ≡ be_value value = number ∙ ap be_value (part_is 4 from octets (text_of r) text) in
+    made ∙ ap (λ (n : ℕ). 2 * class_of cuts n + 1) same ∙ four_digit cuts value (part_long 4 from (text_of r) within) ∙ ap (λ (p : Place). digit_of cuts (value_at r p)) (sym is)
+
+pub wide_digit_of : (cuts : List ℕ) (r : DataRecord) (place : Place) (from : ℕ) (octets : List ℕ) (digit : ℕ) → HasPlace r place → place ≡ Wide from → octets ≡ text_of r
+    → digit ≡ 2 * class_of cuts (be_value (take (from + 16 - from) (drop from octets))) + 2 → digit ≡ digit_of cuts (value_at r place)
+wide_digit_of cuts r place from octets digit there is text made =
+    let within : HasPlace r (Wide from) = subst (λ (p : Place). HasPlace r p) is there in
+    let value = take 16 (drop from (text_of r)) in
+    made ∙ ap (λ (xs : List ℕ). 2 * class_of cuts (be_value xs) + 2) (part_is 16 from octets (text_of r) text) ∙ sixteen_digit cuts value (part_long 16 from (text_of r) within) ∙ ap (λ (p : Place). digit_of cuts (value_at r p)) (sym is)

@@ -17,6 +17,7 @@ pub mod Firsts
 pub mod Covering
 pub mod Cuts
 pub mod Classes
+pub mod Heads
 pub mod Narrow
 pub mod Spans
 pub mod Places

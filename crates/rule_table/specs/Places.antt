@@ -1,6 +1,6 @@
 -- Where the addresses of a side stand in each record of a template: the template fixes the place of a value of fixed length
 -- before which only such fields stand (RFC 7011, section 3.4.3).
-use Rattle.std.specs.Prelude.{◌≡◌, ◌<◌, ◌≤◌, ℕ, ◌+◌, ◌-◌, List, [], length, take, drop, map, slice_index_or, Option, Some, None, if◌then◌else◌}
+use Rattle.std.specs.Prelude.{◌≡◌, ◌==◌, ◌<◌, ◌≤◌, ℕ, ◌+◌, List, [], length, take, drop, map, slice_index_or, Option, Some, None, if◌then◌else◌}
 use Rattle.std.specs.List.{All}
 use Rattle.ipfix_template.specs.declared.field.FieldSpec.{FieldSpec}
 use Rattle.ipfix_template.specs.declared.template.Template.{Template}
@@ -12,7 +12,7 @@ use Rattle.policy_judge.specs.declared.occurrences.Side.TheVariants.{Source, Des
 use Rattle.policy_judge.specs.Sides.{is_of}
 use Rattle.policy_judge.specs.Occurrences.{values_of}
 use Rattle.rule_table.specs.declared.place.Place.{Place}
-use Rattle.rule_table.specs.declared.place.Place.TheVariants.{Octets, Field}
+use Rattle.rule_table.specs.declared.place.Place.TheVariants.{Narrow, Wide, Field}
 
 -- a record's octets are its values in their shortest texts
 abbrev pub text_of : DataRecord → List ℕ
@@ -20,12 +20,14 @@ text_of r = record_text r.template.fields r.values
 
 -- what a record shows at a place
 abbrev pub value_at : DataRecord → Place → List ℕ
-value_at r (Octets from to) = take (to - from) (drop from (text_of r))
+value_at r (Narrow from) = take 4 (drop from (text_of r))
+value_at r (Wide from) = take 16 (drop from (text_of r))
 value_at r (Field index) = slice_index_or r.values index []
 
 -- a record has a place
 abbrev pub HasPlace : DataRecord → Place → Type 0
-HasPlace r (Octets from to) = (from ≤ to) × (to ≤ length (text_of r))
+HasPlace r (Narrow from) = from + 4 ≤ length (text_of r)
+HasPlace r (Wide from) = from + 16 ≤ length (text_of r)
 HasPlace r (Field index) = index < length r.template.fields
 
 -- a record has these places, and shows these values there
@@ -44,7 +46,7 @@ pub record AreAddressPlaces (t : Template) (sources destinations : List Place) :
 -- where a field's value stands, if it starts here in each record, or if no such place is known
 abbrev pub place_at : Option ℕ → FieldSpec → ℕ → Place
 place_at None f index = Field index
-place_at (Some start) f index = if is_variable f then Field index else Octets start (start + f.length)
+place_at (Some start) f index = if f.length == 4 then Narrow start else if f.length == 16 then Wide start else Field index
 
 -- where the value behind it starts, if that is known
 abbrev pub start_behind : Option ℕ → FieldSpec → Option ℕ

@@ -1,5 +1,5 @@
 //! The classes of addresses that the prefixes of rules make.
-ghost use Rattle.std.specs.Prelude.{◌≡◌, ◌≤◌, length, Some, IfOk};
+ghost use Rattle.std.specs.Prelude.{◌≡◌, ◌≤◌, length, Some, IfOk, IfSome};
 ghost use Rattle.std.specs.List.{fold, zip};
 ghost use Rattle.std.specs.List.Sorted.{IsNonDecreasing};
 ghost use Rattle.sequences.specs.Octets.{be_value};
@@ -7,12 +7,14 @@ ghost use Rattle.policy_judge.specs.Sides.{is_of};
 ghost use Rattle.policy_judge.specs.Occurrences.{values_of};
 ghost use Rattle.rule_table.specs.Cuts.{AreCuts, HaveCuts, most_cuts};
 ghost use Rattle.rule_table.specs.Classes.{class_of, digit_of, with_digit, with_field, class_key};
-ghost use Rattle.rule_table.specs.Spans.{IsSpan, IsAmong};
+ghost use Rattle.rule_table.specs.Spans.{IsSpan, IsAmong, IsWideSpan, IsWideAmong};
 
 use crate::cuts::sorted_cuts;
+use crate::heads::{Heads, head_bits};
 use crate::narrow::NarrowCuts;
-use crate::span::Span;
-use flow_prefix::{IPV4_OCTETS, IPV6_OCTETS};
+use crate::span::{Span, WideSpan};
+use crate::wide::wide_span_at;
+use flow_prefix::{IPV4_OCTETS, IPV6_BITS, IPV6_OCTETS};
 use ipfix_template::Record;
 use policy_judge::Side;
 use policy_text::Rule;
@@ -34,12 +36,18 @@ pub struct AddressClasses {
     cuts: Vec<u128>,
     /// Those among which an address of IPv4 lies.
     narrow: NarrowCuts,
+    /// How many are below an address of IPv6, as far as its first bits say.
+    heads: Heads,
 }
 
 impl Drop for AddressClasses {
     // Written out: a derived one is proved anew in each crate that drops such a value.
     fn drop(self) {
-        let AddressClasses { cuts: _, narrow: _ } = self;
+        let AddressClasses {
+            cuts: _,
+            narrow: _,
+            heads: _,
+        } = self;
     }
 }
 
@@ -51,7 +59,7 @@ impl Model for AddressClasses {
 
     ghost view = { λ c. c.cuts.items };
 
-    ghost invariant = { λ c. AreKeptCuts c.cuts.items c.narrow };
+    ghost invariant = { λ c. AreKeptCuts c.cuts.items c.narrow c.heads };
 }
 
 impl AddressClasses {
@@ -65,7 +73,13 @@ impl AddressClasses {
     {
         let cuts = sorted_cuts(alloc, rules)?;
         let narrow = NarrowCuts::of(alloc, &cuts)?;
-        Ok(AddressClasses { cuts, narrow })
+        let bits = head_bits(wide_count(&cuts));
+        let heads = Heads::of(alloc, &cuts, IPV6_BITS, bits)?;
+        Ok(AddressClasses {
+            cuts,
+            narrow,
+            heads,
+        })
     }
 
     /// The cuts, ascending: addresses behind which a prefix begins, or ends.
@@ -106,7 +120,33 @@ impl AddressClasses {
         ensures class { result ≡ class_of self.now address }
         ensures few { result ≤ most_cuts }
     {
-        count_below(&self.cuts, address) as u16
+        let (low, high) = self.heads.bounds((address >> self.heads.shift) as usize);
+        count_within(&self.cuts, low, high, address) as u16
+    }
+
+    /// The class of an address of IPv6, where its first bits say it.
+    pub(crate) fn known_wide_class(&self, address: u128) -> Option<u16>
+        ensures class { IfSome result (λ class. class ≡ class_of self.now address) }
+        ensures few { IfSome result (λ class. class ≤ most_cuts) }
+    {
+        self.heads.class((address >> self.heads.shift) as usize)
+    }
+
+    /// The addresses about one that have its class: those between the cuts beside it.
+    pub(crate) fn wide_span_of(&self, address: u128) -> WideSpan
+        ensures span { IsWideSpan self.now result }
+        ensures among { IsWideAmong address result }
+    {
+        let class = self.class(address);
+        wide_span_at(&self.cuts, class, address)
+    }
+
+    /// The class of an address of IPv4, where its first bits say it.
+    pub(crate) fn known_class(&self, address: u32) -> Option<u16>
+        ensures class { IfSome result (λ class. class ≡ class_of self.now address) }
+        ensures few { IfSome result (λ class. class ≤ most_cuts) }
+    {
+        self.narrow.known_class(address)
     }
 
     /// The addresses of IPv4 about one that have its class: those between the cuts beside it.
@@ -135,7 +175,7 @@ pub(crate) fn narrow_number(octets: &[u8]) -> u32
 }
 
 /// The number that 16 octets write, the most significant first.
-fn wide_number(octets: &[u8]) -> u128
+pub(crate) fn wide_number(octets: &[u8]) -> u128
     requires { length octets.now ≡ 16 }
     ensures { result ≡ be_value octets.now }
 {
@@ -144,6 +184,27 @@ fn wide_number(octets: &[u8]) -> u128
         octets[8], octets[9], octets[10], octets[11], octets[12], octets[13], octets[14],
         octets[15],
     ])
+}
+
+/// One above the highest address of IPv4.
+const ABOVE4: u128 = 0x1_0000_0000;
+
+/// How many of ascending cuts are above the addresses of IPv4.
+fn wide_count(cuts: &[u128]) -> usize {
+    cuts.len()
+        .saturating_sub(cuts.partition_point(|cut| *cut < ABOVE4))
+}
+
+/// How many of ascending cuts are below an address, where these are `low` at least and `high` at most.
+fn count_within(cuts: &[u128], low: usize, high: usize, address: u128) -> usize
+    requires ascending { IsNonDecreasing cuts.now }
+    requires low { low ≤ class_of cuts.now address }
+    requires high { class_of cuts.now address ≤ high }
+    ensures class { result ≡ class_of cuts.now address }
+    ensures within { result ≤ length cuts.now }
+{
+    let end = high.min(cuts.len());
+    low + count_below(&cuts[low..end], address)
 }
 
 /// How many of ascending numbers are below a bound.

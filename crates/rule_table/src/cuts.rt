@@ -17,7 +17,7 @@ pub(crate) struct Bounds {
     pub last: u128,
 }
 
-/// The cuts of all prefixes that these rules name, ascending.
+/// The cuts of all prefixes that these rules name, ascending, each once.
 pub(crate) fn sorted_cuts(alloc: Global, rules: &[Rule]) -> Result<Vec<u128>, AllocError>
     requires { length rules.now ≤ 4096 }
     ensures ascending { IfOk result (λ cuts. IsNonDecreasing cuts.items) }
@@ -26,6 +26,7 @@ pub(crate) fn sorted_cuts(alloc: Global, rules: &[Rule]) -> Result<Vec<u128>, Al
 {
     let mut cuts = listed_cuts(alloc, rules)?;
     cuts.sort_unstable();
+    cuts.dedup();
     Ok(cuts)
 }
 

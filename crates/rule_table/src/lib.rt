@@ -33,7 +33,8 @@
 //! - `classes`: [`AddressClasses`], built of rules once; `key` is asked for each record.
 //! - `places`, `place`: [`AddressPlaces`], built of a template once: where the addresses of its records stand.
 //! - `keys`: [`RecentClasses`], the keys of both sides by these places alone, for records one after another.
-//! - `cuts`, `narrow`: the bounds of prefixes, and those among the addresses of IPv4; `span`: the addresses between two of those.
+//! - `cuts`, `narrow`: the bounds of prefixes, and those among the addresses of IPv4; `heads`: what the first bits of an
+//!   address say of its class; `span`, `wide`: the addresses between two cuts.
 //! - `laws`: [`same_keys`] and [`key_of_three`], proved over the definitions.
 //!
 //! The class of an address is where it lies among the bounds of all prefixes that the rules of a policy name. Two addresses
@@ -55,6 +56,7 @@ mod classes;
 mod copies;
 mod covering;
 mod cuts;
+mod heads;
 mod index;
 mod keys;
 mod laws;
@@ -65,6 +67,7 @@ mod places;
 mod rarest;
 mod span;
 mod table;
+mod wide;
 
 pub use candidates::Candidates;
 pub use classes::AddressClasses;

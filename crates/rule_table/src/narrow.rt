@@ -1,12 +1,14 @@
 //! The cuts among the addresses of IPv4, and how many of them are below one: most addresses are of IPv4.
-ghost use Rattle.std.specs.Prelude.{◌≡◌, ◌≤◌, ◌<◌, ◌+◌, ◌*◌, ◌-◌, ◌^◌, ℕ, length, slice_index, IfOk, OnOk};
+ghost use Rattle.std.specs.Prelude.{◌≡◌, ◌≤◌, ◌<◌, ◌+◌, ◌*◌, ◌-◌, ◌^◌, ℕ, length, slice_index, IfOk, IfSome, OnOk};
 ghost use Rattle.std.specs.List.Sorted.{IsNonDecreasing};
 ghost use Rattle.rule_table.specs.Cuts.{most_cuts, narrow_cuts};
 ghost use Rattle.rule_table.specs.Classes.{class_of};
 ghost use Rattle.rule_table.specs.Narrow.{AreTops, AreBlocks, IsBlock, AreNarrowed};
 ghost use Rattle.rule_table.specs.Spans.{IsSpan, IsAmong};
 
+use crate::heads::{Heads, head_bits};
 use crate::span::Span;
+use flow_prefix::IPV4_BITS;
 use std::alloc::{AllocError, Global};
 use std::marker::Model;
 
@@ -30,17 +32,19 @@ pub(crate) struct NarrowCuts {
     tops: Vec<u32>,
     /// Each 16th of those.
     summits: Vec<u32>,
+    /// How many of the cuts are below an address, as far as its first bits say.
+    heads: Heads,
 }
 
 impl Model for NarrowCuts {
     ghost use Rattle.std.specs.Prelude.{ℕ, List};
-    ghost use Rattle.rule_table.specs.Narrow.{AreNarrow};
+    ghost use Rattle.rule_table.specs.Narrow.{AreNarrowBy};
 
     ghost Value = { List ℕ };
 
     ghost view = { λ c. c.cuts.items };
 
-    ghost invariant = { λ c. AreNarrow c.cuts.items c.tops.items c.summits.items };
+    ghost invariant = { λ c. AreNarrowBy c.heads c.cuts.items c.tops.items c.summits.items };
 }
 
 impl NarrowCuts {
@@ -54,15 +58,33 @@ impl NarrowCuts {
         ensures { IfOk result (AreNarrowed cuts.now) }
     {
         let mut narrow = narrow_cuts(alloc, cuts)?;
-        let whole = whole_blocks(narrow.len());
-        fill(&mut narrow, whole)?;
+        let count = narrow.len();
+        let heads = Heads::of(alloc, cuts, IPV4_BITS, head_bits(count))?;
+        fill(&mut narrow, whole_blocks(count))?;
         let tops = tops_of(alloc, &narrow)?;
         let summits = tops_of(alloc, &tops)?;
         Ok(NarrowCuts {
             cuts: narrow,
             tops,
             summits,
+            heads,
         })
+    }
+
+    /// How many of the cuts are below an address, where its first bits say so.
+    pub(crate) fn known_class(&self, address: u32) -> Option<u16>
+        ensures class { IfSome result (λ class. class ≡ class_of self.now address) }
+        ensures few { IfSome result (λ class. class ≤ most_cuts) }
+    {
+        self.heads.class((address >> self.heads.shift) as usize)
+    }
+
+    /// How many of the cuts are below an address at least, and at most, by its first bits.
+    fn bounds(&self, address: u32) -> (usize, usize)
+        ensures low { result.0 ≤ class_of self.now address }
+        ensures high { class_of self.now address ≤ result.1 }
+    {
+        self.heads.bounds((address >> self.heads.shift) as usize)
     }
 
     /// How many of the cuts are below an address.
@@ -72,6 +94,11 @@ impl NarrowCuts {
     {
         if self.cuts.len() == BLOCK {
             return count_below(&self.cuts, address) as u16;
+        }
+        let (low, high) = self.bounds(address);
+        if high <= low + BLOCK {
+            let from = low.min(self.cuts.len() - BLOCK);
+            return count_from(&self.cuts, from, address) as u16;
         }
         let summits_below = count_below(&self.summits, address);
         let tops_below = count_from(&self.tops, block_of(summits_below), address);

@@ -1,17 +1,20 @@
 //! Where the values of a side stand in each record of a template.
 ghost use Rattle.std.specs.Prelude.{◌≡◌, ◌≤◌, ◌+◌, ◌*◌, length, IfOk, IfSome};
 ghost use Rattle.ipfix_template.specs.declared.field.TheConstants.{VARIABLE, MOST_FIELDS};
-ghost use Rattle.rule_table.specs.Places.{ArePlaces, place_at, start_behind, HasPlace, value_at};
+ghost use Rattle.rule_table.specs.Places.{ArePlaces, place_at, start_behind};
 
-use ipfix_template::{FieldSpec, RecordView};
+use flow_prefix::{IPV4_OCTETS, IPV6_OCTETS};
+use ipfix_template::FieldSpec;
 use policy_judge::Side;
 use std::alloc::{AllocError, Global};
 
 /// Where a value stands in each record of a template.
 #[derive(Clone, Copy, Debug)]
 pub(crate) enum Place {
-    /// In these octets of the record: only fields of fixed length stand before it.
-    Octets { from: usize, to: usize },
+    /// An address of IPv4, in the octets of the record from here on: only fields of fixed length stand before it.
+    Narrow(usize),
+    /// An address of IPv6, likewise.
+    Wide(usize),
     /// At the field of this place.
     Field(usize),
 }
@@ -39,15 +42,11 @@ pub(crate) fn places_of(
 
 /// Where a field's value stands, with where it starts, if that is the same in each record.
 fn place_at(start: Option<usize>, field: &FieldSpec, index: usize) -> Place
-    requires { IfSome start (λ s. s ≤ MOST_FIELDS * VARIABLE) }
     ensures { result ≡ place_at start field.now index }
 {
-    let length = usize::from(field.length);
-    match start {
-        Some(from) if !field.is_variable() => Place::Octets {
-            from,
-            to: from + length,
-        },
+    match (start, usize::from(field.length)) {
+        (Some(from), IPV4_OCTETS) => Place::Narrow(from),
+        (Some(from), IPV6_OCTETS) => Place::Wide(from),
         _ => Place::Field(index),
     }
 }
@@ -62,16 +61,5 @@ fn start_behind(start: Option<usize>, field: &FieldSpec) -> Option<usize>
     match start {
         Some(from) if !field.is_variable() => Some(from + length),
         _ => None,
-    }
-}
-
-/// What a record shows at a place.
-pub(crate) fn value_at<'r>(place: &Place, flow_record: &RecordView<'r>) -> &'r [u8]
-    requires { HasPlace flow_record.now place.now }
-    ensures { result.now ≡ value_at flow_record.now place.now }
-{
-    match place {
-        Place::Octets { from, to } => &flow_record.as_octets()[*from..*to],
-        Place::Field(index) => flow_record.value(*index),
     }
 }

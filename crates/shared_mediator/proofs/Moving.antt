@@ -96,8 +96,8 @@ pub after_close : (old new : Mediation) (from gone handed session : ℕ) → IsS
 after_close old new from gone handed session sound counted is =
     keeps_silent old new from gone handed 0 (Close session ∷ []) sound counted is.goes_on (record { switches = λ q. refl; begins_none = refl }, tt) refl
 
-pub after_edit : (old new : Mediation) (from gone handed edits : ℕ) (text : List ℕ) → IsSoundMediation old → IsCounted old from gone handed → Edits old text edits new → Keeps old new from gone handed 1
-after_edit old new from gone handed edits text sound counted is =
+pub after_edit : (old new : Mediation) (from gone handed revision : ℕ) (text : List ℕ) → IsSoundMediation old → IsCounted old from gone handed → Edits old text revision new → Keeps old new from gone handed 1
+after_edit old new from gone handed revision text sound counted is =
     keeps_silent old new from gone handed 1 (Edit text ∷ []) sound counted is.goes_on (record { switches = λ q. refl; begins_none = refl }, tt) refl
 
 pub after_receive : (old new : Mediation) (from gone handed session number : ℕ) (octets : List ℕ) (r : Receipt) → IsSoundMediation old → IsCounted old from gone handed → Receives old session number octets r new → Keeps old new from gone handed 1

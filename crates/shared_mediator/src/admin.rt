@@ -64,7 +64,7 @@ impl<E: EntryLedger> AdminHandle<E> {
     }
 
     /// Puts the policy that `text` spells in force in the mediator `shared`, for whose lock it waits by `rt`, and keeps
-    /// the receipt. It answers how many edits there were then.
+    /// the receipt. It answers its revision.
     ///
     /// # Errors
     /// Those of `Mediator::edit`, and [`MediatorFault::OutOfMemory`] for the receipt. Nothing has changed then.

@@ -223,13 +223,13 @@ impl CountedMediator {
         self.mediator.receive_prepared(session, number, prepared)
     }
 
-    /// Puts the policy that `text` spells in force, as [`Mediator::edit`] does, and answers how many edits there were
-    /// then. One entry more is counted.
+    /// Puts the policy that `text` spells in force, as [`Mediator::edit`] does, and answers its revision. One entry
+    /// more is counted.
     ///
     /// # Errors
     /// Those of [`Mediator::edit`].
     pub fn edit(&mut self, text: &str) -> Result<u64, MediatorFault>
-        ensures ok { IfOk result (λ edits. Edits self.old.core text.now edits self.new.core) }
+        ensures ok { IfOk result (λ revision. Edits self.old.core text.now revision self.new.core) }
         ensures counts { OnOk result (Counts self.old 1 0 0 self.new) }
         ensures unchanged { OnErr result (self.new ≡ self.old) }
         ensures err { IfErr result (λ e.

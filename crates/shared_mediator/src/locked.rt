@@ -340,7 +340,7 @@ impl<E: EntryLedger, H: RecordLedger> LockedMediator<E, H> {
     }
 
     /// Puts the policy that `text` spells in force, and adds the entry to `share`. It answers the entry's position and
-    /// how many edits there were.
+    /// the policy's revision.
     ///
     /// # Errors
     /// Those of [`CountedMediator::edit`].

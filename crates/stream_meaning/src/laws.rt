@@ -1,7 +1,7 @@
 //! Laws over the definitions alone: no code stands behind them.
 //!
 //! Their premises are what the callers of a stream hold. Each record is one that a `Record` can be: it is
-//! sound, and the numbers of its template fit the octets that they are written in (`see_records` tells it
+//! sound, and the numbers of its template fit the octets that they are written in (`records_for_proof` tells it
 //! of any records that there are). The distinct templates are at most the 65,280 that `StreamLimits` allow.
 //! An Export Time is a `u32`, and a target a `u16`.
 ghost use Rattle.std.specs.Prelude.{◌≡◌, ◌≤◌, ◌<◌, ◌^◌, ◌++◌, ◌∷◌, [], ℕ, List, length, take, Option, None};
@@ -67,7 +67,7 @@ pub fn answers_mean_the_list()
 /// of a list of records up to a place, which is where the stream stands, and that the list may be streamed.
 ///
 /// Where records are given, the first follows at once, and the second from the room that `Stream::room`
-/// found for them and from `see_records`. Where a message is pulled, the answer and the place are those of
+/// found for them and from `records_for_proof`. Where a message is pulled, the answer and the place are those of
 /// the contract of `Stream::pull`. It follows what the messages mean so far, and at the end.
 pub fn holders_keep()
     ensures start { AreHandedOut [] [] 0 }

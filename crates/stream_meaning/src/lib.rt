@@ -10,7 +10,7 @@
 //! and after enough further pulls (`drained`): each record with its template and values, in order, each message with
 //! the number of records before it, nothing skipped, no gap. Beside it `pulls_see_what_was_given`,
 //! `the_first_are_handed_out`, `answers_mean_the_list`, and `holders_keep`, by which a holder of a `Stream` carries
-//! this through its calls. `see_records` tells of any records that they may be streamed.
+//! this through its calls. `records_for_proof` tells of any records that they may be streamed.
 #![tactic(auto)]
 
 pub mod laws;
@@ -20,4 +20,4 @@ pub use laws::{
     answers_mean_the_list, holders_keep, messages_mean_the_list, pulls_see_what_was_given,
     the_first_are_handed_out,
 };
-pub use streamable::{see_records, see_run};
+pub use streamable::{records_for_proof, run_for_proof};

@@ -11,41 +11,41 @@ use ipfix_template::{FieldSpec, Template};
 
 /// Each record of `records` may be streamed: always so, by its type. A caller who has records
 /// learns it here, and the call does nothing else.
-pub fn see_records(records: &Records)
+pub fn records_for_proof(records: &Records)
     ensures { AllByRecursion IsStreamable records.now }
 {
     for run in records.runs() {
-        see_run(run);
+        run_for_proof(run);
     }
 }
 
 /// The records of `run` are sound, and the numbers of its template fit their octets. A caller who
 /// has a run learns it here, and the call does nothing else.
-pub fn see_run(run: &Run)
+pub fn run_for_proof(run: &Run)
     ensures { AllByRecursion IsStreamable (run_records run.now) }
 {
     if !run.is_empty() {
-        see_template(run.template());
+        template_for_proof(run.template());
     }
 }
 
-fn see_template(template: &Template)
+fn template_for_proof(template: &Template)
     requires { IsAcceptable template.now }
     ensures { IsWritable least_template_id (is_options template.now) template.now }
 {
     let _for_proof = template.scope;
-    see_fields(template.fields.as_slice());
+    fields_for_proof(template.fields.as_slice());
 }
 
-fn see_fields(fields: &[FieldSpec])
+fn fields_for_proof(fields: &[FieldSpec])
     ensures { AllByRecursion IsSpecifier fields.now }
 {
     for field in fields {
-        see_field(field);
+        field_for_proof(field);
     }
 }
 
-fn see_field(field: &FieldSpec)
+fn field_for_proof(field: &FieldSpec)
     ensures { IsSpecifier field.now }
 {
     let _for_proof = field.length;

@@ -58,7 +58,7 @@ fn is_received(reply: &Reply, due: &Result<Receipt, Fault>) -> bool {
 fn is_number(reply: &Reply, due: &Result<u64, Fault>) -> bool {
     match (reply, due) {
         (Reply::Opened(session), Ok(wanted)) => session.0 == *wanted,
-        (Reply::Edited(edits), Ok(wanted)) => *edits == *wanted,
+        (Reply::Edited(revision), Ok(wanted)) => *revision == *wanted,
         (Reply::Subscribed(sub), Ok(wanted)) => sub.0 == *wanted,
         (Reply::Refused(fault), Err(wanted)) => fault == wanted,
         _ => false,

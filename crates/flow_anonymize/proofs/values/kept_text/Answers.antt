@@ -1,7 +1,8 @@
-use Rattle.std.proofs.Common.{ap, ◌∙◌, rules}
+use Rattle.std.proofs.Common.{ap, subst, ◌∙◌, rules}
 use Rattle.std.proofs.lemmas.Result.{IfOk-weaker}
+use Rattle.sequences.specs.Octets.{AreOctets}
 use Rattle.ipfix_template.proofs.Encoding.{fit_fields-length}
-use Rattle.flow_anonymize.specs.Steps.{shown_by}
+use Rattle.flow_anonymize.specs.Steps.{shown_by, steps_in}
 use Rattle.flow_anonymize.proofs.TextLaws.{whole_text}
 use Rattle.flow_anonymize.proofs.values.kept_text.Goals as goal
 
@@ -14,5 +15,6 @@ returns-then-are_whole c =
 pub returns : goal.returns
 returns c =
     let r = c.args.flow_record.now in
-    let octets = c.deref.ensures ∙ c.as_octets-octets.ensures.value in
-    IfOk-weaker c.written_text.result _ _ (λ text is. is ∙ ap (shown_by c.args.steps.now) octets ∙ c.requires.by_steps r.values c.as_octets-octets.ensures.sound.fit) c.written_text.ensures
+    let octets = c.deref-2.ensures ∙ c.as_octets-octets.ensures.value in
+    let all = subst AreOctets (c.deref.ensures ∙ c.as_octets-octets.ensures.value) c.octets_for_proof.ensures in
+    IfOk-weaker c.written_text.result _ _ (λ text is. is ∙ ap (shown_by (steps_in c.args.steps.now)) octets ∙ c.requires.by_steps r.values c.as_octets-octets.ensures.sound.fit all) c.written_text.ensures

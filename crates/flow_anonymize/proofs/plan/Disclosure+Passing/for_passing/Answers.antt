@@ -2,6 +2,7 @@ use Rattle.std.proofs.Common.{ap, ◌∙◌, sym, refl}
 use Rattle.ipfix_template.specs.declared.template.Template.{Template}
 use Rattle.ipfix_template.specs.Template.{shortest_record}
 use Rattle.flow_anonymize.specs.Remaining.{removed_fields}
+use Rattle.flow_anonymize.specs.Steps.{steps_in}
 use Rattle.flow_anonymize.proofs.Sound.{found_sound}
 use Rattle.flow_anonymize.proofs.Planning.{steps_for}
 use Rattle.flow_anonymize.proofs.plan.Disclosure+Passing.for_passing.Goals as goal
@@ -17,5 +18,5 @@ returns-clause-showable c =
       within = c.requires.within;
       fields = ap (λ (t : Template). t.fields) template;
       sound = found_sound c.args.flow_record.now c.args.verdicts.items c.template.result.now.scope c.deref-2.result.now _ _ c.requires scope removed (sym c.in_default.ensures) template (λ none. c.if-shortest-eq0.false (octets ∙ none)) refl;
-      by_steps = steps_for c.as_slice.result.now _ c.deref-6.result.now _ c.in_ok-steps.steps.items (c.as_slice.ensures.value ∙ ap (λ (t : Template). t.fields) c.template-2.ensures.value) c.deref-6.ensures.value c.in_ok-steps.ensures;
+      by_steps = steps_for c.as_slice.result.now _ c.deref-6.result.now _ (steps_in c.in_ok-steps.steps) (c.as_slice.ensures.value ∙ ap (λ (t : Template). t.fields) c.template-2.ensures.value) c.deref-6.ensures.value c.in_ok-steps.ensures;
     }

@@ -10,6 +10,6 @@ returns-in-Ok-clause-few c =
     let older : List (List ℕ) = messages_of c.args.session c.requires.short.history in
     omega (
       arith,
-      means_few older c.args.octets.now c.in-Ok.reading.meaning (subst AreOctets c.deref.ensures c.see_octets.ensures)
+      means_few older c.args.octets.now c.in-Ok.reading.meaning (subst AreOctets c.deref.ensures c.octets_for_proof.ensures)
           (c.in-Ok.ensures.reading older (session_at c.args.self.now.exporters c.requires.short.history c.args.session c.in-Some.open.now c.requires.short.stands.over.exporters c.in-Some.ensures.found.is)).means,
     )

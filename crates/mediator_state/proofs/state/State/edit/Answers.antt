@@ -37,17 +37,17 @@ returns-clause-ok g c =
       goes_on = λ h s. record {
         policy = c.in_ok-policy.policy;
         spelled = c.in_ok-policy.ensures.ok;
-        number = c.put_in_force-edits.ensures.value h (subst (λ e. Stands e h) (sym c.make_room.ensures.engine) s.stands);
-        accepts = accepts_one g.C.Chronicle.tells g.C.Chronicle.limits g.C.Chronicle.count g.C.Chronicle.octets c.args.self.now c.make_room.new.self c.push_reserved.new.self c.put_in_force-edits.new.self h (Edit c.in_ok-text.text) (Edit c.args.text.now)
+        revision = c.put_in_force-revision.ensures.value h (subst (λ e. Stands e h) (sym c.make_room.ensures.engine) s.stands);
+        accepts = accepts_one g.C.Chronicle.tells g.C.Chronicle.limits g.C.Chronicle.count g.C.Chronicle.octets c.args.self.now c.make_room.new.self c.push_reserved.new.self c.put_in_force-revision.new.self h (Edit c.in_ok-text.text) (Edit c.args.text.now)
             s (g.met.C.Chronicle.counted c.args.self.now.chronicle h s.told) c.make_room.ensures.limits c.make_room.ensures.count c.make_room.ensures.octets c.in_ok-make_room.ensures.room
             (ap (λ (n : List ℕ). Edit n) c.in_ok-text.ensures)
-            c.make_room.ensures.tells c.push_reserved.ensures.tells c.make_room.ensures.engine (λ f st. c.put_in_force-edits.ensures.stands f c.args.text.now st spelled);
+            c.make_room.ensures.tells c.push_reserved.ensures.tells c.make_room.ensures.engine (λ f st. c.put_in_force-revision.ensures.stands f c.args.text.now st spelled);
       };
-      untouched = subst (λ (e : Engine). IsUntouched e c.put_in_force-edits.new.self) c.make_room.ensures.engine c.put_in_force-edits.ensures.untouched;
+      untouched = subst (λ (e : Engine). IsUntouched e c.put_in_force-revision.new.self) c.make_room.ensures.engine c.put_in_force-revision.ensures.untouched;
       journaled = c.push_reserved.ensures.limits ∙ c.make_room.ensures.limits;
     }
 
-pub put_in_force-edits-requires-clause-somewhere : goal.put_in_force-edits-requires-clause-somewhere
-put_in_force-edits-requires-clause-somewhere g c =
+pub put_in_force-revision-requires-clause-somewhere : goal.put_in_force-revision-requires-clause-somewhere
+put_in_force-revision-requires-clause-somewhere g c =
     subst (λ (e : Engine). StandsSomewhere e c.len-position.result) (sym c.make_room.ensures.engine)
     (somewhere g.C.Chronicle.tells c.args.self.now (g.C.Chronicle.count c.args.self.now.chronicle) (g.C.Chronicle.octets c.args.self.now.chronicle) c.len-position.result (g.met.C.Chronicle.counted c.args.self.now.chronicle) c.len-position.ensures.value c.requires.stands)

@@ -63,7 +63,7 @@ pub plan-requires-clause-few : goal.plan-requires-clause-few
 plan-requires-clause-few g c =
     omega (
       arith,
-      means_few (messages_of c.args.session.0 c.requires.stands.history) c.args.message c.args.reading.meaning (subst AreOctets c.deref.ensures c.see_octets.ensures)
+      means_few (messages_of c.args.session.0 c.requires.stands.history) c.args.message c.args.reading.meaning (subst AreOctets c.deref.ensures c.octets_for_proof.ensures)
           (c.requires.read c.requires.stands.history c.requires.stands.stands).read.means,
     )
 
