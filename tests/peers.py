@@ -1,4 +1,5 @@
-"""Peers of `ipmd serve`: exporters, collectors and the administrator. No wait of theirs is longer than PATIENCE seconds."""
+"""Peers of `ipmd serve`: exporters, collectors and the administrator. No wait of theirs is longer than PATIENCE seconds,
+of which a machine that is busy with much else may need some."""
 import contextlib
 import random
 import socket
@@ -6,7 +7,7 @@ import time
 
 from messages import HEADER
 
-PATIENCE = 15.0
+PATIENCE = 60.0
 HOST = "127.0.0.1"
 
 # Ports below those that the system chooses for connections, so that nobody is given one meanwhile.

@@ -27,7 +27,7 @@ ROOMY = {
 }
 
 # How long a run may last before it is killed, in seconds.
-LONGEST = 60
+LONGEST = 240
 
 # The operator's scripts.
 SCRIPTS = program.TOP / "examples" / "serve"

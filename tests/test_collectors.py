@@ -124,7 +124,7 @@ class Collectors(ServeTest):
         don't begin a second time.
         """
         listeners = {"acme": Listener(room=65536, segment=STEADY_OCTETS), "beta": Listener()}
-        run = self.start(subscribers=(), listeners=listeners, longest=120)
+        run = self.start(subscribers=(), listeners=listeners)
         run.collector("acme")
         other, admin, exporter = run.collector("beta"), run.admin(), run.exporter()
         with ThreadPoolExecutor(1) as pool:

@@ -460,14 +460,14 @@ class Requests(MetricsTest):
             if n % 100 == 99:
                 begin = time.monotonic()
                 self.assertEqual(self.value("ipmd_up"), 1)
-                self.assertLess(time.monotonic() - begin, 5)
+                self.assertLess(time.monotonic() - begin, 20)
         status = pathlib.Path(f"/proc/{self.child.pid}/status").read_text()
         self.assertLessEqual(int(re.search(r"Threads:\s+(\d+)", status)[1]), 4)
         self.assertLess(len(os.listdir(f"/proc/{self.child.pid}/fd")), 200)
         # Those that are still there are told to go.
         begin = time.monotonic()
         self.assertIn(self.status_of(b"GET / HT"), (["408"], []))
-        self.assertLess(time.monotonic() - begin, 10)
+        self.assertLess(time.monotonic() - begin, 30)
         self.assertEqual(self.get("/")[0].status, 200)
         self.assertEqual(self.said(), "")
 
@@ -489,7 +489,7 @@ class Requests(MetricsTest):
                 pass
         ended.set()
         dripping.join()
-        self.assertLess(time.monotonic() - begin, 8)
+        self.assertLess(time.monotonic() - begin, 20)
 
     def test_ends(self):
         """SIGTERM ends it at once, also with clients."""

@@ -8,7 +8,7 @@ import time
 import unittest
 from concurrent.futures import ThreadPoolExecutor
 
-from messages import EXPORTED, FLOW, VARIABLE, Template, address, flow_message, message, records
+from messages import DOMAIN, EXPORTED, FLOW, VARIABLE, Template, address, flow_message, message, records
 from peers import HOST, PATIENCE, Listener, Peer, free_port, wait_until
 from serving import ServeTest
 
@@ -40,9 +40,9 @@ def burst(number, port=443):
     return message(number * MANY, *template, data)
 
 
-def broad(number):
+def broad(number, domain=DOMAIN):
     """A message of one record of 60,000 octets."""
-    return message(number, BROAD.octets(), BROAD.data(BROAD.record(bytes(60_000))))
+    return message(number, BROAD.octets(), BROAD.data(BROAD.record(bytes(60_000))), domain=domain)
 
 
 class LateListener:
@@ -164,7 +164,7 @@ class Slow(ServeTest):
 
     def test_held(self):
         """An exporter sends as fast as it can: it waits for a collector that is slower, which isn't cut."""
-        run = self.start(subscribers=("acme", "beta"), target=65535, longest=120, **HOLD)
+        run = self.start(subscribers=("acme", "beta"), target=65535, **HOLD)
         with ThreadPoolExecutor(2) as pool:
             slow = pool.submit(self.take_slowly, run.collector("acme"), 0.005)
             fast = pool.submit(run.collector("beta").take_all)
@@ -193,7 +193,7 @@ class Slow(ServeTest):
             exporter.send(burst(sent))
             wait_until(lambda: admin.ask("status 2") == f"ok 0 {(sent + 1) * MANY} live", "beta has all")
             # Who is cut is waited for no more.
-            self.assertLess(time.monotonic() - begin, 5)
+            self.assertLess(time.monotonic() - begin, 20)
             self.assertEqual(admin.ask("stop"), "ok")
             idle.close()
             self.assertEqual(len(records(taking.result())), (sent + 1) * MANY)
@@ -201,21 +201,11 @@ class Slow(ServeTest):
 
     def test_held_advance(self):
         """An advance that closes more groups than the queue has room for waits for the collector."""
-        listeners = {"acme": Listener(room=4096)}
-        run = self.start(GROUPS, subscribers=(), listeners=listeners, target=1400, queue=200, hold=10_000)
+        listeners = {"acme": Listener(room=65536)}
+        run = self.start(GROUPS, subscribers=(), listeners=listeners, target=65535, queue=200, hold=60_000)
         collector, admin, exporter = run.collector("acme"), run.admin(), run.exporter()
-        sent = 0
-
-        def queued():
-            """How many records wait, when nothing more is taken."""
-            waiting = int(admin.ask("status 1").split()[1])
-            time.sleep(0.5 if waiting >= 100 else 0)
-            return int(admin.ask("status 1").split()[1])
-
-        while queued() < 100:
-            exporter.send(message(20 * sent, FLOW.octets(), FLOW.data(*[FLOW.record(address("192.0.2.77"), 443, 1500)] * 20), domain=8))
-            sent += 1
-            wait_until(lambda: sum(map(int, admin.ask("status 1").split()[1:3])) == 20 * sent, "it is accepted")
+        sent = self.fill(admin, exporter)
+        exporter.send(message(sent, FLOW.octets(), FLOW.data(*[FLOW.record(address("192.0.2.77"), 443, 1500)] * 100), domain=8))
         exporter.send(message(0, TIMED.octets(), TIMED.data(*(TIMED.record(EXPORTED, port) for port in range(150)))))
         exporter.close()
         run.wait_for_note(" ended: messages ")
@@ -230,8 +220,20 @@ class Slow(ServeTest):
         self.assertTrue(admin.ask("status 1").endswith(" live"))
         self.assertEqual(admin.ask("stop"), "ok")
         got += collector.take_all()
-        self.assertEqual(len(records(got)), 20 * sent + 150)
-        self.expect_served(run, sent + 1, 20 * sent + 150)
+        self.assertEqual(len(records(got)), sent + 250)
+        self.expect_served(run, sent + 2, sent + 250)
+
+    def fill(self, admin, exporter):
+        """Sends records of many octets until some wait, since the system takes no more for the collector; answers how many."""
+        sent, stands, before = 0, admin.ask("status 1"), None
+        while stands != before or stands.split()[1] == "0":
+            exporter.send(broad(sent, 8))
+            sent += 1
+            wait_until(lambda: sum(map(int, admin.ask("status 1").split()[1:3])) == sent, "it is accepted")
+            before = admin.ask("status 1")
+            time.sleep(0 if before.split()[1] == "0" else 0.5)
+            stands = admin.ask("status 1")
+        return sent
 
     def test_sends_an_octet(self):
         """A collector that sends something gets its stream to the end."""
@@ -280,7 +282,7 @@ class Slow(ServeTest):
         begin = time.monotonic()
         self.assertEqual(admin.ask("stop"), "ok")
         ended = run.end()
-        self.assertLess(time.monotonic() - begin, 5)
+        self.assertLess(time.monotonic() - begin, 10)
         self.assertEqual(ended.status, 0, ended.notes)
         self.assertIn("[WARN  ipmd] collectors given up: 1 did not take what is queued in time\n", ended.notes)
         self.assertRegex(ended.notes, r"collector acme 127.0.0.1:\d+ failed, Write: octets \d+ records \d+ dropped [1-9]")
@@ -288,7 +290,7 @@ class Slow(ServeTest):
     def test_trickle(self):
         """A collector that takes some octets now and then is given up as one that takes none, since all of a message counts."""
         listeners = {"acme": Listener(room=65536)}
-        run = self.start(subscribers=(), listeners=listeners, longest=120)
+        run = self.start(subscribers=(), listeners=listeners)
         collector, admin, exporter = run.collector("acme"), run.admin(), run.exporter()
         for n in range(BROAD_MESSAGES):
             exporter.send(broad(n))

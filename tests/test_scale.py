@@ -29,7 +29,7 @@ CHOSEN = ("exporters", "admin", "policy", "journal", "deliver")
 SERVED = (SCRIPTS / "policy.txt").read_text(encoding="utf-8")
 
 # How many seconds a script may take.
-PATIENCE = 30
+PATIENCE = 60
 
 # Nothing is disclosed.
 DENY = "policy 1\n"

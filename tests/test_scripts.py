@@ -22,7 +22,7 @@ from peers import HOST, wait_until
 from serving import PASS, SCRIPTS, ServeTest
 
 # How many seconds a script may take.
-PATIENCE = 15
+PATIENCE = 60
 
 # Nothing is disclosed.
 DENY = "policy 1\n"
@@ -173,6 +173,14 @@ class Scripts(ServeTest):
                 self.assertEqual(exporter.take_end(), b"")
                 self.assertEqual(len(records(got + collector.take_all())), 2)
                 self.expect_served(run, 2, 2)
+
+    def test_early_signal(self):
+        """Under `run` a signal ends the run in order, though it comes before the program listens."""
+        run = self.start(connections=5, endless=True, wrapper=SCRIPTS / "run")
+        collector = run.collector()
+        run.child.send_signal(signal.SIGTERM)
+        self.assertEqual(collector.take_all(), b"")
+        self.expect_served(run, 0, 0)
 
     def ask_until_gone(self, advance):
         """What `advance` says last, when it is asked of a run that is gone."""

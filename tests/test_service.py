@@ -316,7 +316,7 @@ class Ends(ServeTest):
 
     def test_full(self):
         """A full journal ends the run, though an exporter stays silent and the admin too; the next one begins."""
-        run = self.start(connections=10, runs=2, journal_entries=6, longest=90)
+        run = self.start(connections=10, runs=2, journal_entries=6)
         collector, silent, admin = run.collector(), run.exporter(), run.admin()
         self.assertEqual(admin.ask("status 1"), "ok 0 0 live")
         exporter = run.exporter()
@@ -342,12 +342,12 @@ class Ends(ServeTest):
         run.exporter().close()
         begin = time.monotonic()
         try:
-            for n in range(200):
+            for n in range(600):
                 admin.ask(f"advance {n}")
                 time.sleep(0.1)
         except (AssertionError, OSError):
             pass
-        self.assertLess(time.monotonic() - begin, ADMIN_PATIENCE + 5)
+        self.assertLess(time.monotonic() - begin, ADMIN_PATIENCE + 20)
         self.assertGreaterEqual(time.monotonic() - begin, ADMIN_PATIENCE - 1)
         self.assertEqual(collector.take_all(), b"")
         self.assertIn(" closed, the run ends\n", self.expect_served(run, 0, 0).notes)

@@ -19,7 +19,7 @@ POLICY = (program.TOP / "examples" / "serve" / "policy.txt").read_text(encoding=
 SUBSCRIBERS = ("acme", "beta", "peer")
 
 # How many seconds a tool may take.
-PATIENCE = 15
+PATIENCE = 60
 
 # Of each packet: source, destination, protocol, ports, octets of payload, TCP's flags.
 PACKETS = [
@@ -68,7 +68,7 @@ import json, socket, sys
 import ipfix.ie, ipfix.reader
 ipfix.ie.use_iana_default()
 with socket.create_server(("127.0.0.1", 0)) as listener:
-    listener.settimeout(15)
+    listener.settimeout(60)
     print(listener.getsockname()[1], flush=True)
     stream = listener.accept()[0].makefile("rb")
 for record in ipfix.reader.from_stream(stream).namedict_iterator():
