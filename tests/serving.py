@@ -133,6 +133,12 @@ class Run:
         except TimeoutError:
             raise AssertionError(f"nobody connects to {name}'s collector; noted:\n{self.notes()}") from None
 
+    def served_collector(self, name="acme"):
+        """A subscriber's collector, when its delivery has begun: a subscription that is cut before that is followed by another one."""
+        collector = self.collector(name)
+        self.wait_for_note(f"collector {name} {HOST}:{self.listeners[name].port} connected\n")
+        return collector
+
     def notes(self):
         """What was noted up to here."""
         return self.text("notes")

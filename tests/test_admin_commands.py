@@ -177,7 +177,7 @@ class AdminLines(ServeTest):
     def test_cut(self):
         """Seven records of two layouts are handed out; the third layout cuts the subscription."""
         run = self.start(shapes=2)
-        admin, collector, exporter = run.admin(), run.collector(), run.exporter()
+        admin, collector, exporter = run.admin(), run.served_collector(), run.exporter()
         exporter.send(flows(0, FLOW, *[INSIDE] * 6))
         exporter.send(flows(6, SECOND, SECOND.record(address("192.0.2.77"), 1500)))
         exporter.send(flows(7, THIRD, THIRD.record(address("192.0.2.77"), 15)))
@@ -188,7 +188,7 @@ class AdminLines(ServeTest):
         """A record that no rule lets pass, and the cut before the message behind it: the message of the first is at position 3,
         after an edit, a subscription and an opened session."""
         run = self.start(NETWORK, shapes=1)
-        admin, collector, exporter = run.admin(), run.collector(), run.exporter()
+        admin, collector, exporter = run.admin(), run.served_collector(), run.exporter()
         exporter.send(flows(0, FLOW, INSIDE, OUTSIDE))
         exporter.send(flows(2, SECOND, SECOND.record(address("192.0.2.77"), 1500)))
         collector.take_reset()

@@ -29,17 +29,22 @@ rule for acme in * from 192.0.2.0/24 to * pass\n\
 rule for beta in * from 192.0.2.77/32 to * pass\n\
 rule for * in * from * to * element * keep\n";
 
-/// That a note tells `end` of the collector at `place`, with the octets that it got, and with `records` records.
+/// How many octets the collector at `place` got.
+fn taken(rt: &impl Abort, played: &Played, place: usize) -> usize {
+    played.taken.get(place).expect(rt, "a collector").len()
+}
+
+/// That a note tells `end` of the collector at `place`, with `octets` octets and `records` records that it was sent.
 fn expect_collector(
     rt: &impl Abort,
     alloc: Global,
     played: &Played,
     place: usize,
     end: &str,
+    octets: usize,
     records: u64,
 ) -> Result<(), AllocError> {
     let collector = played.collectors.get(place).expect(rt, "a collector");
-    let octets = played.taken.get(place).expect(rt, "a collector").len();
     let note = format!(in alloc; "collector {collector} {end}: octets {octets} records {records}")?;
     expect_note(rt, played.notes.as_slice(), note.as_str());
     Ok(())
@@ -66,12 +71,14 @@ fn notes_and_totals(rt: HostRuntime) -> Result<(), Fail> {
     ] {
         expect_note(&rt, played.notes.as_slice(), note.as_str());
     }
-    expect_collector(&rt, alloc, &played, 0, "ended", 2)?;
-    expect_collector(&rt, alloc, &played, 1, "ended", 1)?;
+    let (acme, beta) = (taken(&rt, &played, 0), taken(&rt, &played, 1));
+    expect_collector(&rt, alloc, &played, 0, "ended", acme, 2)?;
+    expect_collector(&rt, alloc, &played, 1, "ended", beta, 1)?;
     Ok(())
 }
 
-/// Beta is cut by the second template, which acme sees nothing of: only of beta it is said.
+/// Beta is cut by the second template, which acme sees nothing of: only of beta it is said. It was sent what the exporter's first
+/// message has; since its connection ends by a reset, which may overtake that, what beta got isn't looked at.
 #[test]
 fn cut_is_noted(rt: HostRuntime) -> Result<(), Fail> {
     let alloc = rt.alloc();
@@ -84,7 +91,8 @@ fn cut_is_noted(rt: HostRuntime) -> Result<(), Fail> {
     scene.shapes = 1;
     let played = play(&rt, alloc, scene, b"", TWO_TEMPLATES, NOW)?;
     assert!(rt; played.counts == (2, 2));
-    expect_collector(&rt, alloc, &played, 0, "ended", 1)?;
-    expect_collector(&rt, alloc, &played, 1, "was cut", 1)?;
+    let acme = taken(&rt, &played, 0);
+    expect_collector(&rt, alloc, &played, 0, "ended", acme, 1)?;
+    expect_collector(&rt, alloc, &played, 1, "was cut", ONE_RECORD.len(), 1)?;
     Ok(())
 }
