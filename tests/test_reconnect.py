@@ -231,7 +231,7 @@ class Slow(ServeTest):
             sent += 1
             wait_until(lambda: sum(map(int, admin.ask("status 1").split()[1:3])) == sent, "it is accepted")
             before = admin.ask("status 1")
-            time.sleep(0 if before.split()[1] == "0" else 0.5)
+            time.sleep(0 if before.split()[1] == "0" else 2)
             stands = admin.ask("status 1")
         return sent
 
