@@ -2,7 +2,7 @@
 
 use std::alloc::Global;
 use std::io::{ErrorKind, Read, Write};
-use std::net::{Net, TcpListener, TcpStream};
+use std::net::{Net, Shutdown, TcpListener, TcpStream};
 use std::process::Abort;
 use std::thread;
 use std::time::{Clock, Duration};
@@ -24,6 +24,36 @@ pub(crate) fn reach<R: Net<Listener = TcpListener, Stream = TcpStream> + Clock +
         thread::sleep(rt, Duration::from_millis(MILLISECONDS));
     }
     panic!(rt; "nobody listens on {address}")
+}
+
+/// Waits until a server's deliveries to its collectors have begun, by what an administrator at `address` is told. Only then is a
+/// subscription that is cut sent what was queued: one that is cut earlier is followed by another one.
+pub(crate) fn wait_until_served<R: Net<Listener = TcpListener, Stream = TcpStream> + Clock + Abort>(
+    rt: &R,
+    alloc: Global,
+    address: &str,
+) {
+    for _ in 0..TRIES {
+        let asker = reach(rt, address);
+        send(rt, &asker, b"status\n");
+        asker.shutdown(Shutdown::Write).expect(rt, "an end");
+        let page = take_all(rt, alloc, &asker);
+        if !has_absent(page.as_slice()) {
+            return;
+        }
+        thread::sleep(rt, Duration::from_millis(MILLISECONDS));
+    }
+    panic!(rt; "a collector stays absent")
+}
+
+/// Whether a line of a page tells of a collector that is absent.
+fn has_absent(page: &[u8]) -> bool {
+    for line in page.split(|octet| *octet == b'\n') {
+        if line.ends_with(b" absent") {
+            return true;
+        }
+    }
+    false
 }
 
 /// Sends octets.

@@ -1,7 +1,7 @@
 //! A run of a server with all its peers: an exporter connects; the administrator connects, asks and is answered, and goes; then the
 //! exporter sends its octets and goes too. When the run has ended, the collectors read what they were sent.
 
-use crate::peers::{reach, send, take_all};
+use crate::peers::{reach, send, take_all, wait_until_served};
 use crate::stage::{Scene, Stage, run, set_up};
 use crate::world::{Left, Time, World};
 use mediator_server::{Fault as ListenFault, RunPlan};
@@ -98,6 +98,7 @@ fn meet<R: Net<Listener = TcpListener, Stream = TcpStream> + Threads + Wait + Cl
             collectors.push(collector)?;
         }
         let exporter = reach(rt, stage.plan.exporters.as_str());
+        wait_until_served(rt, alloc, stage.plan.admin.as_str());
         let admin = reach(rt, stage.plan.admin.as_str());
         send(rt, &admin, asked);
         admin.shutdown(Shutdown::Write).expect(rt, "an end");
