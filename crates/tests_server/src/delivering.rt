@@ -240,8 +240,6 @@ const FIRST_WRITE: Answer = Err((ServeFault::Write { sent: 966 }, 0));
 /// The first pull had the template and 31 of the records: nine wait.
 const NOTHING_SENT: Answer = Err((ServeFault::Write { sent: 0 }, 9));
 
-const UNKNOWN: Answer = Err((ServeFault::Mediator(Fault::UnknownSub), 0));
-
 /// What is offered, the bounds, and what is done then; how many writes of any length come before one that fails; what is answered,
 /// and what is left. The template has 36 octets, and each record 30; the first write has 32 of these messages.
 const ENDS: &[(&[&[u8]], Bounds, Act, usize, Answer, Option<(u32, u64)>)] = &[
@@ -249,8 +247,8 @@ const ENDS: &[(&[&[u8]], Bounds, Act, usize, Answer, Option<(u32, u64)>)] = &[
     (FORTY, ROOMY, Act::Stop, 2, Ok(1236), Some((0, 40))),
     (FORTY, ROOMY, Act::Stop, 1, FIRST_WRITE, None),
     (FORTY, ROOMY, Act::Stop, 0, NOTHING_SENT, None),
-    // A pull is refused.
-    (FORTY, ROOMY, Act::End, ENOUGH, UNKNOWN, None),
+    // Of a subscription that has ended nothing is sent.
+    (FORTY, ROOMY, Act::End, ENOUGH, Ok(0), None),
     // A subscription that was cut has what waits for it, and then it ends without a stop.
     (
         CUT,
