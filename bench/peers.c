@@ -20,12 +20,12 @@
 // The lock: with SAMPLE above 0 a thread looks at the lock's word in the server's memory every so
 // many microseconds. The word is 1 or 4 where nobody has the lock, 0 where somebody has it, and 2
 // or 3 where somebody has it and another may sleep for it. Which word it is shows by the system's
-// calls of the server's threads: before the first send the deliveries sleep on the condition
-// variable, and later those that find the lock taken sleep on the lock, which is near it. OFFSET is
-// how far the lock lies from the condition variable, as an earlier run of the same program printed
-// it, or 0. Printed are that offset, the number of samples, and those in which the lock was taken,
-// and in which another might sleep for it; all 0 where the lock isn't found. This needs Linux on
-// x86-64 and the right to read another process's memory.
+// calls of the server's threads: before the first send the deliveries sleep on condition variables
+// that are near each other, and later those that find the lock taken sleep on the lock, which is
+// near them. OFFSET is how far the lock lies from the first of the condition variables, as an
+// earlier run of the same program printed it, or 0. Printed are that offset, the number of samples,
+// and those in which the lock was taken, and in which another might sleep for it; all 0 where the
+// lock isn't found. This needs Linux on x86-64 and the right to read another process's memory.
 #define _POSIX_C_SOURCE 200809L
 #include <arpa/inet.h>
 #include <dirent.h>
@@ -49,7 +49,7 @@ enum {
     // A collector is woken for so many octets at once.
     AT_ONCE = 64 << 10,
     RECEIVE_BUFFER = 4 << 20,
-    // The lock's word lies at most so many words before the condition variable, or behind it.
+    // The lock's word lies at most so many words before the first condition variable, or behind it.
     NEAR = 1024,
     MOST_PEERS = 64,
     MOST_TASKS = 256,
@@ -322,19 +322,24 @@ static void open_tasks(void) {
     closedir(tasks);
 }
 
-// Finds the condition variable: the address on which most of the server's threads sleep.
+// Whether two addresses on which threads sleep may be those of one server's deliveries.
+static bool are_near(uint64_t one, uint64_t other) {
+    return (one > other ? one - other : other - one) < NEAR * 4;
+}
+
+// Finds the first of the deliveries' condition variables: the lowest of the addresses, near each
+// other, on which most of the server's threads sleep.
 static void find_condition(void) {
     uint64_t found[MOST_TASKS];
     size_t most = 0;
     for (size_t n = 0; n < sampler.task_count; n += 1) found[n] = sleeps_on(sampler.tasks[n]);
     for (size_t n = 0; n < sampler.task_count; n += 1) {
-        size_t same = 0;
+        size_t near = 0;
         for (size_t other = 0; other < sampler.task_count; other += 1)
-            same += found[other] == found[n];
-        if (found[n] != 0 && same > most) {
-            most = same;
-            sampler.condition = found[n];
-        }
+            near += found[other] != 0 && are_near(found[other], found[n]);
+        if (found[n] == 0 || near < most) continue;
+        if (near > most || found[n] < sampler.condition) sampler.condition = found[n];
+        most = near;
     }
 }
 
@@ -391,7 +396,8 @@ static void print_lock(void) {
     size_t best = (size_t)(NEAR + sampler.offset / 8);
     if (sampler.offset == 0) {
         for (size_t n = 0; n < 2 * NEAR; n += 1) {
-            if (sampler.words[n].votes > sampler.words[best].votes) best = n;
+            const struct word *word = &sampler.words[n];
+            if (word->never == 0 && word->votes > sampler.words[best].votes) best = n;
         }
     }
     const struct word *word = &sampler.words[best];

@@ -1,3 +1,5 @@
 pub mod QueueLaws
 pub mod SplitLaws
 pub mod LineLaws
+pub mod NotingLaws
+pub mod StandingLaws

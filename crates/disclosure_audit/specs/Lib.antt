@@ -1,4 +1,5 @@
 pub mod Lines
+pub mod Noting
 pub mod Queue
 pub mod Chunks
 pub mod Kept

@@ -1,87 +1,74 @@
-//! The queue of what was kept back, until it is drained.
-ghost use Rattle.std.specs.Prelude.{◌≡◌, ◌≤◌, ◌<◌, ◌+◌, ◌-◌, ◌^◌, ◌++◌, [], ◌∷◌, length, map, take, drop, vec_capacity, IsOk, IfOk, OnOk, OnErr};
-ghost use Rattle.std.specs.VecDeque.{deque_capacity};
-ghost use Rattle.disclosure_audit.specs.Chunks.{entries_of};
+//! An audit: what was kept back waits in it, until that is drained.
+ghost use Rattle.std.specs.Prelude.{◌≡◌, ◌≤◌, ◌<◌, ◌+◌, ◌-◌, ◌^◌, [], ◌∷◌, is_some, IsOk, IfOk, OnOk, OnErr};
 ghost use Rattle.disclosure_audit.specs.declared.audit.TheConstants.{MOST_ENTRIES};
 
-use crate::chunk::Chunk;
-use crate::entry::{AuditEntry, Note};
-use std::alloc::{AllocError, Global};
-use std::collections::VecDeque;
+use crate::entry::AuditEntry;
+use crate::notes::Notes;
+use crate::queue::AuditQueue;
+use std::alloc::AllocError;
 use std::marker::Model;
 
 /// The most entries that an audit may be made for.
 pub const MOST_ENTRIES: u32 = 10_000_000;
 
-/// The entries that wait to be drained, oldest first, and the number of those that were drained.
-pub struct Audit {
-    alloc: Global,
-    queue: VecDeque<Chunk>,
-    /// How many entries there are in the queue.
-    waiting: u32,
+/// The entries that wait to be drained, up to a limit, and the number of those that were drained. What waits is kept
+/// by a [`KeptQueue`](crate::KeptQueue), or counted alone by a [`CountedQueue`](crate::CountedQueue): then the same is
+/// refused, and the same numbers are told, of entries that nobody makes or gets.
+pub struct Audit<Q: AuditQueue> {
+    queue: Q,
     /// How many entries may wait.
     limit: u32,
     /// How many entries were drained.
     drained: u64,
-    /// For how many more places of the queue room is reserved.
-    spare: u32,
 }
 
-impl Drop for Audit {
+impl<Q: AuditQueue + Drop> Drop for Audit<Q> {
     // Written out: a derived one is proved anew in each crate that drops such a value.
     fn drop(self) {
         let Audit {
-            alloc: _,
             queue: _,
-            waiting: _,
             limit: _,
             drained: _,
-            spare: _,
         } = self;
     }
 }
 
-impl Model for Audit {
-    ghost use Rattle.std.specs.VecDeque.{deque_capacity};
-    ghost use Rattle.disclosure_audit.specs.Queue.{KeptAudit};
+impl<Q: AuditQueue> Model for Audit<Q> {
+    ghost use Rattle.disclosure_audit.specs.Queue.{KeptAudit, audit_over};
     ghost use Rattle.disclosure_audit.specs.Kept.{IsConsistentAudit};
-    ghost use Rattle.disclosure_audit.specs.Chunks.{entries_of};
 
     ghost Value = { KeptAudit };
 
-    ghost view = { λ a. record { standing = record { drained = a.drained; entries = entries_of a.queue.items }; limit = a.limit; spare = a.spare } };
+    ghost view = { λ a. audit_over (Q.seen a.queue) a.limit a.drained };
 
-    ghost invariant = { λ a. IsConsistentAudit a.queue.items
-        (deque_capacity a.queue) a.waiting a.limit a.drained a.spare };
+    ghost invariant = { λ a. IsConsistentAudit (Q.seen a.queue) a.limit a.drained };
 }
 
-impl Audit {
-    ghost use Rattle.disclosure_audit.specs.Queue.{stamp, empty_audit, with_noted, with_entries, oldest, without_oldest, StandsIn, TakesEntries, DrainsOldest};
+impl<Q: AuditQueue> Audit<Q> {
+    ghost use Rattle.disclosure_audit.specs.Queue.{AreThere, most_notes, with_noted, with_notes, oldest, without_oldest, StandsIn, TakesEntries, TakesNotes, DrainsOldest};
 
-    /// An audit that was given no entry and may hold `limit` of them, 1 to [`MOST_ENTRIES`]. What it comes
-    /// to keep is taken from `alloc`.
-    pub fn new(alloc: Global, limit: u32) -> Audit
+    /// An audit over `queue`, in which nothing waits. It may come to hold `limit` entries, 1 to [`MOST_ENTRIES`].
+    pub fn new(queue: Q, limit: u32) -> Audit<Q>
+        requires none { (Q.seen queue).count ≡ 0 }
         requires least { 1 ≤ limit }
         requires most { limit ≤ MOST_ENTRIES }
-        ensures value { result ≡ record { standing = empty_audit; limit = limit; spare = 0 } }
+        ensures limit { result.limit ≡ limit }
+        ensures drained { result.standing.drained ≡ 0 }
         ensures stands { StandsIn result.standing [] }
     {
         Audit {
-            alloc,
-            queue: VecDeque::new(alloc),
-            waiting: 0,
+            queue,
             limit,
             drained: 0,
-            spare: 0,
         }
     }
 
     /// How many more entries the limit leaves room for.
     pub fn room(&self) -> u32
-        ensures value { result + length self.now.standing.entries ≡ self.now.limit }
+        ensures value { result + self.now.standing.waiting ≡ self.now.limit }
         ensures limit { self.now.limit ≤ MOST_ENTRIES }
     {
-        self.limit - self.waiting
+        self.limit - self.queue.len()
     }
 
     /// How many entries may wait at most.
@@ -91,6 +78,14 @@ impl Audit {
         self.limit
     }
 
+    /// How many notes of a message are to be kept for it ([`push_notes`](Audit::push_notes)): as many as entries may
+    /// wait, or none where they are counted alone.
+    pub fn most_notes(&self) -> u32
+        ensures { result ≡ most_notes self.now }
+    {
+        if Q::KEEPS { self.limit } else { 0 }
+    }
+
     /// How many entries were drained.
     pub fn drained(&self) -> u64
         ensures { result ≡ self.now.standing.drained }
@@ -98,8 +93,8 @@ impl Audit {
         self.drained
     }
 
-    /// Makes room in memory for `more` further entries, whatever the limit. All notes of a message
-    /// want the room of one entry.
+    /// Makes room in memory for `more` further entries, whatever the limit. All notes of a message want the room of one
+    /// entry.
     ///
     /// # Errors
     /// Want of memory, and then nothing has changed.
@@ -112,19 +107,14 @@ impl Audit {
         // Room that is reserved already takes no memory.
         ensures no_memory { more ≤ self.old.spare → IsOk result }
     {
-        if more <= self.spare {
-            return Ok(());
-        }
-        self.queue.reserve(more as usize)?;
-        self.spare = more;
-        Ok(())
+        self.queue.reserve(more)
     }
 
     /// Takes `entry` into the reserved room, behind those that wait. It takes no memory.
     pub fn push_reserved(&mut self, entry: AuditEntry)
-        requires room { length self.old.standing.entries < self.old.limit }
+        requires room { self.old.standing.waiting < self.old.limit }
         requires reserved { 0 < self.old.spare }
-        requires count { self.old.standing.drained + length self.old.standing.entries + 1 < 2 ^ 64 }
+        requires count { self.old.standing.drained + self.old.standing.waiting + 1 < 2 ^ 64 }
         ensures value { self.new ≡ record {
           standing = with_noted self.old.standing entry;
           limit = self.old.limit;
@@ -133,37 +123,31 @@ impl Audit {
         // The list of all entries goes on with this one.
         ensures stands { TakesEntries self.old.standing (entry ∷ []) self.new.standing }
     {
-        self.queue.push_back_reserved(Chunk::One(entry));
-        self.waiting += 1;
-        self.spare -= 1;
+        self.queue.push_reserved(entry);
     }
 
-    /// Takes `notes`, what is kept back of the message at `position` in the history, counted from
-    /// 0, into the reserved room of one entry. They become entries in their order, behind those
-    /// that wait. It takes no memory, and no more time for many notes than for few.
-    pub fn push_notes(&mut self, position: u64, notes: Vec<Note>)
-        requires room { length self.old.standing.entries + length notes.items ≤ self.old.limit }
+    /// Takes `notes`, what is kept back of the message at `position` in the history, counted from 0, into the reserved
+    /// room of one entry. They become entries in their order, behind those that wait. It takes no memory, and no more
+    /// time for many notes than for few. Where entries are kept, so are all of `notes`.
+    pub fn push_notes(&mut self, position: u64, notes: Notes)
+        requires room { self.old.standing.waiting + notes.count ≤ self.old.limit }
         requires reserved { 0 < self.old.spare }
         requires count { self.old.standing.drained
-            + length self.old.standing.entries + length notes.items < 2 ^ 64 }
+            + self.old.standing.waiting + notes.count < 2 ^ 64 }
+        requires there { AreThere self.old.standing.entries notes }
         ensures value { self.new ≡ record {
-          standing = with_entries self.old.standing (map (stamp position) notes.items);
+          standing = with_notes self.old.standing position notes;
           limit = self.old.limit;
           spare = self.old.spare - 1;
         } }
-        // The list of all entries goes on with these.
-        ensures stands { TakesEntries self.old.standing
-            (map (stamp position) notes.items) self.new.standing }
+        // The list of all entries goes on with those of which these are the ones to be kept.
+        ensures stands { TakesNotes self.old position notes self.new.standing }
     {
-        self.spare -= 1;
-        self.waiting += notes.len() as u32;
-        if let Some(chunk) = Chunk::of_notes(position, notes) {
-            self.queue.push_back_reserved(chunk);
-        }
+        self.queue.push_notes(position, notes);
     }
 
-    /// Hands out the oldest `most` entries, or all if there are fewer, oldest first. They don't
-    /// wait any more then.
+    /// Lets the oldest `most` entries, or all if there are fewer, wait no more. Those that are kept are handed out,
+    /// oldest first.
     ///
     /// # Errors
     /// Want of memory for the list, and then nothing has changed.
@@ -180,34 +164,12 @@ impl Audit {
         ensures err { OnErr result (self.new ≡ self.old) }
         // Nothing to hand out takes no memory.
         ensures none { oldest most self.old.standing ≡ [] → IsOk result }
+        // Whether entries are kept is said by the queue's type.
+        ensures kept { is_some self.old.standing.entries ≡ Q.KEEPS }
     {
-        let count = self.waiting.min(most);
-        let mut out = Vec::with_capacity(self.alloc, count as usize)?;
-        move_oldest(&mut self.queue, &mut out, count as usize);
-        self.waiting -= count;
+        let count = most.min(self.queue.len());
+        let out = self.queue.drain(most)?;
         self.drained += u64::from(count);
         Ok(out)
-    }
-}
-
-/// Moves `count` entries from the front of the queue into the list, which has room for them.
-fn move_oldest(queue: &mut VecDeque<Chunk>, out: &mut Vec<AuditEntry>, count: usize)
-    requires there { count ≤ length (entries_of queue.old.items) }
-    requires room { length out.old.items + count ≤ vec_capacity out.old }
-    // What was the front of the queue stands behind the list.
-    ensures moved { out.new.items ≡ out.old.items ++ take count (entries_of queue.old.items) }
-    ensures left { entries_of queue.new.items ≡ drop count (entries_of queue.old.items) }
-    // The queue has no more pieces than before, and keeps its room.
-    ensures fewer { length queue.new.items ≤ length queue.old.items }
-    ensures capacity { deque_capacity queue.new ≡ deque_capacity queue.old }
-{
-    let full = out.len() + count;
-    'chunks: while out.len() < full {
-        let Some(chunk) = queue.pop_front() else {
-            break;
-        };
-        if let Some(rest) = chunk.move_oldest(full - out.len(), out) {
-            queue.push_front_reserved(rest);
-        }
     }
 }

@@ -1,5 +1,6 @@
 //! What was kept back from a subscription: of one record, or from one place on.
 ghost use Rattle.std.specs.Prelude.{◌≡◌, ◌==◌, length, IfOk};
+ghost use Rattle.disclosure_audit.specs.Listed.{list_of};
 
 use crate::reason::Reason;
 use std::alloc::{AllocError, Global};
@@ -25,6 +26,8 @@ pub struct RemovedFields {
 /// How a list is kept.
 #[derive(Debug, Drop)]
 enum Listed {
+    /// No field, as many records lose none.
+    None,
     /// One field, as most records lose it that lose any, is copied.
     One([RemovedField; 1]),
     /// Other lists are shared.
@@ -49,6 +52,7 @@ impl Clone for RemovedFields {
 
     fn clone(&self) -> Result<RemovedFields, AllocError> {
         let listed = match &self.listed {
+            Listed::None => Listed::None,
             Listed::One(one) => Listed::One(*one),
             Listed::Shared(fields) => Listed::Shared(fields.clone()?),
         };
@@ -66,6 +70,7 @@ impl RemovedFields {
         ensures { IfOk result (λ removed. removed ≡ fields.items) }
     {
         let listed = match fields.as_slice() {
+            [] => Listed::None,
             [one] => Listed::One([*one]),
             _ => Listed::Shared(Arc::new(alloc, fields)?),
         };
@@ -77,6 +82,7 @@ impl RemovedFields {
         ensures { result.now ≡ self.now }
     {
         match &self.listed {
+            Listed::None => &[],
             Listed::One(one) => one.as_slice(),
             Listed::Shared(fields) => fields.as_slice(),
         }

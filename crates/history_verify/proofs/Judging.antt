@@ -42,7 +42,7 @@ use Rattle.mediator_tables.specs.SubscriptionTable.{told, shown, given_to}
 use Rattle.mediator_shares.specs.InForce.{InForce, in_force_with}
 use Rattle.mediator_tables.specs.Adding.{tallied}
 use Rattle.disclosure_audit.specs.declared.entry.Note.{Note}
-use Rattle.mediator_shares.specs.Noting.{KeptNotes, kept_notes}
+use Rattle.disclosure_audit.specs.Noting.{KeptNotes, kept_notes}
 use Rattle.mediator_shares.specs.Sharing.{share_of, given_by, added_by, kept_by, shares_of, tallies_of, note_of, notes_on, noted_of_each, notes_of}
 use Rattle.history_verify.specs.declared.judged.Judged.{Judged}
 use Rattle.history_verify.specs.declared.replay.Replay.{Replay}

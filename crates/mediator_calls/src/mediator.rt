@@ -11,7 +11,7 @@ ghost use Rattle.mediator_calls.specs.Calls.{Opens, RefusesOpen, Closes, Receive
 use crate::Limits;
 use crate::finished::Finished;
 use bytes::Bytes;
-use disclosure_audit::AuditEntry;
+use disclosure_audit::{Audit, AuditEntry, KeptQueue};
 use event_journal::Journal;
 use hash_keys::HashKeys;
 use mediator_state::{Fault, Receipt, State, Status};
@@ -54,7 +54,7 @@ use subscriber_stream::StreamLimits;
 /// assert!(rt; mediator.pull(acme, 1_700_000_060, 1400)?.is_some());
 /// ```
 pub struct Mediator {
-    state: State<Journal>,
+    state: State<Journal, KeptQueue>,
 }
 
 impl Drop for Mediator {
@@ -94,7 +94,8 @@ impl Mediator {
             shapes: limits.shapes,
         };
         let journal = Journal::new(alloc, limits.entries, limits.octets);
-        let state = State::new(alloc, streams, limits.audit, journal)?;
+        let audit = Audit::new(KeptQueue::new(alloc), limits.audit);
+        let state = State::new(alloc, streams, audit, journal)?;
         Ok(Mediator { state })
     }
 

@@ -21,7 +21,7 @@ use Rattle.mediator_history.proofs.HistoryLaws.{flat_map-push}
 use Rattle.shared_mediator.specs.declared.handed.Handed.{Handed}
 use Rattle.mediator_state.specs.declared.fault.Fault.{Fault as MediatorFault}
 use Rattle.shared_mediator.specs.Locked.{Delivering}
-use Rattle.shared_mediator.specs.Handles.{IsBuilt, KeepsSome, MayRefusePull}
+use Rattle.shared_mediator.specs.Handles.{IsBuilt, KeepsSome, KeepsQueued, MayRefusePull}
 use Rattle.mediator_connections.specs.declared.fault.Fault.{Fault}
 use Rattle.mediator_connections.specs.declared.fault.Fault.TheVariants.{Write, Mediator}
 use Rattle.mediator_connections.specs.Faults.{fails_writer}
@@ -75,6 +75,10 @@ pulled Shows now target old new messages shown below k same = record {
   kept = k.kept;
   short = all_short now target messages below k.built;
 }
+
+-- the messages that were pulled stand behind those that the handle had
+pub pulled_queued : (Shows : ℕ → Type 0) (target : ℕ) (old new : Delivering) (messages : List Handed) → KeepsQueued Shows target 32 old new → target < 2 ^ 16 → messages ≡ drop (length old.kept) new.kept → Pulled Shows target old new messages
+pulled_queued Shows target old new messages k below is = pulled Shows k.now target old new messages k.shown below (subst (λ ms. KeepsSome old.kept k.now target ms new.kept) (sym is) k.kept) k.sub
 
 -- ---- messages one after another
 

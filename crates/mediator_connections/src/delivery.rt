@@ -1,19 +1,18 @@
 //! Delivers a subscription: pulls its messages, and writes them.
-ghost use Rattle.std.specs.Prelude.{◌≡◌, ◌+◌, ◌<◌, ◌^◌, false, length, IfOk, IfErr, OnOk};
+ghost use Rattle.std.specs.Prelude.{◌≡◌, ◌+◌, ◌≤◌, ◌<◌, ◌^◌, false, length, drop, IfOk, IfErr, OnOk};
 ghost use Rattle.std.specs.Io.KnownBytes.{Appends};
 ghost use Rattle.octet_io.specs.Moments.{writer_of};
 ghost use Rattle.mediator_connections.specs.Faults.{fails_writer};
 ghost use Rattle.mediator_connections.specs.Delivering.{DeliversSome, FailsToDeliver, Sends, StopsSending, EndsOnWrite, handed_octets};
 
-use crate::clock::Clock;
 use crate::fault::Fault;
 use mediator_calls::SubId;
 use mediator_state::Fault as MediatorFault;
 use octet_io::{Sink, write_all};
 use shared_mediator::{
-    AdminHandle, DeliveryHandle, EntryLedger, Handed, RecordLedger, SharedMediator, Waited,
+    AdminHandle, Clock, DeliveryHandle, EntryLedger, Handed, RecordLedger, SharedMediator,
 };
-use std::alloc::{AllocError, Global};
+use std::alloc::AllocError;
 use std::sync::Wait;
 
 /// The most octets of a message.
@@ -118,29 +117,37 @@ fn send_messages<E: EntryLedger, H: RecordLedger, W: Sink, C: Clock>(
         (writer_of (W.contents writer.old) (W.contents writer.new)) (W.has_failed writer.new)) }
     ensures fails { IfErr result (λ e. W.has_failed writer.new ≡ fails_writer e) }
 {
-    let alloc = handle.allocator();
     let mut sent = 0u64;
+    let mut piece = Vec::new(handle.allocator());
     'pulls: for _ in rt.forever() {
         if sent > u64::MAX - MOST_AT_ONCE * LONGEST_MESSAGE {
             return Err(Fault::Mediator(MediatorFault::HandedFull));
         }
-        let messages = handle.pull_some(rt, shared, clock.now(), target, MOST_AT_ONCE)?;
-        if !messages.is_empty() {
-            sent = send_all(alloc, messages, writer, sent)?;
-        } else if handle.wait(rt, shared) != Waited::Queued {
+        let before = handle.kept().len();
+        let goes_on = handle.pull_queued(rt, shared, clock, target, MOST_AT_ONCE)?;
+        if !goes_on {
             return Ok(sent);
         }
+        sent = send_all(&mut piece, kept_since(handle, before), writer, sent)?;
     }
     unreachable!()
 }
 
-/// Writes `messages` behind the `sent` octets of those before them, in one piece where there is memory for it, and answers how
+/// The messages that a handle keeps behind the first `before`.
+fn kept_since<H: RecordLedger>(handle: &DeliveryHandle<H>, before: usize) -> &[Handed]
+    requires { before ≤ length handle.now.kept }
+    ensures { result.now ≡ drop before handle.now.kept }
+{
+    &handle.kept()[before..]
+}
+
+/// Writes `messages` behind the `sent` octets of those before them, in one `piece` where there is memory for it, and answers how
 /// many octets were sent in all.
 ///
 /// # Errors
 /// The writer failed, and the fault says how many octets were sent in all.
 fn send_all<W: Sink>(
-    alloc: Global,
+    piece: &mut Vec<u8>,
     messages: &[Handed],
     writer: &mut W,
     sent: u64,
@@ -152,24 +159,24 @@ fn send_all<W: Sink>(
     ensures err { IfErr result (λ e. StopsSending e (handed_octets messages.now) sent
         (W.contents writer.old) (W.contents writer.new) (W.has_failed writer.new)) }
 {
-    match joined(alloc, messages) {
-        Ok(octets) => send(&octets, writer, sent),
+    match join(messages, piece) {
+        Ok(()) => send(piece.as_slice(), writer, sent),
         Err(_) => send_each(messages, writer, sent),
     }
 }
 
-/// The octets of messages, one directly after another.
+/// Puts the octets of messages, one directly after another, in place of those that stand in `piece`.
 ///
 /// # Errors
 /// Want of memory.
-fn joined(alloc: Global, messages: &[Handed]) -> Result<Vec<u8>, AllocError>
-    ensures { IfOk result (λ octets. octets.items ≡ handed_octets messages.now) }
+fn join(messages: &[Handed], piece: &mut Vec<u8>) -> Result<(), AllocError>
+    ensures { OnOk result (piece.new.items ≡ handed_octets messages.now) }
 {
-    let mut octets = Vec::new(alloc);
+    piece.clear();
     'joins: for handed in messages {
-        octets.extend_from_slice(handed.message.as_slice())?;
+        piece.extend_from_slice(handed.message.as_slice())?;
     }
-    Ok(octets)
+    Ok(())
 }
 
 /// Writes `messages` one after another, behind the `sent` octets of those before them, and answers how many octets were sent in

@@ -255,7 +255,7 @@ fn offer_piece<E: EntryLedger, H: RecordLedger, O: Reception>(
     ensures err { IfErr result (λ e. RefusesAmong e handle.old handle.new messages.items) }
 {
     let offered = offer_each(rt, shared, handle, messages, answers, progress, reception);
-    shared.wake();
+    shared.wake(rt);
     offered
 }
 

@@ -8,8 +8,9 @@
 //! - `admin`: [`serve_admin`], the commands of an administrator's connection, which `command_input` cuts out of its octets.
 //! - `control`: [`Reception`] and [`Control`], what an exporter's and an administrator's connection ask of their server and tell it,
 //!   and [`Patience`], how long they wait for room in the queues, as `room` does.
-//! - `clock`: [`Clock`], which tells the Export Times.
 //! - `fault`: [`Fault`], why a call stops.
+//!
+//! [`Clock`], which tells the Export Times, is `shared_mediator`'s.
 //!
 //! Proved of `serve_exporter`: the messages that it adds to its handle's receipts, under the handle's session and numbered on,
 //! are those that the octets that it read are cut into (RFC 7011, section 10.4): where the answer is `Ok`, all of them, and the
@@ -43,7 +44,6 @@
 #![tactic(auto)]
 
 mod admin;
-mod clock;
 mod collector;
 mod command_input;
 mod control;
@@ -53,9 +53,9 @@ mod fault;
 mod room;
 
 pub use admin::serve_admin;
-pub use clock::Clock;
 pub use collector::Collector;
 pub use control::{Control, Patience, Reception};
 pub use delivery::deliver;
 pub use exporter::{ServedExporter, serve_exporter};
 pub use fault::Fault;
+pub use shared_mediator::Clock;

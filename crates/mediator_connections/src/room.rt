@@ -23,7 +23,7 @@ pub(crate) fn wait_for_room<E: EntryLedger, H: RecordLedger, P: Patience>(
             return waits;
         }
         if waits == 0 {
-            shared.wake();
+            shared.wake(rt);
         }
         if !patience.wait(waits) {
             return waits;
@@ -49,7 +49,7 @@ pub(crate) fn wait_for_advance<E: EntryLedger, H: RecordLedger, P: Patience>(
             return;
         }
         if waits == 0 {
-            shared.wake();
+            shared.wake(rt);
         }
         if !patience.wait(waits) {
             return;

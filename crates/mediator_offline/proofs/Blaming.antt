@@ -6,6 +6,7 @@ use Rattle.mediator_offline.specs.declared.job.Fault.{Fault}
 use Rattle.mediator_offline.specs.declared.job.Fault.TheVariants.{Write, Mediator, AuditWrite}
 use Rattle.mediator_offline.specs.Failing.{output_after, audit_after, FailsOnly}
 use Rattle.mediator_offline.specs.Recording.{StopsLines}
+use Rattle.mediator_offline.specs.Gathering.{StopsGathered}
 use Rattle.mediator_offline.specs.Pulling.{StopsDelivery, FailsDelivery}
 
 -- a fault that was handed on, where the device was before as at first
@@ -26,10 +27,18 @@ lines_only e x had w audit_had a is cause fails same = rw is (only x cause fails
     only _ c f = absurd c
 
 -- of a delivery, the writer alone
-pub delivery_only : (e x : Fault) (d : OfflineRun) (held holds : Option (List ℕ)) (had w audit_had : Bool) → e ≡ x → FailsDelivery x d held holds w → w ≡ output_after x had → FailsOnly e had audit_had false w audit_had
-delivery_only e x d held holds had w audit_had is delivery fails = rw is (only x delivery.stops fails)
+pub delivery_only : {Q : Type 0} (e x : Fault) (d : OfflineRun Q) (gathered : List ℕ) (held holds : Option (List ℕ)) (had w audit_had : Bool) → e ≡ x → FailsDelivery x d gathered held holds w → w ≡ output_after x had → FailsOnly e had audit_had false w audit_had
+delivery_only e x d gathered held holds had w audit_had is delivery fails = rw is (only x delivery.stops fails)
   where
-    only : (y : Fault) → StopsDelivery y d held holds w delivery.messages → w ≡ output_after y had → FailsOnly y had audit_had false w audit_had
+    only : (y : Fault) → StopsDelivery y d gathered held holds w delivery.messages → w ≡ output_after y had → FailsOnly y had audit_had false w audit_had
     only (Write sent) s f = record { reader = refl; writer = f; audit = refl }
     only (Mediator fault.OutOfMemory) s f = record { reader = refl; writer = f; audit = refl }
     only _ s f = absurd s
+
+-- of what is written in the end, the writer alone
+pub gathered_only : (e x : Fault) (sent : ℕ) (gathered : List ℕ) (held holds : Option (List ℕ)) (had w audit_had a : Bool) → e ≡ x → StopsGathered x sent gathered held holds w → a ≡ audit_had → FailsOnly e had audit_had false w a
+gathered_only e x sent gathered held holds had w audit_had a is stops same = rw (is ∙ stops.is) (record { reader = refl; writer = stops.inside.failed; audit = same })
+
+-- a writer that has failed no more since
+pub writer_since : (e : Fault) (had audit_had mid now a : Bool) → now ≡ mid → FailsOnly e had audit_had false mid a → FailsOnly e had audit_had false now a
+writer_since e had audit_had mid now a same only = record { reader = only.reader; writer = same ∙ only.writer; audit = only.audit }

@@ -3,11 +3,13 @@ use Rattle.std.proofs.Common.{◌≡◌, ℕ, ◌+◌, ◌*◌, ◌≤◌, ◌<�
 use Rattle.std.specs.List.{concat}
 use Rattle.std.specs.Io.KnownBytes.{Appends}
 use Rattle.std.proofs.KnownBytes.{Appends-trans, Appends-nil}
+use Rattle.std.proofs.Math.Seq.{take-append_seam}
 use Rattle.std.proofs.lemmas.List.{take-append-drop, length-take}
 use Rattle.ipfix_template.specs.DataRecord.{DataRecord}
 use Rattle.subscriber_stream.specs.Shapes.{shapes_of, is_among, id_of}
 use Rattle.subscriber_stream.specs.Parts.{Part, Announcement, Entry, parts, parts_at, records_of_parts}
 use Rattle.subscriber_stream.specs.Message.{run_length, parts_taken, next_message, built, place_after}
+use Rattle.subscriber_stream.specs.Calls.{message_if}
 use Rattle.stream_meaning.specs.Served.{AreStreamable}
 use Rattle.stream_meaning.proofs.Tables.{empty, AreKnown, after_parts}
 use Rattle.stream_meaning.proofs.Sets.{known_split}
@@ -28,18 +30,19 @@ use Rattle.event_journal.specs.declared.entry.Entry.{Entry as HistoryEntry}
 use Rattle.mediator_history.specs.Auditing.{audit_list}
 use Rattle.mediator_history.specs.Disclosed.{disclosed}
 use Rattle.subscriber_stream.proofs.CallLaws.{run_some}
-use Rattle.stream_meaning.proofs.Runs.{some_message}
 use Rattle.std.proofs.lemmas.Option.{same_Some}
-use Rattle.sequences.proofs.ListLaws.{take-add-append, concat_push}
+use Rattle.sequences.proofs.ListLaws.{concat_push}
 use Rattle.mediator_offline.specs.declared.run.OfflineRun.{OfflineRun}
 use Rattle.mediator_offline.specs.Runs.{sizes_tell, audit_drained, RunStands, Small, IsServing, SameButState, KeepsAudit}
 use Rattle.mediator_offline.specs.HandsOut.{HandsOutAll}
 use Rattle.mediator_offline.proofs.Receiving.{within_end}
 use Rattle.mediator_offline.specs.Offline.{end_of}
 use Rattle.mediator_offline.specs.declared.job.Fault.{Fault}
-use Rattle.mediator_offline.specs.declared.job.Fault.TheVariants.{Write, Mediator}
+use Rattle.mediator_offline.specs.declared.job.Fault.TheVariants.{Mediator}
 use Rattle.mediator_state.specs.declared.fault.Fault.TheVariants as fault
-use Rattle.mediator_offline.specs.Pulling.{IsDeliveringRun, PullsMessage, Delivers, StopsDelivery, FailsDelivery}
+use Rattle.mediator_offline.specs.Gathering.{and_gathered, IsGatheredFor, StopsGathered}
+use Rattle.mediator_offline.specs.Pulling.{IsDeliveringRun, PullsMessage, Delivers, FailsDelivery}
+use Rattle.mediator_offline.proofs.GatheringLaws.{none_gathered, gathered_more, more_written}
 
 -- ---- a message is pulled
 
@@ -116,7 +119,7 @@ hands-snoc records now target p q (n ∷ ms) m hands is = (hands.0, hands-snoc r
 
 -- ---- a run that pulls
 
-pub stands_on : (d e : OfflineRun) (h : List HistoryEntry) (p q : ℕ) → RunStands d h p → SameButState d e → StateStandsFor sizes_tell e.state h → handed_place e.state.engine 1 ≡ q → RunStands e h q
+pub stands_on : {Q : Type 0} (d e : OfflineRun Q) (h : List HistoryEntry) (p q : ℕ) → RunStands d h p → SameButState d e → StateStandsFor sizes_tell e.state h → handed_place e.state.engine 1 ≡ q → RunStands e h q
 stands_on d e h p q so same state here = record {
   state = state;
   place = here;
@@ -134,7 +137,7 @@ abbrev pub parts_in : Option Subscription → List Part
 parts_in None = []
 parts_in (Some s) = s.stream.standing.waiting
 
-abbrev pub parts_waiting : OfflineRun → List Part
+abbrev pub parts_waiting : {Q : Type 0} → OfflineRun Q → List Part
 parts_waiting d = parts_in (table.at d.state.engine.subscriptions 1)
 
 parts_behind : (h : List HistoryEntry) (limits : StreamLimits) (o : Option Subscription) → IsLiveAs h limits 1 o → is_live 1 h ≡ true → parts_in o ≡ drop (place_in o) (parts (disclosed 1 h))
@@ -144,32 +147,32 @@ parts_behind h limits None is live = absurd (no (sym is ∙ live))
     no e = absurd cc
 parts_behind h limits (Some s) is live = is.stream.waiting
 
-waits_behind : (d : OfflineRun) (h : List HistoryEntry) (p : ℕ) → RunStands d h p → parts_waiting d ≡ drop p (parts (disclosed 1 h))
+waits_behind : {Q : Type 0} (d : OfflineRun Q) (h : List HistoryEntry) (p : ℕ) → RunStands d h p → parts_waiting d ≡ drop p (parts (disclosed 1 h))
 waits_behind d h p so =
     parts_behind h d.state.engine.limits (table.at d.state.engine.subscriptions 1) (so.state.stands.subscriptions 1) (served_is_live 1 h so.serving)
     ∙ ap (λ n. drop n (parts (disclosed 1 h))) so.place
 
 -- what the state answers to a pull is what the run does
-pub pulls_of : (d e : OfflineRun) (m : Option (List ℕ)) → SameButState d e → calls.KeepsHistories sizes_tell d.state e.state → calls.ForEachHistory sizes_tell d.state (calls.PullsAfter d.state.engine e.state.engine 1 d.job.now d.job.target m) → PullsMessage d m e
+pub pulls_of : {Q : Type 0} (d e : OfflineRun Q) (m : Option (List ℕ)) → SameButState d e → calls.KeepsHistories sizes_tell d.state e.state → calls.ForEachHistory sizes_tell d.state (calls.PullsAfter d.state.engine e.state.engine 1 d.job.now d.job.target m) → PullsMessage d m e
 pulls_of d e m same keeps got = record {
   message = λ h p so. (got h so.state).message ∙ ap (λ q. built (disclosed 1 h) q d.job.now d.job.target) so.place;
   stands = λ h p so.
       stands_on d e h p (place_after (disclosed 1 h) p d.job.target) so same (keeps h so.state) ((got h so.state).moved ∙ ap (λ q. place_after (disclosed 1 h) q d.job.target) so.place);
 }
 
--- the same history and the same entries drained: the same entries wait
-pub audit_kept : (d e : OfflineRun) (h : List HistoryEntry) → StateStandsFor sizes_tell d.state h → StateStandsFor sizes_tell e.state h → audit_drained e ≡ audit_drained d → KeepsAudit d e
-audit_kept d e h so then same = record { drained = same; waiting = then.stands.audit.waiting ∙ ap (λ n. drop n (audit_list h)) same ∙ sym so.stands.audit.waiting }
+-- the same history and the same entries drained: as many wait
+pub audit_kept : {Q : Type 0} (d e : OfflineRun Q) (h : List HistoryEntry) → StateStandsFor sizes_tell d.state h → StateStandsFor sizes_tell e.state h → audit_drained e ≡ audit_drained d → KeepsAudit d e
+audit_kept d e h so then same = record { drained = same; waiting = then.stands.audit.waiting ∙ ap (λ (n : ℕ). length (drop n (audit_list h))) same ∙ sym so.stands.audit.waiting }
 
 -- where a run has come to, from place p on
-pub record IsAt (old d : OfflineRun) (h : List HistoryEntry) (p : ℕ) (messages : List (List ℕ)) : Type 0 where
+pub record IsAt {Q : Type 0} (old d : OfflineRun Q) (h : List HistoryEntry) (p : ℕ) (messages : List (List ℕ)) : Type 0 where
   pub place : ℕ
   pub hands : HandsOutAll (disclosed 1 h) old.job.now old.job.target p messages place
   pub stands : RunStands d h place
   pub few : old.sent ≤ 65535 * p → d.sent ≤ 65535 * place
 
 -- these messages were pulled and written
-pub record IsPulling (old d : OfflineRun) (held holds : Option (List ℕ)) : Type 0 where
+pub record IsPulling {Q : Type 0} (old d : OfflineRun Q) (held holds : Option (List ℕ)) : Type 0 where
   pub messages : List (List ℕ)
   pub job : d.job ≡ old.job
   pub audit : KeepsAudit old d
@@ -177,7 +180,7 @@ pub record IsPulling (old d : OfflineRun) (held holds : Option (List ℕ)) : Typ
   pub written : Appends held holds (concat messages)
   pub handed : (h : List HistoryEntry) (p : ℕ) → RunStands old h p → Small h → IsAt old d h p messages
 
-pub pulling_starts : (d : OfflineRun) (held : Option (List ℕ)) → IsPulling d d held held
+pub pulling_starts : {Q : Type 0} (d : OfflineRun Q) (held : Option (List ℕ)) → IsPulling d d held held
 pulling_starts d held = record {
   messages = [];
   job = refl;
@@ -191,27 +194,27 @@ pub streamable_of : (h : List HistoryEntry) → Small h → AreStreamable (discl
 streamable_of h small = small.streamable
 
 -- what a pull answers, and what it leaves
-pub record Pulled (d e : OfflineRun) (answer : Option (List ℕ)) : Type 0 where
+pub record Pulled {Q : Type 0} (d e : OfflineRun Q) (answer : Option (List ℕ)) : Type 0 where
   pub same : SameButState d e
   pub sent : e.sent ≡ d.sent
   pub audit : KeepsAudit d e
   pub pulls : PullsMessage d answer e
   pub below : d.job.target < 2 ^ 16
 
-audit_on : (d e f : OfflineRun) → KeepsAudit d e → KeepsAudit e f → KeepsAudit d f
+audit_on : {Q : Type 0} (d e f : OfflineRun Q) → KeepsAudit d e → KeepsAudit e f → KeepsAudit d f
 audit_on d e f a b = record { drained = b.drained ∙ a.drained; waiting = b.waiting ∙ a.waiting }
 
 -- a message is written: the state stays
-written_on : (e f : OfflineRun) (h : List HistoryEntry) (p : ℕ) → SameButState e f → f.state ≡ e.state → RunStands e h p → RunStands f h p
+written_on : {Q : Type 0} (e f : OfflineRun Q) (h : List HistoryEntry) (p : ℕ) → SameButState e f → f.state ≡ e.state → RunStands e h p → RunStands f h p
 written_on e f h p same state so = stands_on e f h p p so same (subst (λ s. StateStandsFor sizes_tell s h) (sym state) so.state) (ap (λ s. handed_place s.engine 1) state ∙ so.place)
 
 -- one message more was pulled and written
-pub turn : (old d e f : OfflineRun) (held holds writes : Option (List ℕ)) (m : List ℕ) → IsPulling old d held holds → Pulled d e (Some m) → SameButState e f → f.state ≡ e.state
+pub turn : {Q : Type 0} (old d e f : OfflineRun Q) (held holds writes : Option (List ℕ)) (m : List ℕ) → IsPulling old d held holds → Pulled d e (Some m) → SameButState e f → f.state ≡ e.state
     → Appends holds writes m → f.sent ≡ e.sent + length m → IsPulling old f held writes
 turn old d e f held holds writes m so p same state writing counting = record {
   messages = so.messages ++ m ∷ [];
   job = same.job ∙ p.same.job ∙ so.job;
-  audit = audit_on old e f (audit_on old d e so.audit p.audit) (record { drained = ap (λ s. s.engine.audit.standing.drained) state; waiting = ap (λ s. s.engine.audit.standing.entries) state });
+  audit = audit_on old e f (audit_on old d e so.audit p.audit) (record { drained = ap (λ s. s.engine.audit.standing.drained) state; waiting = ap (λ s. s.engine.audit.standing.waiting) state });
   sent = omega (arith, so.sent, p.sent, counting, ap length (concat_push so.messages m), length-append (concat so.messages) m);
   written = subst (Appends held writes) (sym (concat_push so.messages m)) (Appends-trans held holds writes (concat so.messages) m so.written writing);
   handed = λ h q start small. next h q start small (so.handed h q start small);
@@ -236,7 +239,7 @@ turn old d e f held holds writes m so p same state writing counting = record {
         found = pulled (disclosed 1 h) d.job.now d.job.target at.place m small.streamable p.below here
 
 -- nothing waits: all was written
-pub turn_ends : (old d e : OfflineRun) (held holds : Option (List ℕ)) → IsPulling old d held holds → Pulled d e None → Delivers old e held holds
+pub turn_ends : {Q : Type 0} (old d e : OfflineRun Q) (held holds : Option (List ℕ)) → IsPulling old d held holds → Pulled d e None → Delivers old e held holds
 turn_ends old d e held holds so p = record {
   job = p.same.job ∙ so.job;
   audit = audit_on old d e so.audit p.audit;
@@ -263,30 +266,30 @@ turn_ends old d e held holds so p = record {
     few q le h start small at = omega (arith, p.sent, at.few le, end h q at)
 
 -- where the run of a turn stands, and the message of that place
-record IsTurn (old d : OfflineRun) (start : IsDeliveringRun old) (messages : List (List ℕ)) (m : List ℕ) : Type 0 where
+record IsTurn {Q : Type 0} (old d : OfflineRun Q) (start : IsDeliveringRun old) (messages : List (List ℕ)) (m : List ℕ) : Type 0 where
   at : IsAt old d start.history start.place messages
   here : built (disclosed 1 start.history) at.place d.job.now d.job.target ≡ Some m
   found : IsPulled (disclosed 1 start.history) d.job.now d.job.target at.place m
 
-turn_at : (old d e : OfflineRun) (held holds : Option (List ℕ)) (m : List ℕ) (start : IsDeliveringRun old) (so : IsPulling old d held holds) → Pulled d e (Some m) → IsTurn old d start so.messages m
+turn_at : {Q : Type 0} (old d e : OfflineRun Q) (held holds : Option (List ℕ)) (m : List ℕ) (start : IsDeliveringRun old) (so : IsPulling old d held holds) → Pulled d e (Some m) → IsTurn old d start so.messages m
 turn_at old d e held holds m start so p =
     let at = so.handed start.history start.place start.stands start.small in
     let here = sym (p.pulls.message start.history at.place at.stands) in
     record { at = at; here = here; found = pulled (disclosed 1 start.history) d.job.now d.job.target at.place m start.small.streamable p.below here }
 
 -- a message is short, and what was sent before it is little
-pub turn_fits : (old d e : OfflineRun) (held holds : Option (List ℕ)) (m : List ℕ) → IsDeliveringRun old → IsPulling old d held holds → Pulled d e (Some m) → e.sent + length m < 2 ^ 64
+pub turn_fits : {Q : Type 0} (old d e : OfflineRun Q) (held holds : Option (List ℕ)) (m : List ℕ) → IsDeliveringRun old → IsPulling old d held holds → Pulled d e (Some m) → e.sent + length m < 2 ^ 64
 turn_fits old d e held holds m start so p =
     let t = turn_at old d e held holds m start so p in
     omega (arith, p.sent, t.at.few start.sent, within_end d start.history t.at.place t.at.stands, t.found.short, parts_few (disclosed 1 start.history), start.small.listed, start.small.entries)
 
-pub turn_serves : (old d : OfflineRun) (held holds : Option (List ℕ)) → IsDeliveringRun old → IsPulling old d held holds → IsServing d
+pub turn_serves : {Q : Type 0} (old d : OfflineRun Q) (held holds : Option (List ℕ)) → IsDeliveringRun old → IsPulling old d held holds → IsServing d
 turn_serves old d held holds start so =
     let at = so.handed start.history start.place start.stands start.small in
     record { history = start.history; place = at.place; stands = at.stands }
 
 -- each turn leaves fewer parts
-pub turn_smaller : (old d e f : OfflineRun) (held holds : Option (List ℕ)) (m : List ℕ) → IsDeliveringRun old → IsPulling old d held holds → Pulled d e (Some m) → f.state ≡ e.state
+pub turn_smaller : {Q : Type 0} (old d e f : OfflineRun Q) (held holds : Option (List ℕ)) (m : List ℕ) → IsDeliveringRun old → IsPulling old d held holds → Pulled d e (Some m) → f.state ≡ e.state
     → length (parts_waiting f) < length (parts_waiting d)
 turn_smaller old d e f held holds m start so p state =
     let t = turn_at old d e held holds m start so p in
@@ -303,38 +306,64 @@ turn_smaller old d e f held holds m start so p state =
       length-drop q (parts (disclosed 1 h)),
     )
 
--- ---- what was gathered is written
+-- ---- what is gathered, and is written
 
-pub all_delivered : (old new : OfflineRun) (held holds : Option (List ℕ)) (text : List ℕ) → Delivers old new (Some []) (Some text) → Appends held holds text → Delivers old new held holds
-all_delivered old new held holds text d writing = record {
+-- what stood in front stays there
+pub front_stays : {Q : Type 0} (old d : OfflineRun Q) (before text : List ℕ) → IsPulling old d (Some before) (Some text) → take (length before) text ≡ before
+front_stays old d before text so = ap (take (length before)) so.written ∙ take-append_seam before (concat so.messages)
+
+-- all was gathered behind what waited to be written
+pub delivers_gathered : {Q : Type 0} (old new : OfflineRun Q) (written : Option (List ℕ)) (before gathered : List ℕ) → Delivers old new (Some before) (Some gathered) → Delivers old new (and_gathered written before) (and_gathered written gathered)
+delivers_gathered old new written before gathered d = record {
   job = d.job;
   audit = d.audit;
   messages = d.messages;
   handed = d.handed;
-  written = subst (Appends held holds) d.written writing;
+  written = gathered_more written before gathered (concat d.messages) d.written;
   sent = d.sent;
   few = d.few;
 }
 
-pub all_fits : (old new : OfflineRun) (text : List ℕ) → IsDeliveringRun old → Delivers old new (Some []) (Some text) → old.sent + length text < 2 ^ 64
-all_fits old new text start d = omega (arith, d.sent, ap length d.written, d.few start.place start.sent start.history start.stands start.small, parts_few (disclosed 1 start.history), start.small.listed, start.small.entries)
-
--- the writer failed after n octets
-pub write_fails : (old new : OfflineRun) (held holds : Option (List ℕ)) (text : List ℕ) (n : ℕ) (e : Fault) (failed : Bool) → Delivers old new (Some []) (Some text) → e ≡ Write (old.sent + n) → WritesFront held holds text n failed
-    → FailsDelivery e old held holds failed
-write_fails old new held holds text n e failed d is front = rw is (record {
+-- and written
+pub delivers_written : {Q : Type 0} (old new : OfflineRun Q) (held holds : Option (List ℕ)) (before gathered left : List ℕ) → Delivers old new (Some before) (Some gathered) → Appends held holds gathered → left ≡ [] → Delivers old new (and_gathered held before) (and_gathered holds left)
+delivers_written old new held holds before gathered left d writing none = record {
+  job = d.job;
+  audit = d.audit;
   messages = d.messages;
-  handed = λ h p so small. (end_of h, (d.handed h p so small).0);
-  stops = (n, refl, subst (λ t. WritesFront held holds t n failed) d.written front);
+  handed = d.handed;
+  written = more_written held holds before gathered left (concat d.messages) d.written writing none;
+  sent = d.sent;
+  few = d.few;
+}
+
+pub delivers_counts : {Q : Type 0} (old new : OfflineRun Q) (before gathered : List ℕ) → IsGatheredFor old before → Delivers old new (Some before) (Some gathered) → length gathered ≤ new.sent
+delivers_counts old new before gathered so d = omega (arith, so.counted, d.sent, ap (λ (t : List ℕ). length t) d.written, length-append before (concat d.messages))
+
+-- the writer failed
+pub write_fails : {Q : Type 0} (old new : OfflineRun Q) (held holds : Option (List ℕ)) (before gathered left : List ℕ) (e : Fault) (failed : Bool) → IsGatheredFor old before → Delivers old new (Some before) (Some gathered) → StopsGathered e new.sent gathered held holds failed → left ≡ []
+    → FailsDelivery e old before held (and_gathered holds left) failed
+write_fails old new held holds before gathered left e failed so d stops none = rw stops.is (record {
+  messages = d.messages;
+  handed = λ h p stands small. (end_of h, (d.handed h p stands small).0);
+  stops = (
+    stops.front,
+    omega (arith, delivers_counts old new before gathered so d, so.counted, d.sent, ap (λ (t : List ℕ). length t) d.written, length-append before (concat d.messages)),
+    subst (λ w. WritesFront held w (before ++ concat d.messages) stops.front failed) (sym (ap (and_gathered holds) none ∙ none_gathered holds))
+        (subst (λ t. WritesFront held holds t stops.front failed) d.written stops.inside),
+  );
 })
 
--- memory ran out, and nothing was written
-pub memory_fails : (old : OfflineRun) (held : Option (List ℕ)) (e : Fault) (failed : Bool) → e ≡ Mediator fault.OutOfMemory → FailsDelivery e old held held failed
-memory_fails old held e failed is = rw is (record {
+-- memory ran out, and nothing more was gathered
+pub memory_fails : {Q : Type 0} (old : OfflineRun Q) (held : Option (List ℕ)) (before left : List ℕ) (e : Fault) (failed : Bool) → e ≡ Mediator fault.OutOfMemory → left ≡ before → FailsDelivery e old before held (and_gathered held left) failed
+memory_fails old held before left e failed is same = rw is (record {
   messages = [];
   handed = λ h p so small. (p, refl);
-  stops = Appends-nil held;
+  stops = subst (λ t. Appends (and_gathered held before) (and_gathered held t) []) (sym same) (Appends-nil (and_gathered held before));
 })
 
-pub some_same : (o : Option (List ℕ)) (a b : List ℕ) → o ≡ Some a → b ≡ a → o ≡ Some b
-some_same o a b is same = is ∙ ap some_message (sym same)
+-- whether there was a message
+pub pulled_some : {Q : Type 0} (d e : OfflineRun Q) (there : Bool) (m : List ℕ) → there ≡ true → Pulled d e (message_if there m) → Pulled d e (Some m)
+pulled_some d e there m is p = subst (λ b. Pulled d e (message_if b m)) is p
+
+pub pulled_none : {Q : Type 0} (d e : OfflineRun Q) (there : Bool) (m : List ℕ) → there ≡ false → Pulled d e (message_if there m) → Pulled d e None
+pulled_none d e there m is p = subst (λ b. Pulled d e (message_if b m)) is p

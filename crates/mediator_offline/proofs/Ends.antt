@@ -44,7 +44,7 @@ nothing_framed = record {
 }
 
 -- a run that was opened runs over no message yet
-pub running_starts : (d : OfflineRun) (job : OfflineJob) (before : Outputs) → IsRunOpened d job → IsRunning d job [] before before
+pub running_starts : {Q : Type 0} (d : OfflineRun Q) (job : OfflineJob) (before : Outputs) → IsRunOpened d job → IsRunning d job [] before before
 running_starts d job before o = record {
   job_is = o.job_is;
   job_accepted = o.job_accepted;
@@ -61,7 +61,7 @@ running_starts d job before o = record {
   handed = subst (AreHandedOut [] []) (sym parts_none) none_handed_out;
 }
 
-pub reading_starts : (d : OfflineRun) (i : IntakeState) (job : OfflineJob) (before : Ports) → IsRunOpened d job → i ≡ nothing_read job.turns → IsAfter d i job before before
+pub reading_starts : {Q : Type 0} (d : OfflineRun Q) (i : IntakeState) (job : OfflineJob) (before : Ports) → IsRunOpened d job → i ≡ nothing_read job.turns → IsAfter d i job before before
 reading_starts d i job before o new = record {
   octets = [];
   messages = [];
@@ -73,7 +73,7 @@ reading_starts d i job before o new = record {
 }
 
 -- a piece was read, and the messages that it made whole were handled
-pub reads_on : (d e : OfflineRun) (i k : IntakeState) (job : OfflineJob) (before mid after : Ports) (out : List (List ℕ)) → IsAfter d i job before mid
+pub reads_on : {Q : Type 0} (d e : OfflineRun Q) (i k : IntakeState) (job : OfflineJob) (before mid after : Ports) (out : List (List ℕ)) → IsAfter d i job before mid
     → Yields i mid.left after.left out k → HandlesAll d e out mid.outputs after.outputs → IsAfter e k job before after
 reads_on d e i k job before mid after out so takes handles = record {
   octets = so.octets ++ takes.piece;
@@ -85,11 +85,11 @@ reads_on d e i k job before mid after out so takes handles = record {
   few = omega (arith, so.few, takes.is_piece.few, takes.turn, length-append so.octets takes.piece);
 }
 
-pub runs_after : (d : OfflineRun) (i : IntakeState) (job : OfflineJob) (before after : Ports) → IsAfter d i job before after → RunsSomewhere d after.outputs
+pub runs_after : {Q : Type 0} (d : OfflineRun Q) (i : IntakeState) (job : OfflineJob) (before after : Ports) → IsAfter d i job before after → RunsSomewhere d after.outputs
 runs_after d i job before after so = record { job = job; messages = so.messages; before = before.outputs; running = so.running }
 
 -- one of these messages stops the run
-pub message_stops : (e : Fault) (d : OfflineRun) (i k : IntakeState) (job : OfflineJob) (before mid after : Ports) (out : List (List ℕ)) → IsAfter d i job before mid
+pub message_stops : {Q : Type 0} (e : Fault) (d : OfflineRun Q) (i k : IntakeState) (job : OfflineJob) (before mid after : Ports) (out : List (List ℕ)) → IsAfter d i job before mid
     → Yields i mid.left after.left out k → StopsAmong e d out mid.outputs after.outputs → StopsSomewhere e job before after
 message_stops e d i k job before mid after out so takes stop = record { octets = octets; taken = taken; stops = by e here }
   where
@@ -133,7 +133,7 @@ message_stops e d i k job before mid after out so takes stop = record { octets =
 same_read : (given mid left : Option (List ℕ)) (octets : List ℕ) → Consumes given mid octets → Consumes mid left [] → Consumes given left octets
 same_read given mid left octets taken none = subst (Consumes given left) (append-nil octets) (Consumes-trans given mid left octets [] taken none)
 
-done_after : (d : OfflineRun) (i : IntakeState) (job : OfflineJob) (before after : Ports) → (so : IsAfter d i job before after) → i.framing.fault ≡ None
+done_after : {Q : Type 0} (d : OfflineRun Q) (i : IntakeState) (job : OfflineJob) (before after : Ports) → (so : IsAfter d i job before after) → i.framing.fault ≡ None
     → IsFiltered job so.octets so.messages None i.framing.pending before.outputs after.outputs
 done_after d i job before after so sound =
     filtered_of d job so.octets so.messages None i.framing.pending before.outputs after.outputs so.running (subst (λ x. IsFramed so.octets so.messages x i.framing.pending) sound so.framed)
@@ -146,7 +146,7 @@ record ReadsFault (w : DecodeError) (job : OfflineJob) (before : Ports) (left : 
   few : AreRead job.turns octets
   done : IsFiltered job octets messages (Some w) [] before.outputs after
 
-faulty : (w : DecodeError) (d : OfflineRun) (i k : IntakeState) (job : OfflineJob) (before mid : Ports) (left : Option (List ℕ)) → IsAfter d i job before mid → StreamHasFault w i mid.left left k
+faulty : {Q : Type 0} (w : DecodeError) (d : OfflineRun Q) (i k : IntakeState) (job : OfflineJob) (before mid : Ports) (left : Option (List ℕ)) → IsAfter d i job before mid → StreamHasFault w i mid.left left k
     → ReadsFault w job before left mid.outputs
 faulty w d i k job before mid left so (inl was) = record {
   octets = so.octets;
@@ -167,7 +167,7 @@ faulty w d i k job before mid left so (inr now) = record {
 }
 
 -- the reader has this left then, and has failed or not; the outputs are as they were
-pub intake_stops : (w : IntakeFault) (d : OfflineRun) (i k : IntakeState) (job : OfflineJob) (before mid : Ports) (left : Option (List ℕ)) (failed : Bool) → IsAfter d i job before mid
+pub intake_stops : {Q : Type 0} (w : IntakeFault) (d : OfflineRun Q) (i k : IntakeState) (job : OfflineJob) (before mid : Ports) (left : Option (List ℕ)) (failed : Bool) → IsAfter d i job before mid
     → StopsIntake w i mid.left left k → failed ≡ intake_reader w false → StopsSomewhere (reading_fault w) job before (with_left left failed mid.outputs)
 intake_stops intake.Read d i k job before mid left failed so stops fails = record {
   octets = so.octets;
@@ -213,7 +213,7 @@ intake_only (intake.Framing why) e had failed audit_had afailed rfailed is fails
 intake_only intake.Turns e had failed audit_had afailed rfailed is fails same audit_same = rw is (record { reader = fails; writer = same; audit = audit_same })
 intake_only intake.OutOfMemory e had failed audit_had afailed rfailed is fails same audit_same = rw is (record { reader = fails; writer = same; audit = audit_same })
 
-pub stream_ends : (d : OfflineRun) (i k : IntakeState) (job : OfflineJob) (before mid : Ports) (left : Option (List ℕ)) (failed : Bool) → IsAfter d i job before mid → Ends i mid.left left k
+pub stream_ends : {Q : Type 0} (d : OfflineRun Q) (i k : IntakeState) (job : OfflineJob) (before mid : Ports) (left : Option (List ℕ)) (failed : Bool) → IsAfter d i job before mid → Ends i mid.left left k
     → ReachesEnd d job before (with_left left failed mid.outputs)
 stream_ends d i k job before mid left failed so ends = record {
   octets = so.octets;
@@ -240,7 +240,7 @@ history_length job before (m ∷ messages) so =
     one = ap length (fold-snoc after_message (first_entries job) before m ∙ ap (λ cuts. history_of job before ++ (cuts ++ next_entry (history_of job before) m ∷ [])) so.0.1)
         ∙ length-append (history_of job before) (next_entry (history_of job before) m ∷ [])
 
-pub finishes : (d : OfflineRun) (job : OfflineJob) (report : OfflineReport) (before after : Ports) → ReachesEnd d job before after
+pub finishes : {Q : Type 0} (d : OfflineRun Q) (job : OfflineJob) (report : OfflineReport) (before after : Ports) → ReachesEnd d job before after
     → report.messages ≡ d.messages → report.records ≡ d.records → ((h : List Entry) (p : ℕ) → RunStands d h p → report.disclosed ≡ length (records_of_parts (take p (parts (disclosed 1 h))))) → FiltersAll job report before after
 finishes d job report before after r entries records handed = record {
   octets = r.octets;
@@ -255,7 +255,7 @@ finishes d job report before after r entries records handed = record {
       ∙ ap (λ ps. length (records_of_parts ps)) (take_all (end_of (history_of job r.messages)) (parts (disclosed_by job r.messages)) (omega arith)) ∙ ap length (parts_bring (disclosed_by job r.messages));
 }
 
-pub end_serves : (d : OfflineRun) (job : OfflineJob) (before after : Ports) → ReachesEnd d job before after → IsServing d
+pub end_serves : {Q : Type 0} (d : OfflineRun Q) (job : OfflineJob) (before after : Ports) → ReachesEnd d job before after → IsServing d
 end_serves d job before after r = record { history = history_of job r.messages; place = end_of (history_of job r.messages); stands = r.running.stands }
 
 -- ---- ports of which none had failed

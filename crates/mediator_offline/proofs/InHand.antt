@@ -1,9 +1,9 @@
 -- A message that is handled, in a run over messages.
-use Rattle.std.proofs.Common.{◌≡◌, ℕ, ◌+◌, ◌*◌, ◌≤◌, ◌<◌, ◌^◌, Bool, true, false, List, [], ◌∷◌, ◌++◌, length, take, Option, Some, refl, sym, ap, ◌∙◌, subst, arith, append-nil, append_assoc, length-append}
+use Rattle.std.proofs.Common.{◌≡◌, ℕ, ◌+◌, ◌*◌, ◌≤◌, ◌<◌, ◌^◌, Bool, true, false, List, [], ◌∷◌, ◌++◌, length, take, Option, Some, None, refl, sym, ap, ◌∙◌, subst, arith, append-nil, append_assoc, length-append}
+use Rattle.std.specs.Prelude.{is_some, IfSome}
 use Rattle.std.specs.List.{concat}
 use Rattle.std.specs.Io.KnownBytes.{Appends}
 use Rattle.std.proofs.KnownBytes.{Appends-trans, Appends-nil}
-use Rattle.std.proofs.lemmas.List.{take-append-le}
 use Rattle.std.proofs.lemmas.List.Folds.{concat-append}
 use Rattle.ipfix_template.specs.DataRecord.{DataRecord}
 use Rattle.subscriber_stream.specs.Parts.{parts}
@@ -32,13 +32,15 @@ use Rattle.mediator_offline.specs.Lines.{lines_for, WritesBeginning, WritesOn}
 use Rattle.mediator_offline.specs.Recording.{Records, StopsLines}
 use Rattle.mediator_offline.specs.Offline.{after_message, history_of, disclosed_by, pulled_to_end, due_by, due, audit_due, cuts_by, next_message as next_entry, end_of}
 use Rattle.mediator_offline.specs.Due.{IsWrittenFor}
-use Rattle.mediator_offline.specs.Runs.{sizes_tell, audit_waiting, RunHasHistory, RunStands, Small}
+use Rattle.mediator_offline.specs.Runs.{sizes_tell, listed, audit_waiting, KeepsAsked, RunHasHistory, RunStands, Small}
 use Rattle.mediator_offline.specs.Steps.{TakesMessage}
 use Rattle.mediator_offline.specs.Accepting.{AcceptsMessage, RefusesOctets, AreAccepted}
 use Rattle.mediator_offline.specs.HandsOut.{HandsOutAll}
+use Rattle.mediator_offline.specs.Gathering.{and_gathered}
 use Rattle.mediator_offline.specs.Pulling.{Delivers, StopsDelivery, FailsDelivery}
 use Rattle.mediator_offline.specs.Filtering.{WritesPart, StopsAtMessage}
 use Rattle.mediator_offline.specs.Running.{IsRunning, RunsSomewhere}
+use Rattle.mediator_offline.proofs.GatheringLaws.{front_longer, stops_inside}
 use Rattle.mediator_offline.proofs.Delivering.{streamable_of, stands_on}
 use Rattle.mediator_offline.proofs.Receiving.{waits_added, within_end}
 use Rattle.mediator_offline.proofs.OneMore.{history_more, due_more, audit_more, lines_more, ended, pulled-ended, handed_front, handed_all, handed_few}
@@ -46,12 +48,18 @@ use Rattle.mediator_offline.proofs.DueLaws.{due_found}
 
 -- ---- what is written for one message more
 
+-- the same lines, where the entries are kept for which they are asked
+lines_same : (asked : Bool) (entries : Option (List AuditEntry)) (added : List AuditEntry) → is_some entries ≡ asked → IfSome entries (λ es. es ≡ added) → lines_for asked (listed entries) ≡ lines_for asked added
+lines_same true None added kept are = absurd cc
+lines_same true (Some es) added kept are = ap (lines_for true) are
+lines_same false entries added kept are = refl
+
 -- the lines that it adds to the audit were written, which waited
-lines_added : (job : OfflineJob) (messages : List (List ℕ)) (octets : List ℕ) (added waiting : List AuditEntry) (a b c : Option (List ℕ))
-    → audit_list (history_of job (messages ++ octets ∷ [])) ≡ audit_list (history_of job messages) ++ added → waiting ≡ added
-    → Appends a b (audit_due job messages) → Appends b c (lines_for job.audit waiting) → Appends a c (audit_due job (messages ++ octets ∷ []))
-lines_added job messages octets added waiting a b c adds waits so lines = subst (Appends a c) (sym (lines_more job messages octets added adds))
-    (Appends-trans a b c (audit_due job messages) (lines_for job.audit added) so (subst (λ l. Appends b c (lines_for job.audit l)) waits lines))
+lines_added : (job : OfflineJob) (messages : List (List ℕ)) (octets : List ℕ) (added : List AuditEntry) (waiting : Option (List AuditEntry)) (a b c : Option (List ℕ))
+    → audit_list (history_of job (messages ++ octets ∷ [])) ≡ audit_list (history_of job messages) ++ added → is_some waiting ≡ job.audit → IfSome waiting (λ es. es ≡ added)
+    → Appends a b (audit_due job messages) → Appends b c (lines_for job.audit (listed waiting)) → Appends a c (audit_due job (messages ++ octets ∷ []))
+lines_added job messages octets added waiting a b c adds kept waits so lines = subst (Appends a c) (sym (lines_more job messages octets added adds))
+    (Appends-trans a b c (audit_due job messages) (lines_for job.audit added) so (subst (λ l. Appends b c l) (lines_same job.audit waiting added kept waits) lines))
 
 some_after : (a b c : Option (List ℕ)) (xs ys : List ℕ) → Appends a b xs → WritesBeginning b c ys → WritesOn a c xs (xs ++ ys)
 some_after a b c xs ys so some = record {
@@ -62,11 +70,11 @@ some_after a b c xs ys so some = record {
 }
 
 -- a front of them
-lines_begun : (job : OfflineJob) (messages : List (List ℕ)) (octets : List ℕ) (added waiting : List AuditEntry) (a b c : Option (List ℕ))
-    → audit_list (history_of job (messages ++ octets ∷ [])) ≡ audit_list (history_of job messages) ++ added → waiting ≡ added
-    → Appends a b (audit_due job messages) → WritesBeginning b c (lines_for job.audit waiting) → WritesOn a c (audit_due job messages) (audit_due job (messages ++ octets ∷ []))
-lines_begun job messages octets added waiting a b c adds waits so some = subst (WritesOn a c (audit_due job messages)) (sym (lines_more job messages octets added adds))
-    (some_after a b c (audit_due job messages) (lines_for job.audit added) so (subst (λ l. WritesBeginning b c (lines_for job.audit l)) waits some))
+lines_begun : (job : OfflineJob) (messages : List (List ℕ)) (octets : List ℕ) (added : List AuditEntry) (waiting : Option (List AuditEntry)) (a b c : Option (List ℕ))
+    → audit_list (history_of job (messages ++ octets ∷ [])) ≡ audit_list (history_of job messages) ++ added → is_some waiting ≡ job.audit → IfSome waiting (λ es. es ≡ added)
+    → Appends a b (audit_due job messages) → WritesBeginning b c (lines_for job.audit (listed waiting)) → WritesOn a c (audit_due job messages) (audit_due job (messages ++ octets ∷ []))
+lines_begun job messages octets added waiting a b c adds kept waits so some = subst (WritesOn a c (audit_due job messages)) (sym (lines_more job messages octets added adds))
+    (some_after a b c (audit_due job messages) (lines_for job.audit added) so (subst (λ l. WritesBeginning b c l) (lines_same job.audit waiting added kept waits) some))
 
 -- whole messages of what it adds are due behind the others
 due_in_hand : (job : OfflineJob) (messages : List (List ℕ)) (octets : List ℕ) (handed others : List (List ℕ)) → due_by job messages octets ≡ handed ++ others
@@ -84,7 +92,7 @@ handed_run so_far records now target p q (m ∷ messages) n t so hands =
 
 -- ---- the audit of a run
 
-pub recorded_on : (d e : OfflineRun) (h : List Entry) (p : ℕ) → RunStands d h p → Records d e → RunStands e h p
+pub recorded_on : {Q : Type 0} (d e : OfflineRun Q) (h : List Entry) (p : ℕ) → RunStands d h p → Records d e → RunStands e h p
 recorded_on d e h p so r = stands_on d e h p p so r.same (r.stands h so.state) (r.place ∙ so.place)
 
 -- ---- messages that are accepted
@@ -96,12 +104,12 @@ accepted_more job before (m ∷ messages) octets so here =
     (so.0, accepted_more job (before ++ m ∷ []) messages octets so.1 (subst (λ ms. AcceptsMessage (history_of job ms) octets × (cuts_by (history_of job ms) octets ≡ [])) (sym (append_assoc before (m ∷ []) messages)) here))
 
 -- what is known of a run that received a message, which cut nobody
-pub record Received (d : OfflineRun) (job : OfflineJob) (messages : List (List ℕ)) (octets : List ℕ) : Type 0 where
+pub record Received {Q : Type 0} (d : OfflineRun Q) (job : OfflineJob) (messages : List (List ℕ)) (octets : List ℕ) : Type 0 where
   pub uncut : cuts_by (history_of job messages) octets ≡ []
   pub stands : RunStands d (history_of job (messages ++ octets ∷ [])) (end_of (history_of job messages))
   pub small : Small (history_of job (messages ++ octets ∷ []))
 
-received : (d1 d2 : OfflineRun) (job : OfflineJob) (messages : List (List ℕ)) (octets : List ℕ) {before after : Outputs} → IsRunning d1 job messages before after
+received : {Q : Type 0} (d1 d2 : OfflineRun Q) (job : OfflineJob) (messages : List (List ℕ)) (octets : List ℕ) {before after : Outputs} → IsRunning d1 job messages before after
     → TakesMessage d1 octets false d2 → Received d2 job messages octets
 received d1 d2 job messages octets r receives =
     let on = receives.goes_on (history_of job messages) r.stands r.small refl in
@@ -112,7 +120,7 @@ received d1 d2 job messages octets r receives =
     }
 
 -- no more messages are handed out for it than there are parts
-few_in_hand : (d : OfflineRun) (job : OfflineJob) (messages : List (List ℕ)) (octets : List ℕ) (q : ℕ) (handed : List (List ℕ)) → Received d job messages octets → job.target < 2 ^ 16
+few_in_hand : {Q : Type 0} (d : OfflineRun Q) (job : OfflineJob) (messages : List (List ℕ)) (octets : List ℕ) (q : ℕ) (handed : List (List ℕ)) → Received d job messages octets → job.target < 2 ^ 16
     → HandsOutAll (disclosed_by job (messages ++ octets ∷ [])) job.now job.target (end_of (history_of job messages)) handed q → length handed ≤ length (parts (disclosed_by job (messages ++ octets ∷ [])))
 few_in_hand d job messages octets q handed on low hands =
     omega (arith, handed_few (disclosed_by job (messages ++ octets ∷ [])) job.now job.target (end_of (history_of job messages)) q handed (streamable_of (history_of job (messages ++ octets ∷ [])) on.small) low (within_end d (history_of job (messages ++ octets ∷ [])) (end_of (history_of job messages)) on.stands) hands)
@@ -120,7 +128,7 @@ few_in_hand d job messages octets q handed on low hands =
 -- ---- a message that was accepted, and was delivered
 
 -- what is known after receive and deliver
-pub record IsDelivered (d1 d2 d3 : OfflineRun) (octets : List ℕ) (holds writes : Option (List ℕ)) : Type 0 where
+pub record IsDelivered {Q : Type 0} (d1 d2 d3 : OfflineRun Q) (octets : List ℕ) (holds writes : Option (List ℕ)) : Type 0 where
   pub receives : TakesMessage d1 octets false d2
   pub job : d2.job ≡ d1.job
   pub sent : d2.sent ≡ d1.sent
@@ -129,7 +137,7 @@ pub record IsDelivered (d1 d2 d3 : OfflineRun) (octets : List ℕ) (holds writes
   pub delivers : Delivers d2 d3 holds writes
 
 -- what that makes of a run
-pub record Delivered (d1 d3 : OfflineRun) (job : OfflineJob) (messages : List (List ℕ)) (octets : List ℕ) (held writes : Option (List ℕ)) : Type 0 where
+pub record Delivered {Q : Type 0} (d1 d3 : OfflineRun Q) (job : OfflineJob) (messages : List (List ℕ)) (octets : List ℕ) (held writes : Option (List ℕ)) : Type 0 where
   pub accepts : AcceptsMessage (history_of job messages) octets
   pub uncut : cuts_by (history_of job messages) octets ≡ []
   pub stands : RunStands d3 (history_of job (messages ++ octets ∷ [])) (end_of (history_of job (messages ++ octets ∷ [])))
@@ -140,10 +148,10 @@ pub record Delivered (d1 d3 : OfflineRun) (job : OfflineJob) (messages : List (L
   pub written : Appends held writes (concat (due job (messages ++ octets ∷ [])))
   pub added : List AuditEntry
   pub adds : audit_list (history_of job (messages ++ octets ∷ [])) ≡ audit_list (history_of job messages) ++ added
-  pub waits : (audit_waiting d3) ≡ added
+  pub waits : IfSome d3.state.engine.audit.standing.entries (λ es. es ≡ added)
   pub handed : AreHandedOut (due job (messages ++ octets ∷ [])) (disclosed_by job (messages ++ octets ∷ [])) (end_of (history_of job (messages ++ octets ∷ [])))
 
-pub delivered : (d1 d2 d3 : OfflineRun) (job : OfflineJob) (messages : List (List ℕ)) (octets : List ℕ) (writes : Option (List ℕ)) {before after : Outputs} → IsRunning d1 job messages before after
+pub delivered : {Q : Type 0} (d1 d2 d3 : OfflineRun Q) (job : OfflineJob) (messages : List (List ℕ)) (octets : List ℕ) (writes : Option (List ℕ)) {before after : Outputs} → IsRunning d1 job messages before after
     → IsDelivered d1 d2 d3 octets after.written writes → Delivered d1 d3 job messages octets before.written writes
 delivered d1 d2 d3 job messages octets writes {before} {after} r k = record {
   accepts = k.receives.accepts h r.stands r.small;
@@ -203,10 +211,10 @@ delivered d1 d2 d3 job messages octets writes {before} {after} r k = record {
     whole = ap concat (due_more job messages octets ∙ ap (λ ms. due job messages ++ ms) by) ∙ concat-append (due job messages) k.delivers.messages
 
 -- then recorded: the run goes on
-pub handled : (d1 d3 d4 : OfflineRun) (job : OfflineJob) (messages : List (List ℕ)) (octets : List ℕ) {before mid after : Outputs} → IsRunning d1 job messages before mid
-    → Delivered d1 d3 job messages octets before.written after.written → Records d3 d4 → Appends mid.audited after.audited (lines_for d3.job.audit (audit_waiting d3))
+pub handled : {Q : Type 0} (d1 d3 d4 : OfflineRun Q) (job : OfflineJob) (messages : List (List ℕ)) (octets : List ℕ) {before mid after : Outputs} → IsRunning d1 job messages before mid
+    → Delivered d1 d3 job messages octets before.written after.written → Records d3 d4 → KeepsAsked d3 → Appends mid.audited after.audited (lines_for d3.job.audit (audit_waiting d3))
     → IsRunning d4 job (messages ++ octets ∷ []) before after
-handled d1 d3 d4 job messages octets {before} {mid} {after} r k records lines = record {
+handled d1 d3 d4 job messages octets {before} {mid} {after} r k records kept lines = record {
   job_is = records.same.job ∙ k.job_is;
   job_accepted = r.job_accepted;
   stands = recorded_on d3 d4 (history_of job (messages ++ octets ∷ [])) (end_of (history_of job (messages ++ octets ∷ []))) k.stands records;
@@ -216,7 +224,7 @@ handled d1 d3 d4 job messages octets {before} {mid} {after} r k records lines = 
   few = omega (arith, records.sent, k.few);
   writes = record {
     stream = k.written;
-    audit = lines_added job messages octets k.added (audit_waiting d3) before.audited mid.audited after.audited k.adds k.waits r.writes.audit
+    audit = lines_added job messages octets k.added d3.state.engine.audit.standing.entries before.audited mid.audited after.audited k.adds (kept ∙ ap (λ (j : OfflineJob). j.audit) k.job_is) k.waits r.writes.audit
         (subst (λ j. Appends mid.audited after.audited (lines_for j.audit (audit_waiting d3))) k.job_is lines);
   };
   accepted = accepted_more job [] messages octets r.accepted (k.accepts, k.uncut);
@@ -229,7 +237,7 @@ none_more : (messages : List (List ℕ)) → concat (messages ++ []) ≡ concat 
 none_more messages = ap concat (append-nil messages)
 
 -- nothing of the message in hand was written
-pub nothing_in_hand : (d : OfflineRun) (job : OfflineJob) (messages : List (List ℕ)) (octets : List ℕ) {before after : Outputs} → IsRunning d job messages before after
+pub nothing_in_hand : {Q : Type 0} (d : OfflineRun Q) (job : OfflineJob) (messages : List (List ℕ)) (octets : List ℕ) {before after : Outputs} → IsRunning d job messages before after
     → WritesPart job messages (due job messages) octets before after
 nothing_in_hand d job messages octets {before} {after} r =
     let more = audit_more job messages octets in
@@ -242,7 +250,7 @@ nothing_in_hand d job messages octets {before} {after} r =
           (some_after before.audited after.audited after.audited (audit_due job messages) (lines_for job.audit more.0) r.writes.audit (record { count = 0; within = omega arith; written = Appends-nil after.audited }));
     }
 
-pub stops_refused : (f : MediatorFault) (d : OfflineRun) (job : OfflineJob) (messages : List (List ℕ)) (octets : List ℕ) (before after : Outputs) → IsRunning d job messages before after
+pub stops_refused : {Q : Type 0} (f : MediatorFault) (d : OfflineRun Q) (job : OfflineJob) (messages : List (List ℕ)) (octets : List ℕ) (before after : Outputs) → IsRunning d job messages before after
     → RefusesOctets f (history_of job messages) octets → StopsAtMessage (Mediator f) job messages (due job messages) octets before after
 stops_refused fault.OutOfMemory d job messages octets before after r refuses = nothing_in_hand d job messages octets r
 stops_refused (fault.Malformed why) d job messages octets before after r refuses = (refuses, r.writes)
@@ -257,15 +265,15 @@ by_lines P failed audit memory (Mediator fault.OutOfMemory) cause = memory
 by_lines P failed audit memory _ cause = absurd cause
 
 -- the message was delivered, and its lines stop
-pub stops_recording : (f : Fault) (d1 d3 : OfflineRun) (job : OfflineJob) (messages : List (List ℕ)) (octets : List ℕ) (before mid after : Outputs) → IsRunning d1 job messages before mid
-    → Delivered d1 d3 job messages octets before.written after.written → StopsLines f after.audit_failed → WritesBeginning mid.audited after.audited (lines_for d3.job.audit (audit_waiting d3))
+pub stops_recording : {Q : Type 0} (f : Fault) (d1 d3 : OfflineRun Q) (job : OfflineJob) (messages : List (List ℕ)) (octets : List ℕ) (before mid after : Outputs) → IsRunning d1 job messages before mid
+    → Delivered d1 d3 job messages octets before.written after.written → StopsLines f after.audit_failed → KeepsAsked d3 → WritesBeginning mid.audited after.audited (lines_for d3.job.audit (audit_waiting d3))
     → StopsAtMessage f job messages (due job messages) octets before after
-stops_recording f d1 d3 job messages octets before mid after r k cause some =
+stops_recording f d1 d3 job messages octets before mid after r k cause kept some =
     by_lines (λ e. StopsAtMessage e job messages (due job messages) octets before after) after.audit_failed
     (λ cause. (k.accepts, (due job (messages ++ octets ∷ []), due_found job (messages ++ octets ∷ []), k.written), lines, cause)) memory f cause
   where
     lines : WritesOn before.audited after.audited (audit_due job messages) (audit_due job (messages ++ octets ∷ []))
-    lines = lines_begun job messages octets k.added (audit_waiting d3) before.audited mid.audited after.audited k.adds k.waits r.writes.audit
+    lines = lines_begun job messages octets k.added d3.state.engine.audit.standing.entries before.audited mid.audited after.audited k.adds (kept ∙ ap (λ (j : OfflineJob). j.audit) k.job_is) k.waits r.writes.audit
         (subst (λ j. WritesBeginning mid.audited after.audited (lines_for j.audit (audit_waiting d3))) k.job_is some)
 
     memory : WritesPart job messages (due job messages) octets before after
@@ -277,11 +285,11 @@ stops_recording f d1 d3 job messages octets before mid after r k cause some =
       audit = lines;
     }
 
--- the message was accepted, and its delivery stops; the audit is as it was
-pub stops_delivering : (f : Fault) (d1 d2 : OfflineRun) (job : OfflineJob) (messages : List (List ℕ)) (octets : List ℕ) (before mid : Outputs) (writes : Option (List ℕ)) (failed afailed : Bool)
-    → IsRunning d1 job messages before mid → TakesMessage d1 octets false d2 → d2.job ≡ d1.job → d2.sent ≡ d1.sent → d2.job.target < 2 ^ 16 → FailsDelivery f d2 mid.written writes failed
-    → StopsAtMessage f job messages (due job messages) octets before (holding writes mid.audited failed afailed)
-stops_delivering f d1 d2 job messages octets before mid writes failed afailed r receives same sent_same low fails = by f fails.stops
+-- the message was accepted, and its delivery stops, behind what was gathered; the audit is as it was
+pub stops_delivering : {Q : Type 0} (f : Fault) (d1 d2 : OfflineRun Q) (job : OfflineJob) (messages : List (List ℕ)) (octets gathered : List ℕ) (before : Outputs) (held audited writes : Option (List ℕ)) (had failed afailed : Bool)
+    → IsRunning d1 job messages before (holding (and_gathered held gathered) audited had afailed) → TakesMessage d1 octets false d2 → d2.job ≡ d1.job → d2.sent ≡ d1.sent → d2.job.target < 2 ^ 16 → FailsDelivery f d2 gathered held writes failed
+    → StopsAtMessage f job messages (due job messages) octets before (holding writes audited failed afailed)
+stops_delivering f d1 d2 job messages octets gathered before held audited writes had failed afailed r receives same sent_same low fails = by f fails.stops
   where
     begin : ℕ
     begin = end_of (history_of job messages)
@@ -299,23 +307,17 @@ stops_delivering f d1 d2 job messages octets before mid writes failed afailed r 
     front = handed_front (length (parts (disclosed_by job (messages ++ octets ∷ [])))) (disclosed_by job (messages ++ octets ∷ [])) job.now job.target begin del.0 fails.messages hands
         (few_in_hand d2 job messages octets del.0 fails.messages on (subst (λ j. j.target < 2 ^ 16) (same ∙ r.job_is) low) hands)
 
-    whole : concat (due job (messages ++ octets ∷ [])) ≡ concat (due job messages) ++ (concat fails.messages ++ concat front.0)
+    whole : concat (due job (messages ++ octets ∷ [])) ≡ (concat (due job messages) ++ concat fails.messages) ++ concat front.0
     whole = ap concat (due_more job messages octets ∙ ap (λ ms. due job messages ++ ms) front.1) ∙ concat-append (due job messages) (fails.messages ++ front.0) ∙ ap (λ t. concat (due job messages) ++ t) (concat-append fails.messages front.0)
+        ∙ sym (append_assoc (concat (due job messages)) (concat fails.messages) (concat front.0))
 
-    writes_front : (n : ℕ) (sent : ℕ) → sent ≡ d2.sent + n → WritesFront mid.written writes (concat fails.messages) n failed
+    writes_front : (n : ℕ) (sent : ℕ) → sent + length gathered ≡ d2.sent + n → WritesFront held writes (gathered ++ concat fails.messages) n failed
         → WritesFront before.written writes (concat (due job (messages ++ octets ∷ []))) sent failed
-    writes_front n sent is w = record {
-      short = omega (arith, is, sent_same, r.sent, w.short, ap length whole, length-append (concat (due job messages)) (concat fails.messages ++ concat front.0), length-append (concat fails.messages) (concat front.0));
-      written = subst (Appends before.written writes) (sym taken) (Appends-trans before.written mid.written writes (concat (due job messages)) (take n (concat fails.messages)) r.writes.stream w.written);
-      failed = w.failed;
-    }
-      where
-        taken : take sent (concat (due job (messages ++ octets ∷ []))) ≡ concat (due job messages) ++ take n (concat fails.messages)
-        taken = ap (λ k. take k (concat (due job (messages ++ octets ∷ [])))) (is ∙ ap (λ k. k + n) (sent_same ∙ r.sent)) ∙ ap (take (length (concat (due job messages)) + n)) whole
-            ∙ take-add-append (concat (due job messages)) (concat fails.messages ++ concat front.0) n
-            ∙ ap (λ t. concat (due job messages) ++ t) (take-append-le n (concat fails.messages) (concat front.0) (omega (arith, w.short)))
+    writes_front n sent counted w = subst (λ t. WritesFront before.written writes t sent failed) (sym whole)
+        (front_longer before.written writes (concat (due job messages) ++ concat fails.messages) (concat front.0) sent failed
+        (stops_inside before.written held writes gathered (concat fails.messages) (concat (due job messages)) n sent failed r.writes.stream (omega (arith, counted, sent_same, r.sent)) w))
 
-    memory : Appends mid.written writes (concat fails.messages) → WritesPart job messages (due job messages) octets before (holding writes mid.audited failed afailed)
+    memory : Appends (and_gathered held gathered) writes (concat fails.messages) → WritesPart job messages (due job messages) octets before (holding writes audited failed afailed)
     memory so =
         let none = nothing_in_hand d1 job messages octets r in
         record {
@@ -323,11 +325,11 @@ stops_delivering f d1 d2 job messages octets before mid writes failed afailed r 
           others = front.0;
           due = due_in_hand job messages octets fails.messages front.0 front.1;
           stream = subst (Appends before.written writes) (sym (concat-append (due job messages) fails.messages))
-              (Appends-trans before.written mid.written writes (concat (due job messages)) (concat fails.messages) r.writes.stream so);
+              (Appends-trans before.written (and_gathered held gathered) writes (concat (due job messages)) (concat fails.messages) r.writes.stream so);
           audit = none.audit;
         }
 
-    by : (g : Fault) → StopsDelivery g d2 mid.written writes failed fails.messages → StopsAtMessage g job messages (due job messages) octets before (holding writes mid.audited failed afailed)
+    by : (g : Fault) → StopsDelivery g d2 gathered held writes failed fails.messages → StopsAtMessage g job messages (due job messages) octets before (holding writes audited failed afailed)
     by (Write sent) s = (
       receives.accepts (history_of job messages) r.stands r.small,
       (due job (messages ++ octets ∷ []), due_found job (messages ++ octets ∷ []), writes_front s.0 sent s.1 s.2),
@@ -350,16 +352,16 @@ disclosed_cut h octets cut =
     ∙ append-nil (disclosed 1 h)
 
 -- what is known after a cut
-pub record WasCut (d1 d2 : OfflineRun) (job : OfflineJob) (messages : List (List ℕ)) (octets : List ℕ) : Type 0 where
+pub record WasCut {Q : Type 0} (d1 d2 : OfflineRun Q) (job : OfflineJob) (messages : List (List ℕ)) (octets : List ℕ) : Type 0 where
   pub accepts : AcceptsMessage (history_of job messages) octets
   pub cut : cuts_by (history_of job messages) octets ≡ CutEntry 1 ∷ []
   pub no_more : due job (messages ++ octets ∷ []) ≡ due job messages
   pub added : List AuditEntry
   pub adds : audit_list (history_of job (messages ++ octets ∷ [])) ≡ audit_list (history_of job messages) ++ added
-  pub waits : (audit_waiting d2) ≡ added
+  pub waits : IfSome d2.state.engine.audit.standing.entries (λ es. es ≡ added)
   pub job_is : d2.job ≡ job
 
-pub was_cut_at : (d1 d2 : OfflineRun) (job : OfflineJob) (messages : List (List ℕ)) (octets : List ℕ) {before after : Outputs} → IsRunning d1 job messages before after
+pub was_cut_at : {Q : Type 0} (d1 d2 : OfflineRun Q) (job : OfflineJob) (messages : List (List ℕ)) (octets : List ℕ) {before after : Outputs} → IsRunning d1 job messages before after
     → TakesMessage d1 octets true d2 → d2.job ≡ d1.job → WasCut d1 d2 job messages octets
 was_cut_at d1 d2 job messages octets r receives same = record {
   accepts = receives.accepts h r.stands r.small;
@@ -387,23 +389,23 @@ was_cut_at d1 d2 job messages octets r receives same = record {
     by = ap (λ l. pulled_to_end l (end_of h) job.now job.target) (ap (disclosed 1) e ∙ disclosed_cut h octets on.0)
         ∙ pulled-ended (length (parts (disclosed 1 h))) (disclosed 1 h) (end_of h) job.now job.target (ended (disclosed 1 h) job.now job.target)
 
-pub stops_cut : (d1 d2 : OfflineRun) (job : OfflineJob) (messages : List (List ℕ)) (octets : List ℕ) (before mid : Outputs) (awrites : Option (List ℕ)) (failed afailed : Bool) → IsRunning d1 job messages before mid
-    → WasCut d1 d2 job messages octets → Appends mid.audited awrites (lines_for d2.job.audit (audit_waiting d2))
+pub stops_cut : {Q : Type 0} (d1 d2 : OfflineRun Q) (job : OfflineJob) (messages : List (List ℕ)) (octets : List ℕ) (before mid : Outputs) (awrites : Option (List ℕ)) (failed afailed : Bool) → IsRunning d1 job messages before mid
+    → WasCut d1 d2 job messages octets → KeepsAsked d2 → Appends mid.audited awrites (lines_for d2.job.audit (audit_waiting d2))
     → StopsAtMessage Cut job messages (due job messages) octets before (holding mid.written awrites failed afailed)
-stops_cut d1 d2 job messages octets before mid awrites failed afailed r k lines = (
+stops_cut d1 d2 job messages octets before mid awrites failed afailed r k kept lines = (
   k.accepts,
   k.cut,
   record {
     stream = r.writes.stream;
-    audit = lines_added job messages octets k.added (audit_waiting d2) before.audited mid.audited awrites k.adds k.waits r.writes.audit
+    audit = lines_added job messages octets k.added d2.state.engine.audit.standing.entries before.audited mid.audited awrites k.adds (kept ∙ ap (λ (j : OfflineJob). j.audit) k.job_is) k.waits r.writes.audit
         (subst (λ j. Appends mid.audited awrites (lines_for j.audit (audit_waiting d2))) k.job_is lines);
   },
 )
 
-pub stops_cut_recording : (f : Fault) (d1 d2 : OfflineRun) (job : OfflineJob) (messages : List (List ℕ)) (octets : List ℕ) (before mid : Outputs) (awrites : Option (List ℕ)) (failed afailed : Bool)
-    → IsRunning d1 job messages before mid → WasCut d1 d2 job messages octets → StopsLines f afailed → WritesBeginning mid.audited awrites (lines_for d2.job.audit (audit_waiting d2))
+pub stops_cut_recording : {Q : Type 0} (f : Fault) (d1 d2 : OfflineRun Q) (job : OfflineJob) (messages : List (List ℕ)) (octets : List ℕ) (before mid : Outputs) (awrites : Option (List ℕ)) (failed afailed : Bool)
+    → IsRunning d1 job messages before mid → WasCut d1 d2 job messages octets → StopsLines f afailed → KeepsAsked d2 → WritesBeginning mid.audited awrites (lines_for d2.job.audit (audit_waiting d2))
     → StopsAtMessage f job messages (due job messages) octets before (holding mid.written awrites failed afailed)
-stops_cut_recording f d1 d2 job messages octets before mid awrites failed afailed r k cause some =
+stops_cut_recording f d1 d2 job messages octets before mid awrites failed afailed r k cause kept some =
     by_lines (λ e. StopsAtMessage e job messages (due job messages) octets before (holding mid.written awrites failed afailed)) afailed
     (λ cause. (
       k.accepts,
@@ -414,7 +416,7 @@ stops_cut_recording f d1 d2 job messages octets before mid awrites failed afaile
     memory f cause
   where
     lines : WritesOn before.audited awrites (audit_due job messages) (audit_due job (messages ++ octets ∷ []))
-    lines = lines_begun job messages octets k.added (audit_waiting d2) before.audited mid.audited awrites k.adds k.waits r.writes.audit
+    lines = lines_begun job messages octets k.added d2.state.engine.audit.standing.entries before.audited mid.audited awrites k.adds (kept ∙ ap (λ (j : OfflineJob). j.audit) k.job_is) k.waits r.writes.audit
         (subst (λ j. WritesBeginning mid.audited awrites (lines_for j.audit (audit_waiting d2))) k.job_is some)
 
     memory : WritesPart job messages (due job messages) octets before (holding mid.written awrites failed afailed)
@@ -428,7 +430,7 @@ stops_cut_recording f d1 d2 job messages octets before mid awrites failed afaile
 
 -- ---- where the steps of a message stand
 
-pub delivered_history : (d1 d2 d3 : OfflineRun) (octets : List ℕ) (holds writes : Option (List ℕ)) {after : Outputs} → RunsSomewhere d1 after → TakesMessage d1 octets false d2 → Delivers d2 d3 holds writes → RunHasHistory d3
+pub delivered_history : {Q : Type 0} (d1 d2 d3 : OfflineRun Q) (octets : List ℕ) (holds writes : Option (List ℕ)) {after : Outputs} → RunsSomewhere d1 after → TakesMessage d1 octets false d2 → Delivers d2 d3 holds writes → RunHasHistory d3
 delivered_history d1 d2 d3 octets holds writes r receives delivers =
     let on = receives.goes_on (history_of r.job r.messages) r.running.stands r.running.small refl in
     record {

@@ -1,5 +1,6 @@
 pub mod Messages
 pub mod Receiving
+pub mod GatheringLaws
 pub mod Delivering
 pub mod Lines
 pub mod Blaming

@@ -1,9 +1,10 @@
 -- A run that is opened, or refused.
-use Rattle.std.proofs.Common.{◌≡◌, ℕ, inl, inr, true, false, List, [], ◌∷◌, Option, Some, None, refl, sym, ap, ◌∙◌, subst, arith}
+use Rattle.std.proofs.Common.{◌≡◌, ℕ, inl, inr, true, false, List, [], ◌∷◌, length, Option, Some, None, refl, sym, ap, ◌∙◌, subst, arith}
 use Rattle.std.specs.List.{All}
 use Rattle.std.proofs.lemmas.List.{drop_all}
 use Rattle.std.proofs.lemmas.List.Elements.{All-nil, All-cons}
 use Rattle.subscriber_stream.specs.declared.limits.StreamLimits.{StreamLimits}
+use Rattle.disclosure_audit.specs.declared.entry.AuditEntry.{AuditEntry}
 use Rattle.event_journal.specs.declared.entry.Entry.{Entry}
 use Rattle.event_journal.specs.declared.entry.Entry.TheVariants.{Open, Edit, Subscribe}
 use Rattle.event_journal.specs.Counted.{CountedEntries}
@@ -27,13 +28,13 @@ use Rattle.mediator_offline.specs.Running.{IsRunOpened}
 use Rattle.mediator_offline.proofs.Receiving.{small_of}
 
 -- a state that was made stands for no entry, within these limits
-pub record IsMade (s : State CountedEntries) : Type 0 where
+pub record IsMade {Q : Type 0} (s : State CountedEntries Q) : Type 0 where
   pub stands : StateStandsFor sizes_tell s []
   pub limits : s.engine.limits ≡ offline_stream_limits
   pub audit : s.engine.audit.limit ≡ audit_limit
   pub journal : s.chronicle.limits ≡ offline_journal_limits
 
-pub made : (s : State CountedEntries) (c : CountedEntries) → c ≡ record { count = 0; octets = 0; limits = offline_journal_limits; spare = 0 } → (sizes_tell c [] → StateStandsFor sizes_tell s []) → s.chronicle ≡ c → s.engine.limits ≡ offline_stream_limits
+pub made : {Q : Type 0} (s : State CountedEntries Q) (c : CountedEntries) → c ≡ record { count = 0; octets = 0; limits = offline_journal_limits; spare = 0 } → (sizes_tell c [] → StateStandsFor sizes_tell s []) → s.chronicle ≡ c → s.engine.limits ≡ offline_stream_limits
     → s.engine.audit.limit ≡ audit_limit → IsMade s
 made s c is stands kept limits audit = record {
   stands = stands (record { entries = ap (λ t. t.count) is; sizes = ap (λ t. t.octets) is });
@@ -43,28 +44,28 @@ made s c is stands kept limits audit = record {
 }
 
 -- a call leaves the limits
-pub record Keeps (a b : State CountedEntries) : Type 0 where
+pub record Keeps {Q : Type 0} (a b : State CountedEntries Q) : Type 0 where
   pub untouched : IsUntouched a.engine b.engine
   pub journaled : b.chronicle.limits ≡ a.chronicle.limits
 
-abbrev pub EditsAll : State CountedEntries → List ℕ → ℕ → State CountedEntries → Type 0
+abbrev pub EditsAll : {Q : Type 0} → State CountedEntries Q → List ℕ → ℕ → State CountedEntries Q → Type 0
 EditsAll a text n b = GoesOnBy sizes_tell (λ t. t.limits) a b (EditsAfter text n)
 
-abbrev pub SubscribesAll : State CountedEntries → List ℕ → ℕ → State CountedEntries → Type 0
+abbrev pub SubscribesAll : {Q : Type 0} → State CountedEntries Q → List ℕ → ℕ → State CountedEntries Q → Type 0
 SubscribesAll a name n b = GoesOnBy sizes_tell (λ t. t.limits) a b (SubscribesAfter name n)
 
-abbrev pub OpensAll : State CountedEntries → ℕ → State CountedEntries → Type 0
+abbrev pub OpensAll : {Q : Type 0} → State CountedEntries Q → ℕ → State CountedEntries Q → Type 0
 OpensAll a n b = GoesOnBy sizes_tell (λ t. t.limits) a b (OpensAfter n)
 
-pub edited_stands : (a b : State CountedEntries) (job : OfflineJob) (n : ℕ) → IsMade a → EditsAll a job.policy.now n b → StateStandsFor sizes_tell b (first_edit job)
+pub edited_stands : {Q : Type 0} (a b : State CountedEntries Q) (job : OfflineJob) (n : ℕ) → IsMade a → EditsAll a job.policy.now n b → StateStandsFor sizes_tell b (first_edit job)
 edited_stands a b job n m e = (e [] m.stands).accepts.stands
 
-pub subscribed_stands : (a b c : State CountedEntries) (job : OfflineJob) (n k : ℕ) → IsMade a → EditsAll a job.policy.now n b → SubscribesAll b job.name.now k c → StateStandsFor sizes_tell c (Edit job.policy.now ∷ Subscribe 1 job.name.now ∷ [])
+pub subscribed_stands : {Q : Type 0} (a b c : State CountedEntries Q) (job : OfflineJob) (n k : ℕ) → IsMade a → EditsAll a job.policy.now n b → SubscribesAll b job.name.now k c → StateStandsFor sizes_tell c (Edit job.policy.now ∷ Subscribe 1 job.name.now ∷ [])
 subscribed_stands a b c job n k m e s =
     let got = s (first_edit job) (edited_stands a b job n m e) in
     subst (λ i. StateStandsFor sizes_tell c (Edit job.policy.now ∷ Subscribe i job.name.now ∷ [])) got.number got.accepts.stands
 
-opened_stands : (a b c d : State CountedEntries) (job : OfflineJob) (n k i : ℕ) → IsMade a → EditsAll a job.policy.now n b → SubscribesAll b job.name.now k c → OpensAll c i d → StateStandsFor sizes_tell d (first_entries job)
+opened_stands : {Q : Type 0} (a b c d : State CountedEntries Q) (job : OfflineJob) (n k i : ℕ) → IsMade a → EditsAll a job.policy.now n b → SubscribesAll b job.name.now k c → OpensAll c i d → StateStandsFor sizes_tell d (first_entries job)
 opened_stands a b c d job n k i m e s o =
     let got = o (Edit job.policy.now ∷ Subscribe 1 job.name.now ∷ []) (subscribed_stands a b c job n k m e s) in
     subst (λ x. StateStandsFor sizes_tell d (Edit job.policy.now ∷ Subscribe 1 job.name.now ∷ Open x ∷ [])) got.number got.accepts.stands
@@ -108,7 +109,7 @@ room_named job room = record {
   spelled = All-cons IsSpelled (Subscribe 1 job.name.now) [] tt (All-nil IsSpelled);
 }
 
-pub opened : (d : OfflineRun) (a b c : State CountedEntries) (job : OfflineJob) (n k i : ℕ) → d.job ≡ job → d.messages ≡ 0 → d.records ≡ 0 → d.sent ≡ 0 → IsMade a
+pub opened : {Q : Type 0} (d : OfflineRun Q) (a b c : State CountedEntries Q) (job : OfflineJob) (n k i : ℕ) → d.job ≡ job → d.messages ≡ 0 → d.records ≡ 0 → d.sent ≡ 0 → IsMade a
     → Keeps a b → EditsAll a job.policy.now n b → Keeps b c → SubscribesAll b job.name.now k c → Keeps c d.state → OpensAll c i d.state → IsRunOpened d job
 opened d a b c job n k i same messages records sent m ab e bc s cd o = record {
   job_is = same;
@@ -119,7 +120,7 @@ opened d a b c job n k i same messages records sent m ab e bc s cd o = record {
   };
   stands = stands;
   small = small_of d (first_entries job) 0 stands (omega arith) (omega (arith, room.octets_fit)) (omega arith);
-  quiet = stands.state.stands.audit.waiting ∙ drop_all d.state.engine.audit.standing.drained [] (omega arith);
+  quiet = stands.state.stands.audit.waiting ∙ ap (λ (l : List AuditEntry). length l) (drop_all d.state.engine.audit.standing.drained [] (omega arith));
   sent = sent;
 }
   where
@@ -157,13 +158,13 @@ opened d a b c job n k i same messages records sent m ab e bc s cd o = record {
 
 -- ---- refusals
 
-pub edit_refused : (f : MediatorFault) (a : State CountedEntries) (job : OfflineJob) → IsMade a → RefusesEdit f a.chronicle.limits [] job.policy.now → RefusesJob f job
+pub edit_refused : {Q : Type 0} (f : MediatorFault) (a : State CountedEntries Q) (job : OfflineJob) → IsMade a → RefusesEdit f a.chronicle.limits [] job.policy.now → RefusesJob f job
 edit_refused fault.JournalFull a job m x = (x.0, inl (λ room. x.1 (subst (λ l. HasRoomAfter l [] (first_edit job)) (sym m.journal) room)))
 edit_refused (fault.Policy why) a job m x = x
 edit_refused fault.OutOfMemory a job m x = tt
 edit_refused _ a job m x = absurd x
 
-pub subscribe_refused : (f : MediatorFault) (a b : State CountedEntries) (job : OfflineJob) (n : ℕ) → IsMade a → Keeps a b → EditsAll a job.policy.now n b → RefusesSubscribe f b.chronicle.limits (first_edit job) job.name.now → RefusesJob f job
+pub subscribe_refused : {Q : Type 0} (f : MediatorFault) (a b : State CountedEntries Q) (job : OfflineJob) (n : ℕ) → IsMade a → Keeps a b → EditsAll a job.policy.now n b → RefusesSubscribe f b.chronicle.limits (first_edit job) job.name.now → RefusesJob f job
 subscribe_refused f a b job n m ab e = by f
   where
     policy : HasPolicy job.policy.now
@@ -182,7 +183,7 @@ subscribe_refused f a b job n m ab e = by f
     by fault.OutOfMemory x = tt
     by _ x = absurd x.2
 
-pub open_refused : (f : MediatorFault) (a b c : State CountedEntries) (job : OfflineJob) (n k : ℕ) → IsMade a → Keeps a b → EditsAll a job.policy.now n b → Keeps b c → SubscribesAll b job.name.now k c
+pub open_refused : {Q : Type 0} (f : MediatorFault) (a b c : State CountedEntries Q) (job : OfflineJob) (n k : ℕ) → IsMade a → Keeps a b → EditsAll a job.policy.now n b → Keeps b c → SubscribesAll b job.name.now k c
     → LacksRoomAfter f c.chronicle.limits (Edit job.policy.now ∷ Subscribe 1 job.name.now ∷ []) (Open 1 ∷ []) → RefusesJob f job
 open_refused f a b c job n k m ab e bc s = by f
   where

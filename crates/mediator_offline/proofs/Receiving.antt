@@ -1,7 +1,7 @@
 -- A message that a run accepts, or refuses.
-use Rattle.std.proofs.Common.{◌≡◌, ℕ, ◌+◌, ◌≤◌, ◌<◌, ◌^◌, ◌⊎◌, inl, inr, Bool, true, false, List, [], ◌∷◌, ◌++◌, length, drop, map, Option, Some, None, Result, Ok, Err, refl, sym, ap, ◌∙◌, subst, arith, append_assoc, append-nil, length-append}
+use Rattle.std.proofs.Common.{◌≡◌, ℕ, ◌+◌, ◌-◌, ◌≤◌, ◌<◌, ◌^◌, ◌⊎◌, inl, inr, Bool, true, false, List, [], ◌∷◌, ◌++◌, length, drop, map, Option, Some, None, Result, Ok, Err, refl, sym, ap, ◌∙◌, subst, arith, append_assoc, append-nil, length-append}
 use Rattle.std.specs.Result.{IsErr, IsErrAnd, IfErr}
-use Rattle.std.specs.Prelude.{filter, nat_lt, take, OnOk}
+use Rattle.std.specs.Prelude.{filter, nat_lt, take, is_some, IfSome, IsOk, OnOk, OnErr}
 use Rattle.std.specs.List.{flat_map, enumerate_from}
 use Rattle.std.proofs.lemmas.Bool.{ltb-true, ltb-false}
 use Rattle.std.proofs.lemmas.List.{drop_all, take_all, length_push, length-map, length-drop}
@@ -17,7 +17,7 @@ use Rattle.flow_anonymize.specs.declared.disclosure.Disclosure.TheVariants.{Pass
 use Rattle.flow_anonymize.specs.Outcome.{Outcome}
 use Rattle.disclosure_audit.specs.declared.entry.AuditEntry.{AuditEntry}
 use Rattle.disclosure_audit.specs.declared.entry.What.TheVariants.{Cut as CutOff}
-use Rattle.disclosure_audit.specs.Queue.{StandsIn}
+use Rattle.disclosure_audit.specs.Queue.{StandsIn, oldest, oldest_in}
 use Rattle.event_journal.specs.declared.entry.Entry.{Entry}
 use Rattle.event_journal.specs.declared.entry.Entry.TheVariants.{Message, Cut}
 use Rattle.event_journal.specs.Room.{HasRoomAfter}
@@ -44,7 +44,7 @@ use Rattle.mediator_state.specs.Calls as calls
 use Rattle.mediator_state.specs.Calls.{StateStandsFor, with_cuts_after, RefusesReceiveAfter}
 use Rattle.mediator_offline.specs.declared.run.OfflineRun.{OfflineRun}
 use Rattle.mediator_offline.specs.Offline.{offline_stream_limits, offline_journal_limits, next_message, cuts_by, after_message}
-use Rattle.mediator_offline.specs.Runs.{sizes_tell, audit_waiting, audit_drained, RunHasHistory, SameButState, RunStands, Small}
+use Rattle.mediator_offline.specs.Runs.{sizes_tell, listed, audit_waiting, audit_count, KeepsAsked, audit_drained, SameButState, RunStands, Small}
 use Rattle.mediator_offline.specs.Recording.{Records}
 use Rattle.mediator_offline.specs.Offline.{end_of}
 use Rattle.mediator_offline.specs.Steps.{HasDelivered, TakesMessage, RunRefuses}
@@ -59,6 +59,19 @@ pub err_gives : {X E : Type 0} {P Q : E → Type 0} (r : Result X E) → IsErr r
 err_gives (Ok x) known f = tt
 err_gives (Err e) known f = f e known.1
 
+pub on_err : {X E : Type 0} {P : Type 0} (r : Result X E) → P → OnErr r P
+on_err (Ok x) p = tt
+on_err (Err e) p = p
+
+-- what follows of an answer
+pub ok_leads : {X E : Type 0} {P Q : Type 0} (r : Result X E) → OnOk r P → (P → Q) → OnOk r Q
+ok_leads (Ok x) known f = f known
+ok_leads (Err e) known f = tt
+
+pub err_leads : {X E : Type 0} {P Q : E → Type 0} (r : Result X E) → IfErr r P → ((e : E) → P e → Q e) → IfErr r Q
+err_leads (Ok x) known f = tt
+err_leads (Err e) known f = f e known
+
 -- ---- where the subscription stands
 
 place_within : (h : List Entry) (limits : StreamLimits) (o : Option Subscription) → IsLiveAs h limits 1 o → is_live 1 h ≡ true → place_in o ≤ end_of h
@@ -70,7 +83,7 @@ place_within h limits None is live = absurd (no is live)
       off e = absurd cc
 place_within h limits (Some s) is live = is.stream.within
 
-pub within_end : (d : OfflineRun) (h : List Entry) (p : ℕ) → RunStands d h p → p ≤ end_of h
+pub within_end : {Q : Type 0} (d : OfflineRun Q) (h : List Entry) (p : ℕ) → RunStands d h p → p ≤ end_of h
 within_end d h p so = subst (λ q. q ≤ end_of h) so.place
     (place_within h d.state.engine.limits (at d.state.engine.subscriptions 1) (so.state.stands.subscriptions 1) (served_is_live 1 h so.serving))
 
@@ -79,7 +92,7 @@ none_waits h limits None is here = refl
 none_waits h limits (Some s) is here =
     ap (λ ps. length (records_of_parts ps)) (is.stream.waiting ∙ ap (λ n. drop n (parts (disclosed 1 h))) here ∙ drop_all (end_of h) (parts (disclosed 1 h)) (omega arith))
 
-pub small_of : (d : OfflineRun) (h : List Entry) (p : ℕ) → RunStands d h p → length h ≤ MOST_ENTRIES → history_octets h ≤ MOST_OCTETS → length (accepted h) ≤ history_octets h → Small h
+pub small_of : {Q : Type 0} (d : OfflineRun Q) (h : List Entry) (p : ℕ) → RunStands d h p → length h ≤ MOST_ENTRIES → history_octets h ≤ MOST_OCTETS → length (accepted h) ≤ history_octets h → Small h
 small_of d h p so entries octets records = record { entries = entries; octets = octets; records = records; listed = so.state.stands.small.listed 1; streamable = so.state.stands.small.streamable 1 }
 
 -- ---- whom a message cuts
@@ -91,14 +104,14 @@ cuts_alone limits h entry w v alone same =
     ∙ sym (ap (λ subs. map Cut (filter (is_cut_by limits h entry v) subs)) alone)
 
 -- where all was handed out, a message makes the cuts that it makes where nothing waits
-pub same_cuts : (d : OfflineRun) (h : List Entry) (octets : List ℕ) → RunStands d h (end_of h) → cuts_before d.state.engine.limits h (Message 1 d.messages octets) (waiting_of d.state.engine) ≡ cuts_by h octets
+pub same_cuts : {Q : Type 0} (d : OfflineRun Q) (h : List Entry) (octets : List ℕ) → RunStands d h (end_of h) → cuts_before d.state.engine.limits h (Message 1 d.messages octets) (waiting_of d.state.engine) ≡ cuts_by h octets
 same_cuts d h octets so =
     ap (λ n. cuts_before d.state.engine.limits h (Message 1 n octets) (waiting_of d.state.engine)) so.messages
     ∙ ap (λ limits. cuts_before limits h (next_message h octets) (waiting_of d.state.engine)) so.limited.limits
     ∙ cuts_alone offline_stream_limits h (next_message h octets) (waiting_of d.state.engine) (λ sub. 0) (served_alone h so.alone so.serving)
     (none_waits h d.state.engine.limits (at d.state.engine.subscriptions 1) (so.state.stands.subscriptions 1) so.place)
 
-pub same_entries : (d : OfflineRun) (h : List Entry) (octets : List ℕ) → RunStands d h (end_of h) → with_cuts_after d.state.engine h (Message 1 d.messages octets) ≡ cuts_by h octets ++ next_message h octets ∷ []
+pub same_entries : {Q : Type 0} (d : OfflineRun Q) (h : List Entry) (octets : List ℕ) → RunStands d h (end_of h) → with_cuts_after d.state.engine h (Message 1 d.messages octets) ≡ cuts_by h octets ++ next_message h octets ∷ []
 same_entries d h octets so =
     ap (λ (cuts : List Entry). cuts ++ Message 1 d.messages octets ∷ []) (same_cuts d h octets so)
     ∙ ap (λ n. cuts_by h octets ++ Message 1 n octets ∷ []) so.messages
@@ -162,7 +175,7 @@ messages_more : (h : List Entry) (number : ℕ) (octets : List ℕ) → messages
 messages_more h number octets = messages-any 1 1 number octets h
 
 -- what a call of the state gives to a run
-pub record Taken (old new : OfflineRun) (octets : List ℕ) (r : Receipt) : Type 0 where
+pub record Taken {Q : Type 0} (old new : OfflineRun Q) (octets : List ℕ) (r : Receipt) : Type 0 where
   pub job : new.job ≡ old.job
   pub messages : new.messages ≡ old.messages + 1
   pub records : new.records ≡ old.records + r.records
@@ -170,7 +183,7 @@ pub record Taken (old new : OfflineRun) (octets : List ℕ) (r : Receipt) : Type
   pub journaled : new.state.chronicle.limits ≡ old.state.chronicle.limits
   pub receives : calls.GoesOnBy sizes_tell (λ t. t.limits) old.state new.state (calls.ReceivesAfter old.state.engine 1 old.messages octets r)
 
-accepts_it : (old new : OfflineRun) (octets : List ℕ) (r : Receipt) (h : List Entry) → Taken old new octets r → RunStands old h (end_of h) → AcceptsMessage h octets
+accepts_it : {Q : Type 0} (old new : OfflineRun Q) (octets : List ℕ) (r : Receipt) (h : List Entry) → Taken old new octets r → RunStands old h (end_of h) → AcceptsMessage h octets
 accepts_it old new octets r h t so =
     let got = t.receives h so.state in
     record {
@@ -179,13 +192,13 @@ accepts_it old new octets r h t so =
       room = subst (λ l. HasRoomAfter l h (cuts_by h octets ++ next_message h octets ∷ [])) so.limited.journal (subst (HasRoomAfter old.state.chronicle.limits h) (same_entries old h octets so) got.accepts.room);
     }
 
-stands_after : (old new : OfflineRun) (octets : List ℕ) (r : Receipt) (h : List Entry) → Taken old new octets r → RunStands old h (end_of h) → StateStandsFor sizes_tell new.state (after_message h octets)
+stands_after : {Q : Type 0} (old new : OfflineRun Q) (octets : List ℕ) (r : Receipt) (h : List Entry) → Taken old new octets r → RunStands old h (end_of h) → StateStandsFor sizes_tell new.state (after_message h octets)
 stands_after old new octets r h t so = subst (λ more. StateStandsFor sizes_tell new.state (h ++ more)) (same_entries old h octets so) (t.receives h so.state).accepts.stands
 
-cut_count : (old new : OfflineRun) (octets : List ℕ) (r : Receipt) (h : List Entry) → Taken old new octets r → RunStands old h (end_of h) → r.cut ≡ length (cuts_by h octets)
+cut_count : {Q : Type 0} (old new : OfflineRun Q) (octets : List ℕ) (r : Receipt) (h : List Entry) → Taken old new octets r → RunStands old h (end_of h) → r.cut ≡ length (cuts_by h octets)
 cut_count old new octets r h t so = ap (λ x. x.cut) (t.receives h so.state).receipt ∙ ap length (same_cuts old h octets so)
 
-goes_on : (old new : OfflineRun) (octets : List ℕ) (r : Receipt) (h : List Entry) → Taken old new octets r → RunStands old h (end_of h) → Small h → cuts_by h octets ≡ [] → RunStands new (after_message h octets) (end_of h) × Small (after_message h octets)
+goes_on : {Q : Type 0} (old new : OfflineRun Q) (octets : List ℕ) (r : Receipt) (h : List Entry) → Taken old new octets r → RunStands old h (end_of h) → Small h → cuts_by h octets ≡ [] → RunStands new (after_message h octets) (end_of h) × Small (after_message h octets)
 goes_on old new octets r h t so small none = (subst (λ x. RunStands new x (end_of h)) (sym whole) stands, subst Small (sym whole) stays)
   where
     next : Entry
@@ -231,7 +244,7 @@ goes_on old new octets r h t so small none = (subst (λ x. RunStands new x (end_
         octets_one : history_octets (next ∷ []) ≡ 21 + length octets
         octets_one = omega (arith, octets-push [] next)
 
-pub received : (old new : OfflineRun) (octets : List ℕ) (r : Receipt) → Taken old new octets r → TakesMessage old octets (nat_lt 0 r.cut) new
+pub received : {Q : Type 0} (old new : OfflineRun Q) (octets : List ℕ) (r : Receipt) → Taken old new octets r → TakesMessage old octets (nat_lt 0 r.cut) new
 received old new octets r t = record {
   accepts = λ h so small. accepts_it old new octets r h t so;
   cuts = λ h so small is. (one h so is (one_or_none h octets (served_alone h so.alone so.serving)), stands_after old new octets r h t so);
@@ -254,7 +267,7 @@ received old new octets r t = record {
 octets_few : (h : List Entry) (octets : List ℕ) → HasRoomAfter offline_journal_limits h (next_message h octets ∷ []) → length octets < 2 ^ 32
 octets_few h octets room = room.spelled 0 (next_message h octets) (omega arith)
 
-pub records_fit : (old new : OfflineRun) (octets : List ℕ) (r : Receipt) → HasDelivered old → calls.GoesOnBy sizes_tell (λ t. t.limits) old.state new.state (calls.ReceivesAfter old.state.engine 1 old.messages octets r) → old.records + r.records < 2 ^ 64
+pub records_fit : {Q : Type 0} (old new : OfflineRun Q) (octets : List ℕ) (r : Receipt) → HasDelivered old → calls.GoesOnBy sizes_tell (λ t. t.limits) old.state new.state (calls.ReceivesAfter old.state.engine 1 old.messages octets r) → old.records + r.records < 2 ^ 64
 records_fit old new octets r had receives =
     omega (arith, had.stands.records, had.small.records, had.small.octets, ap (λ x. x.records) got.receipt, ap (λ x. length (records_meant x)) (sym got.means), few_records (messages_of 1 had.history) octets, long)
   where
@@ -270,36 +283,45 @@ records_fit old new octets r had receives =
 -- ---- the audit of a run
 
 -- all entries were drained
-drained_all : (d : OfflineRun) (all : List AuditEntry) → StandsIn d.state.engine.audit.standing all → audit_waiting d ≡ [] → audit_drained d ≡ length all
-drained_all d all so quiet = omega (arith, so.within, ap length so.waiting, ap length quiet, length-drop (audit_drained d) all)
+drained_all : {Q : Type 0} (d : OfflineRun Q) (all : List AuditEntry) → StandsIn d.state.engine.audit.standing all → audit_count d ≡ 0 → audit_drained d ≡ length all
+drained_all d all so quiet = omega (arith, so.within, so.waiting, quiet, length-drop (audit_drained d) all)
 
--- what waits after a message is what it adds
-pub waits_added : (d e : OfflineRun) (all more : List AuditEntry) → StandsIn d.state.engine.audit.standing all → audit_waiting d ≡ [] → audit_drained e ≡ audit_drained d
-    → StandsIn e.state.engine.audit.standing (all ++ more) → audit_waiting e ≡ more
-waits_added d e all more so quiet same then = then.waiting ∙ ap (λ n. drop n (all ++ more)) (same ∙ drained_all d all so quiet) ∙ drop-append_seam all more
+-- as many wait after a message as it adds
+pub count_added : {Q : Type 0} (d e : OfflineRun Q) (all more : List AuditEntry) → StandsIn d.state.engine.audit.standing all → audit_count d ≡ 0 → audit_drained e ≡ audit_drained d
+    → StandsIn e.state.engine.audit.standing (all ++ more) → audit_count e ≡ length more
+count_added d e all more so quiet same then =
+    omega (arith, then.waiting, same, drained_all d all so quiet, length-drop (audit_drained e) (all ++ more), length-append all more)
 
-pub few_noted : (old new : OfflineRun) (octets : List ℕ) (r : Receipt) → HasDelivered old → Taken old new octets r → length (audit_waiting new) < 2 ^ 32
+-- what waits then, where it is kept, is what it adds
+pub waits_added : {Q : Type 0} (d e : OfflineRun Q) (all more : List AuditEntry) → StandsIn d.state.engine.audit.standing all → audit_count d ≡ 0 → audit_drained e ≡ audit_drained d
+    → StandsIn e.state.engine.audit.standing (all ++ more) → IfSome e.state.engine.audit.standing.entries (λ es. es ≡ more)
+waits_added d e all more so quiet same then = by e.state.engine.audit.standing.entries then.kept where
+  by : (entries : Option (List AuditEntry)) → IfSome entries (λ es. es ≡ drop (audit_drained e) (all ++ more)) → IfSome entries (λ es. es ≡ more)
+  by None is = tt
+  by (Some es) is = is ∙ ap (λ (n : ℕ). drop n (all ++ more)) (same ∙ drained_all d all so quiet) ∙ drop-append_seam all more
+
+pub few_noted : {Q : Type 0} (old new : OfflineRun Q) (octets : List ℕ) (r : Receipt) → HasDelivered old → Taken old new octets r → audit_count new < 2 ^ 32
 few_noted old new octets r had t = by (one_or_none had.history octets (served_alone had.history had.stands.alone had.stands.serving))
   where
     h : List Entry
     h = had.history
 
-    waits : (more : List AuditEntry) → audit_list (after_message h octets) ≡ audit_list h ++ more → audit_waiting new ≡ more
-    waits more is = waits_added old new (audit_list h) more had.stands.state.stands.audit had.quiet t.untouched.drained
+    waits : (more : List AuditEntry) → audit_list (after_message h octets) ≡ audit_list h ++ more → audit_count new ≡ length more
+    waits more is = count_added old new (audit_list h) more had.stands.state.stands.audit had.quiet t.untouched.drained
         (subst (StandsIn new.state.engine.audit.standing) is (stands_after old new octets r h t had.stands).stands.audit)
 
-    by : (cuts_by h octets ≡ []) ⊎ (cuts_by h octets ≡ Cut 1 ∷ []) → length (audit_waiting new) < 2 ^ 32
-    by (inr cut) = omega (arith, ap length (waits (audit_entry (length h) 0 1 CutOff ∷ []) (audit_of_cut h octets had.stands.alone cut)))
+    by : (cuts_by h octets ≡ []) ⊎ (cuts_by h octets ≡ Cut 1 ∷ []) → audit_count new < 2 ^ 32
+    by (inr cut) = omega (arith, waits (audit_entry (length h) 0 1 CutOff ∷ []) (audit_of_cut h octets had.stands.alone cut))
     by (inl none) = omega (
       arith,
-      ap length (waits (audit_at h (next_message h octets)) (ap (λ cuts. audit_list (h ++ (cuts ++ next_message h octets ∷ []))) none ∙ audit-push h (next_message h octets))),
+      waits (audit_at h (next_message h octets)) (ap (λ cuts. audit_list (h ++ (cuts ++ next_message h octets ∷ []))) none ∙ audit-push h (next_message h octets)),
       noted_few h octets (served_alone h had.stands.alone had.stands.serving),
       octets_few h octets (subst (λ cuts. HasRoomAfter offline_journal_limits h (cuts ++ next_message h octets ∷ [])) none (accepts_it old new octets r h t had.stands).room),
     )
 
 -- ---- refusals
 
-pub refused : (e : MediatorFault) (old : OfflineRun) (octets : List ℕ) → HasDelivered old → ((h : List Entry) → StateStandsFor sizes_tell old.state h → RefusesReceiveAfter e old.state.chronicle.limits old.state.engine h 1 old.messages octets) → RunRefuses e old octets
+pub refused : {Q : Type 0} (e : MediatorFault) (old : OfflineRun Q) (octets : List ℕ) → HasDelivered old → ((h : List Entry) → StateStandsFor sizes_tell old.state h → RefusesReceiveAfter e old.state.chronicle.limits old.state.engine h 1 old.messages octets) → RunRefuses e old octets
 refused e old octets had refuses = record { after = λ h so small. by e h so (refuses h so.state) }
   where
     judged : (h : List Entry) → RunStands old h (end_of h) → HasRoomAfter old.state.chronicle.limits h (with_cuts_after old.state.engine h (Message 1 old.messages octets)) → HasRoomAfter offline_journal_limits h (cuts_by h octets ++ next_message h octets ∷ [])
@@ -315,7 +337,7 @@ refused e old octets had refuses = record { after = λ h so small. by e h so (re
     by (fault.AuditFull need room) h so x = (
       record { meaning = x.1.meaning; means = x.1.means; room = judged h so x.2 },
       (x.3.0, ap (λ more. audit_list (h ++ more)) (sym (same_entries old h octets so)) ∙ x.3.1, x.3.2),
-      omega (arith, x.4, ap length had.quiet, so.limited.audit),
+      omega (arith, x.4, had.quiet, so.limited.audit),
       x.5,
     )
     by fault.UnknownSession h so x = absurd (no (sym x ∙ so.opened)) where
@@ -334,33 +356,41 @@ pull_memory fault.UnknownSub h live x = absurd (no (sym x ∙ live))
 pull_memory fault.OutOfMemory h live x = refl
 pull_memory _ h live x = absurd x
 
--- all that waits is drained
-pub drained_are : (d : OfflineRun) (h : List Entry) (out : List AuditEntry) → StateStandsFor sizes_tell d.state h → length (audit_waiting d) < 2 ^ 32 → out ≡ take 4294967295 (drop (audit_drained d) (audit_list h)) → out ≡ audit_waiting d
-drained_are d h out so few is = is ∙ ap (take 4294967295) (sym so.stands.audit.waiting) ∙ take_all 4294967295 (audit_waiting d) (omega (arith, few))
+-- all that waits is drained, and handed out where it is kept
+pub drained_are : {Q : Type 0} (d : OfflineRun Q) (h : List Entry) (out : List AuditEntry) → StateStandsFor sizes_tell d.state h → audit_count d < 2 ^ 32 → KeepsAsked d → d.job.audit ≡ true
+    → (is_some d.state.engine.audit.standing.entries ≡ true → out ≡ take 4294967295 (drop (audit_drained d) (audit_list h))) → out ≡ audit_waiting d
+drained_are d h out so few kept asked is = by d.state.engine.audit.standing.entries (kept ∙ asked) so.stands.audit.kept where
+  by : (entries : Option (List AuditEntry)) → is_some entries ≡ true → IfSome entries (λ es. es ≡ drop (audit_drained d) (audit_list h)) → out ≡ listed entries
+  by None some are = absurd cc
+  by (Some es) some are = is (kept ∙ asked) ∙ take_all 4294967295 (drop (audit_drained d) (audit_list h)) (omega (arith, few, so.stands.audit.waiting)) ∙ sym are
 
-pub quiet_after : (d e : OfflineRun) (h : List Entry) (out : List AuditEntry) → StateStandsFor sizes_tell d.state h → StateStandsFor sizes_tell e.state h → out ≡ audit_waiting d → audit_drained e ≡ audit_drained d + length out → audit_waiting e ≡ []
-quiet_after d e h out so then is count =
-    then.stands.audit.waiting
-    ∙ drop_all (audit_drained e) (audit_list h) (omega (arith, count, ap length is, ap length so.stands.audit.waiting, length-drop (audit_drained d) (audit_list h), so.stands.audit.within))
+-- where a drain is refused, there were entries to hand out, and so they are kept
+pub refused_asked : {Q X E : Type 0} (d : OfflineRun Q) (most : ℕ) (r : Result X E) → KeepsAsked d → (oldest most d.state.engine.audit.standing ≡ [] → IsOk r) → ((x : X) → r ≡ Ok x → ⊥) → d.job.audit ≡ true
+refused_asked {X = X} {E = E} d most r kept none stopped = by d.state.engine.audit.standing.entries kept none where
+  never : (a : Result X E) → IsOk a → ((x : X) → a ≡ Ok x → ⊥) → ⊥
+  never (Ok x) ok is = is x refl
+  never (Err e) ok is = absurd cc
+
+  by : (entries : Option (List AuditEntry)) → is_some entries ≡ d.job.audit → (oldest_in most entries ≡ [] → IsOk r) → d.job.audit ≡ true
+  by None is ok = absurd (never r (ok refl) stopped)
+  by (Some es) is ok = sym is
 
 -- what a call of the state that drains the audit gives to a run
-pub record Drains (d e : OfflineRun) (out : List AuditEntry) : Type 0 where
+pub record Drains {Q : Type 0} (d e : OfflineRun Q) : Type 0 where
   pub same : SameButState d e
   pub sent : e.sent ≡ d.sent
   pub places : (q : ℕ) → handed_place e.state.engine q ≡ handed_place d.state.engine q
-  pub oldest : (h : List Entry) → StateStandsFor sizes_tell d.state h → (out ≡ take 4294967295 (drop (audit_drained d) (audit_list h))) × StateStandsFor sizes_tell e.state h
-  pub drained : audit_drained e ≡ audit_drained d + length out
+  pub stands : (h : List Entry) → StateStandsFor sizes_tell d.state h → StateStandsFor sizes_tell e.state h
+  pub waiting : audit_count e ≡ audit_count d - 4294967295
 
-pub recorded : (d e : OfflineRun) (out : List AuditEntry) → RunHasHistory d → length (audit_waiting d) < 2 ^ 32 → Drains d e out → Records d e
-recorded d e out had few drains =
-    let got = drains.oldest had.history had.state in
-    record {
-      same = drains.same;
-      sent = drains.sent;
-      place = drains.places 1;
-      stands = λ h so. (drains.oldest h so).1;
-      quiet = quiet_after d e had.history out had.state got.1 (drained_are d had.history out had.state few got.0) drains.drained;
-    }
+pub recorded : {Q : Type 0} (d e : OfflineRun Q) → audit_count d < 2 ^ 32 → Drains d e → Records d e
+recorded d e few drains = record {
+  same = drains.same;
+  sent = drains.sent;
+  place = drains.places 1;
+  stands = drains.stands;
+  quiet = omega (arith, drains.waiting, few);
+}
 
 pub on_ok : {X E : Type 0} {P : Type 0} (r : Result X E) → P → OnOk r P
 on_ok (Ok x) p = p

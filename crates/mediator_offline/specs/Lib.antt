@@ -23,6 +23,7 @@ pub mod Filtering
 pub mod Runs
 pub mod Steps
 pub mod Recording
+pub mod Gathering
 pub mod Pulling
 pub mod Running
 pub mod Reaching

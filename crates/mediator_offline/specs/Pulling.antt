@@ -1,5 +1,5 @@
 -- The messages that are pulled one after another, and what was written of them.
-use Rattle.std.specs.Prelude.{◌≡◌, ℕ, ◌+◌, ◌*◌, ◌≤◌, Bool, List, length, Option}
+use Rattle.std.specs.Prelude.{◌≡◌, ℕ, ◌+◌, ◌*◌, ◌≤◌, Bool, List, ◌++◌, length, Option}
 use Rattle.std.specs.List.{concat}
 use Rattle.std.specs.Io.KnownBytes.{Appends}
 use Rattle.ipfix_octets.specs.MessageFormat.{longest_message}
@@ -13,10 +13,11 @@ use Rattle.mediator_offline.specs.declared.job.Fault.TheVariants.{Write, Mediato
 use Rattle.mediator_offline.specs.declared.run.OfflineRun.{OfflineRun}
 use Rattle.mediator_offline.specs.Runs.{RunStands, Small, KeepsAudit}
 use Rattle.mediator_offline.specs.HandsOut.{HandsOutAll}
+use Rattle.mediator_offline.specs.Gathering.{and_gathered}
 use Rattle.mediator_offline.specs.Offline.{end_of}
 
 -- a run that stands somewhere in what it discloses, and counts what it has written
-pub record IsDeliveringRun (d : OfflineRun) : Type 0 where
+pub record IsDeliveringRun {Q : Type 0} (d : OfflineRun Q) : Type 0 where
   pub history : List Entry
   pub place : ℕ
   pub stands : RunStands d history place
@@ -24,12 +25,12 @@ pub record IsDeliveringRun (d : OfflineRun) : Type 0 where
   pub sent : d.sent ≤ longest_message * place
 
 -- what a pull answers, and the place that it leaves
-pub record PullsMessage (old : OfflineRun) (answer : Option (List ℕ)) (new : OfflineRun) : Type 0 where
+pub record PullsMessage {Q : Type 0} (old : OfflineRun Q) (answer : Option (List ℕ)) (new : OfflineRun Q) : Type 0 where
   pub message : (h : List Entry) (p : ℕ) → RunStands old h p → answer ≡ built (disclosed 1 h) p old.job.now old.job.target
   pub stands : (h : List Entry) (p : ℕ) → RunStands old h p → RunStands new h (place_after (disclosed 1 h) p old.job.target)
 
 -- all that waited was written
-pub record Delivers (old new : OfflineRun) (held holds : Option (List ℕ)) : Type 0 where
+pub record Delivers {Q : Type 0} (old new : OfflineRun Q) (held holds : Option (List ℕ)) : Type 0 where
   pub job : new.job ≡ old.job
   pub audit : KeepsAudit old new
   pub messages : List (List ℕ)
@@ -38,14 +39,15 @@ pub record Delivers (old new : OfflineRun) (held holds : Option (List ℕ)) : Ty
   pub sent : new.sent ≡ old.sent + length (concat messages)
   pub few : (p : ℕ) → old.sent ≤ longest_message * p → (h : List Entry) → RunStands old h p → Small h → new.sent ≤ longest_message * end_of h
 
--- a front of the messages that waited was written: whole ones where memory ran out, and up to an octet where the writer
--- failed
-abbrev pub StopsDelivery : Fault → OfflineRun → Option (List ℕ) → Option (List ℕ) → Bool → List (List ℕ) → Type 0
-StopsDelivery (Write sent) old held holds failed messages = (n : ℕ) × (sent ≡ old.sent + n) × WritesFront held holds (concat messages) n failed
-StopsDelivery (Mediator fault.OutOfMemory) old held holds failed messages = Appends held holds (concat messages)
-StopsDelivery _ old held holds failed messages = ⊥
+-- a front of what was gathered and of the messages that waited was written: all that was gathered, and whole messages, where
+-- memory ran out, and up to an octet where the writer failed
+abbrev pub StopsDelivery : {Q : Type 0} → Fault → OfflineRun Q → List ℕ → Option (List ℕ) → Option (List ℕ) → Bool → List (List ℕ) → Type 0
+StopsDelivery (Write sent) old gathered held holds failed messages = (n : ℕ) × (sent + length gathered ≡ old.sent + n) × WritesFront held holds (gathered ++ concat messages) n failed
+StopsDelivery (Mediator fault.OutOfMemory) old gathered held holds failed messages = Appends (and_gathered held gathered) holds (concat messages)
+StopsDelivery _ old gathered held holds failed messages = ⊥
 
-pub record FailsDelivery (e : Fault) (old : OfflineRun) (held holds : Option (List ℕ)) (failed : Bool) : Type 0 where
+-- behind what was gathered for the writer
+pub record FailsDelivery {Q : Type 0} (e : Fault) (old : OfflineRun Q) (gathered : List ℕ) (held holds : Option (List ℕ)) (failed : Bool) : Type 0 where
   pub messages : List (List ℕ)
   pub handed : (h : List Entry) (p : ℕ) → RunStands old h p → Small h → (q : ℕ) × HandsOutAll (disclosed 1 h) old.job.now old.job.target p messages q
-  pub stops : StopsDelivery e old held holds failed messages
+  pub stops : StopsDelivery e old gathered held holds failed messages

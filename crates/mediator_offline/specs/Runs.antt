@@ -1,5 +1,5 @@
 -- What a run keeps, and the history that it stands for.
-use Rattle.std.specs.Prelude.{◌≡◌, ℕ, ◌+◌, ◌*◌, ◌≤◌, true, List, [], ◌∷◌, length}
+use Rattle.std.specs.Prelude.{◌≡◌, ℕ, ◌+◌, ◌*◌, ◌≤◌, true, List, [], ◌∷◌, length, Option, Some, None, is_some}
 use Rattle.std.specs.List.{flat_map}
 use Rattle.subscriber_stream.specs.declared.limits.TheConstants.{MOST_QUEUE}
 use Rattle.stream_meaning.specs.Served.{AreStreamable}
@@ -21,23 +21,36 @@ use Rattle.mediator_offline.specs.Offline.{offline_stream_limits, audit_limit, o
 abbrev pub sizes_tell : CountedEntries → List Entry → Type 0
 sizes_tell t h = IsCountOf h t.count t.octets
 
--- the entries of the audit that wait
-abbrev pub audit_waiting : OfflineRun → List AuditEntry
-audit_waiting d = d.state.engine.audit.standing.entries
+-- entries where they are kept
+abbrev pub listed : Option (List AuditEntry) → List AuditEntry
+listed None = []
+listed (Some entries) = entries
+
+-- the entries of the audit that wait, as far as they are kept
+abbrev pub audit_waiting : {Q : Type 0} → OfflineRun Q → List AuditEntry
+audit_waiting d = listed d.state.engine.audit.standing.entries
+
+-- how many wait
+abbrev pub audit_count : {Q : Type 0} → OfflineRun Q → ℕ
+audit_count d = d.state.engine.audit.standing.waiting
+
+-- they are kept where the job asks for the audit, and nowhere else
+abbrev pub KeepsAsked : {Q : Type 0} → OfflineRun Q → Type 0
+KeepsAsked d = is_some d.state.engine.audit.standing.entries ≡ d.job.audit
 
 -- how many entries of the audit were drained
-abbrev pub audit_drained : OfflineRun → ℕ
+abbrev pub audit_drained : {Q : Type 0} → OfflineRun Q → ℕ
 audit_drained d = d.state.engine.audit.standing.drained
 
 -- how much the mediator may hold
-pub record IsLimited (d : OfflineRun) : Type 0 where
+pub record IsLimited {Q : Type 0} (d : OfflineRun Q) : Type 0 where
   pub limits : d.state.engine.limits ≡ offline_stream_limits
   pub audit : d.state.engine.audit.limit ≡ audit_limit
   pub journal : d.state.chronicle.limits ≡ offline_journal_limits
 
 -- the run stands for a history of the session 1 with the subscription 1 alone, which is served; the records up to place p of
 -- the parts of what is disclosed to it were handed out
-pub record RunStands (d : OfflineRun) (h : List Entry) (p : ℕ) : Type 0 where
+pub record RunStands {Q : Type 0} (d : OfflineRun Q) (h : List Entry) (p : ℕ) : Type 0 where
   pub state : StateStandsFor sizes_tell d.state h
   pub place : handed_place d.state.engine 1 ≡ p
   pub serving : is_served 1 h ≡ true
@@ -57,18 +70,18 @@ pub record Small (h : List Entry) : Type 0 where
   pub streamable : AreStreamable (disclosed 1 h)
 
 -- a run that stands somewhere
-pub record IsServing (d : OfflineRun) : Type 0 where
+pub record IsServing {Q : Type 0} (d : OfflineRun Q) : Type 0 where
   pub history : List Entry
   pub place : ℕ
   pub stands : RunStands d history place
 
 -- a run whose state stands for some history
-pub record RunHasHistory (d : OfflineRun) : Type 0 where
+pub record RunHasHistory {Q : Type 0} (d : OfflineRun Q) : Type 0 where
   pub history : List Entry
   pub state : StateStandsFor sizes_tell d.state history
 
 -- all but the history, what was handed out and drained, and the octets written is the same
-pub record SameButState (d e : OfflineRun) : Type 0 where
+pub record SameButState {Q : Type 0} (d e : OfflineRun Q) : Type 0 where
   pub job : e.job ≡ d.job
   pub messages : e.messages ≡ d.messages
   pub records : e.records ≡ d.records
@@ -77,6 +90,6 @@ pub record SameButState (d e : OfflineRun) : Type 0 where
   pub journal : e.state.chronicle.limits ≡ d.state.chronicle.limits
 
 -- the audit is as it was
-pub record KeepsAudit (d e : OfflineRun) : Type 0 where
+pub record KeepsAudit {Q : Type 0} (d e : OfflineRun Q) : Type 0 where
   pub drained : audit_drained e ≡ audit_drained d
-  pub waiting : audit_waiting e ≡ audit_waiting d
+  pub waiting : audit_count e ≡ audit_count d

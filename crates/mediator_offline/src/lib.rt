@@ -5,7 +5,8 @@
 //! - `engine`: [`offline`].
 //! - `job`: [`OfflineJob`], [`OfflineReport`], and [`Fault`].
 //! - `run`: the state of a mediator with one session and one subscription; `handling`, `delivery` and `recording` say
-//!   what is done with a message.
+//!   what is done with a message. What is due for several is gathered, to be written in one piece, where no line of the
+//!   audit stands between them.
 //! - [`laws`]: over the definitions that the contract of [`offline`] cites, with no code behind them:
 //!   [`due_is_built`], that what is due are the messages that are built one after another,
 //!   [`accepted_messages_are_the_history`], that the history of a run has its messages alone, and [`nothing_closes`], that

@@ -7,7 +7,7 @@ ghost use Rattle.mediator_offline.specs.Recording.{StopsLines};
 
 use crate::job::Fault;
 use crate::run::OfflineRun;
-use disclosure_audit::{AuditEntry, put_line};
+use disclosure_audit::{AuditEntry, AuditQueue, put_line};
 use mediator_state::Fault as MediatorFault;
 use octet_io::{Sink, write_all};
 use std::alloc::{AllocError, Global};
@@ -55,30 +55,38 @@ fn lines(alloc: Global, entries: &[AuditEntry]) -> Result<String, AllocError>
     Ok(text)
 }
 
-ghost use Rattle.std.specs.Prelude.{◌<◌, ◌^◌, length};
+ghost use Rattle.std.specs.Prelude.{◌<◌, ◌^◌, true, false};
 ghost use Rattle.mediator_offline.specs.Lines.{lines_for};
-ghost use Rattle.mediator_offline.specs.Runs.{RunHasHistory, audit_waiting};
+ghost use Rattle.mediator_offline.specs.Runs.{RunHasHistory, KeepsAsked, audit_count, audit_waiting};
 ghost use Rattle.mediator_offline.specs.Recording.{Records};
 
-impl<'a> OfflineRun<'a> {
-    /// Drains the audit, and writes its lines to `writer` where the job asks for them.
+impl<'a, Q: AuditQueue + Drop> OfflineRun<'a, Q> {
+    /// Drains the audit, and writes its lines to `writer` where the job asks for them. Where it doesn't, this can't fail.
     ///
     /// # Errors
     /// The writer failed, or memory ran out: a front of the lines was written.
     pub(crate) fn record<A: Sink>(&mut self, writer: &mut A) -> Result<(), Fault>
         requires known { RunHasHistory self.old }
-        requires few { length (audit_waiting self.old) < 2 ^ 32 }
-        // The lines were written, where they are asked for, and the audit is empty.
+        requires few { audit_count self.old < 2 ^ 32 }
+        requires asked { self.old.job.audit ≡ Q.KEEPS }
+        // Entries are kept exactly where they are asked for. Then their lines were written, and the audit is empty.
+        ensures kept { KeepsAsked self.old }
         ensures written { OnOk result (Appends (A.contents writer.old) (A.contents writer.new)
             (lines_for self.old.job.audit (audit_waiting self.old))) }
         ensures drained { OnOk result (Records self.old self.new) }
         ensures stays { OnOk result (A.has_failed writer.new ≡ A.has_failed writer.old) }
+        // The job, and the count of what was written, stay.
+        ensures job { self.new.job ≡ self.old.job }
+        ensures sent { self.new.sent ≡ self.old.sent }
         // By which cause it stopped, and that a front of the lines was written.
         ensures cause { IfErr result (λ e. StopsLines e (A.has_failed writer.new)) }
         ensures fails { IfErr result (λ e. A.has_failed writer.new
             ≡ audit_after e (A.has_failed writer.old)) }
         ensures err { OnErr result (WritesBeginning (A.contents writer.old) (A.contents writer.new)
             (lines_for self.old.job.audit (audit_waiting self.old))) }
+        // Where no lines are asked for, it doesn't stop, and its writer is left alone.
+        ensures asked { OnErr result (self.old.job.audit ≡ true) }
+        ensures unasked { self.old.job.audit ≡ false → writer.new ≡ writer.old }
     {
         let Ok(entries) = self.state.drain_audit(u32::MAX) else {
             return Err(Fault::Mediator(MediatorFault::OutOfMemory));

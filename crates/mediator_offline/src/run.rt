@@ -4,6 +4,7 @@ ghost use Rattle.event_journal.specs.Room.{JournalLimits};
 
 use crate::job::OfflineJob;
 use bytes::Bytes;
+use disclosure_audit::{Audit, AuditQueue};
 use event_journal::{JournalSizes, MOST_ENTRIES, MOST_OCTETS};
 use mediator_state::{DEFAULT_AUDIT, DEFAULT_QUEUE, Fault as MediatorFault, State};
 use mediator_tables::{SessionId, SubId};
@@ -22,40 +23,50 @@ const SESSION: SessionId = SessionId(1);
 /// The number of the one subscription.
 pub(crate) const SUBSCRIPTION: SubId = SubId(1);
 
-/// A run: the state of a mediator with one session and one subscription, and what is counted for the report.
+/// A run: the state of a mediator with one session and one subscription, and what is counted for the report. `Q` is what
+/// keeps the entries of the audit, or counts them.
 #[derive(Drop)]
-pub(crate) struct OfflineRun<'a> {
+pub(crate) struct OfflineRun<'a, Q: AuditQueue> {
     pub(crate) alloc: Global,
     /// What is asked for.
     pub(crate) job: OfflineJob<'a>,
     /// The mediator, of whose journal the sizes alone are kept.
-    pub(crate) state: State<JournalSizes>,
+    pub(crate) state: State<JournalSizes, Q>,
     /// The messages that were accepted.
     pub(crate) messages: u64,
     /// The records that they brought.
     pub(crate) records: u64,
-    /// The octets that were written for the subscriber.
+    /// The octets that were written for the subscriber, or gathered to be.
     pub(crate) sent: u64,
+    /// The message that was pulled last: its room serves the next one.
+    pub(crate) message: Vec<u8>,
 }
 
 ghost use Rattle.mediator_offline.specs.Opening.{RefusesJob};
 ghost use Rattle.mediator_offline.specs.Running.{IsRunOpened};
-ghost use Rattle.mediator_offline.specs.Runs.{audit_waiting};
+ghost use Rattle.mediator_offline.specs.Runs.{audit_count};
 ghost use Rattle.mediator_offline.specs.Steps.{HasDelivered, TakesMessage, RunRefuses};
 
-impl<'a> OfflineRun<'a> {
-    /// Accepts the policy, the subscription and the session of a run.
+impl<'a, Q: AuditQueue + Drop> OfflineRun<'a, Q> {
+    /// Accepts the policy, the subscription and the session of a run. What the audit names is to wait in `queue`, where
+    /// nothing waits yet.
     ///
     /// # Errors
     /// The policy or the name is refused; or the journal has no room, or memory ran out.
-    pub(crate) fn open(alloc: Global, job: OfflineJob<'a>) -> Result<OfflineRun<'a>, MediatorFault>
+    pub(crate) fn open(
+        alloc: Global,
+        job: OfflineJob<'a>,
+        queue: Q,
+    ) -> Result<OfflineRun<'a, Q>, MediatorFault>
+        requires none { (Q.seen queue).count ≡ 0 }
         ensures ok { IfOk result (λ d. IsRunOpened d job.entry) }
         ensures err { IfErr result (λ e. RefusesJob e job.entry) }
     {
+        let audit = Audit::new(queue, DEFAULT_AUDIT);
         let mut state = State::new(
             alloc,
             LIMITS,
-            DEFAULT_AUDIT,
+            audit,
             JournalSizes::new(MOST_ENTRIES, MOST_OCTETS),
         )?;
         state.edit(job.policy)?;
@@ -68,6 +79,7 @@ impl<'a> OfflineRun<'a> {
             messages: 0,
             records: 0,
             sent: 0,
+            message: Vec::new(alloc),
         })
     }
 
@@ -82,7 +94,7 @@ impl<'a> OfflineRun<'a> {
         ensures job { self.new.job ≡ self.old.job }
         ensures sent { self.new.sent ≡ self.old.sent }
         // The message was accepted, or cut the subscription.
-        ensures few { OnOk result (length (audit_waiting self.new) < 2 ^ 32) }
+        ensures few { OnOk result (audit_count self.new < 2 ^ 32) }
         ensures ok { IfOk result (λ is_cut. TakesMessage self.old message is_cut self.new) }
         // Why it was refused.
         ensures err { IfErr result (λ e. RunRefuses e self.old message) }

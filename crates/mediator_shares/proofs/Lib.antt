@@ -1,6 +1,6 @@
 pub mod SharingLaws
+mod AlikeLaws
 pub mod KeyLaws
 pub mod JudgeLaws
 pub mod TermsLaws
-pub mod NotingLaws
 mod TotalLaws

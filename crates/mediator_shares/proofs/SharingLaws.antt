@@ -1,6 +1,6 @@
 -- Shares that grow, one subscription after another and one record after another.
-use Rattle.std.proofs.Common.{◌≡◌, ℕ, zero, suc, ◌+◌, ◌<◌, List, [], ◌∷◌, ◌++◌, length, map, take, drop, sym, ap, ◌∙◌, subst, arith, refl, length-append, append_assoc, append-nil, ◌≤◌}
-use Rattle.std.specs.Prelude.{get_or, set}
+use Rattle.std.proofs.Common.{◌≡◌, ℕ, zero, suc, ◌+◌, ◌<◌, false, Result, Ok, Err, List, [], ◌∷◌, ◌++◌, length, map, take, drop, sym, ap, ◌∙◌, subst, arith, refl, length-append, append_assoc, append-nil, ◌≤◌, Some}
+use Rattle.std.specs.Prelude.{◌==◌, get_or, set, OnOk}
 use Rattle.std.specs.List.{flat_map, enumerate_from}
 use Rattle.std.proofs.lemmas.List.{map-set, map-append, length-map, take_more, take_all, length-take-le}
 use Rattle.std.proofs.Math.ListN.{get_or-map, drop_of_length-le}
@@ -15,13 +15,17 @@ use Rattle.flow_anonymize.specs.Outcome as outcome
 use Rattle.flow_anonymize.specs.declared.disclosure.Disclosure.TheVariants.{Passed, Aggregated, Withheld}
 use Rattle.flow_anonymize.specs.Outcome.{Outcome, Decision}
 use Rattle.mediator_history.specs.Counting.{counts}
-use Rattle.mediator_history.specs.Auditing.{kept_back}
+use Rattle.mediator_history.specs.Auditing.{kept_back, removed_of}
 use Rattle.mediator_shares.specs.InForce.{InForce}
 use Rattle.mediator_tables.specs.declared.served.Served.{Served}
 use Rattle.mediator_tables.specs.declared.tally.Tally.{Tally}
-use Rattle.mediator_shares.specs.Noting.{KeptNotes, kept_notes, and_more}
-use Rattle.mediator_shares.proofs.NotingLaws.{none_more, more_more, kept_more}
+use Rattle.disclosure_audit.specs.Noting.{KeptNotes, and_more}
+use Rattle.disclosure_audit.specs.declared.entry.RemovedField.{RemovedField}
+use Rattle.disclosure_audit.specs.declared.entry.What.TheVariants.{Removed}
+use Rattle.disclosure_audit.proofs.NotingLaws.{none_more, more_more, counted_more}
 use Rattle.mediator_tables.specs.Adding.{tallied}
+use Rattle.mediator_shares.specs.Adding.{HasAdded, progress_of, audience_of}
+use Rattle.mediator_shares.specs.Judges.{Judges, JudgeFor}
 use Rattle.mediator_shares.specs.Sharing.{outcome_by, given_by, added_by, kept_by, kept_back_by, counts_by, blank, share_by, shares_of, tallies_of, note_of, notes_on, noted_of_each, notes_of}
 
 abbrev pub as_share : {X : Type 0} → ℕ → List X → ℕ × List X
@@ -58,6 +62,12 @@ blank_step {S} {X} pick xs xs2 s served place other so within grow same =
     ∙ sym (map-append empty (take place served) (get_or served place other ∷ []))
     ∙ ap (map empty) (sym (take_more served place other within))
 
+-- ---- results
+
+pub on_ok_gives : {X E P Q : Type 0} (r : Result X E) → OnOk r P → (P → Q) → OnOk r Q
+on_ok_gives (Ok x) p f = f p
+on_ok_gives (Err e) p f = tt
+
 -- ---- one record for one subscription after another
 
 -- the shares of the subscriptions before a place have the record, and the others don't yet
@@ -85,7 +95,7 @@ sharing_end gives old new r served place so over done start =
     ∙ ap (λ l. map (share_by gives (done ++ r ∷ [])) served ++ map (share_by gives done) l) (drop_of_length-le served over)
     ∙ append-nil (map (share_by gives (done ++ r ∷ [])) served)
 
-more_served : (served : List Served) (place : ℕ) (who other : Served) → place < length served → who ≡ get_or served place other → take (place + 1) served ≡ take place served ++ who ∷ []
+pub more_served : (served : List Served) (place : ℕ) (who other : Served) → place < length served → who ≡ get_or served place other → take (place + 1) served ≡ take place served ++ who ∷ []
 more_served served place who other within at = take_more served place other within ∙ ap (λ x. take place served ++ x ∷ []) (sym at)
 
 rest_served : (served : List Served) (place : ℕ) (who other : Served) → place < length served → who ≡ get_or served place other → drop place served ≡ who ∷ drop (place + 1) served
@@ -106,36 +116,42 @@ sharing_step gives old new new2 r served place who other so within at adds done 
     ∙ sym (append_assoc (map f1 (take place served)) (f1 who ∷ []) (map f0 (drop (place + 1) served)))
     ∙ ap (λ l. l ++ map f0 (drop (place + 1) served)) (sym (map-append f1 (take place served) (who ∷ [])) ∙ ap (map f1) (sym (more_served served place who other within at)))
 
--- the same of what is given and of what is added, and what was noted
-pub record IsAdding (old new : List (ℕ × List DataRecord)) (told tnew : List Tally) (before notes : KeptNotes) (domain : ℕ) (f : InForce) (index : ℕ) (r : DataRecord) (served : List Served) (place : ℕ) : Type 0 where
-  pub shares : IsSharing (given_by domain f) old new r served place
+-- the same of what is added for the subscriptions before a place, and what was noted of them
+pub record IsNoting (told tnew : List Tally) (before notes : KeptNotes) (domain : ℕ) (f : InForce) (index : ℕ) (r : DataRecord) (served : List Served) (place : ℕ) : Type 0 where
   pub tallies : IsSharing (added_by domain f) (map tallied told) (map tallied tnew) r served place
   pub noting : notes ≡ and_more before (flat_map (notes_on domain f (index, r)) (take place served))
-  pub stay : length new ≡ length served
-  pub stay_tallies : length tnew ≡ length served
+  pub stay : length tnew ≡ length served
 
-pub adding_start : (s : List (ℕ × List DataRecord)) (t : List Tally) (n : KeptNotes) (domain : ℕ) (f : InForce) (index : ℕ) (r : DataRecord) (served : List Served) → length s ≡ length served → length t ≡ length served
-    → IsAdding s s t t n n domain f index r served 0
-adding_start s t n domain f index r served same same_too = record {
-  shares = λ done start. start;
-  tallies = λ done start. start;
-  noting = sym (none_more n);
-  stay = same;
-  stay_tallies = same_too;
+pub noting_start : (t : List Tally) (n : KeptNotes) (domain : ℕ) (f : InForce) (index : ℕ) (r : DataRecord) (served : List Served) → length t ≡ length served → IsNoting t t n n domain f index r served 0
+noting_start t n domain f index r served same = record { tallies = λ done start. start; noting = sym (none_more n); stay = same }
+
+-- the same of what is given
+pub record IsGiving (old new : List (ℕ × List DataRecord)) (domain : ℕ) (f : InForce) (r : DataRecord) (served : List Served) (place : ℕ) : Type 0 where
+  pub shares : IsSharing (given_by domain f) old new r served place
+  pub stay : length new ≡ length served
+
+pub giving_start : (s : List (ℕ × List DataRecord)) (domain : ℕ) (f : InForce) (r : DataRecord) (served : List Served) → length s ≡ length served → IsGiving s s domain f r served 0
+giving_start s domain f r served same = record { shares = λ done start. start; stay = same }
+
+pub giving_step : (old new new2 : List (ℕ × List DataRecord)) (domain : ℕ) (f : InForce) (r : DataRecord) (served : List Served) (place : ℕ) (who other : Served)
+    → IsGiving old new domain f r served place → place < length served → who ≡ get_or served place other
+    → GrowsAt new new2 place (outcome.passed (outcome_by domain f who.name.now r)) → length new2 ≡ length new → IsGiving old new2 domain f r served (place + 1)
+giving_step old new new2 domain f r served place who other so within at gives same = record {
+  shares = sharing_step (given_by domain f) old new new2 r served place who other so.shares within at gives;
+  stay = same ∙ so.stay;
 }
 
 -- all subscriptions have it
-pub record HasAdded (old new : List (ℕ × List DataRecord)) (told tnew : List Tally) (before notes : KeptNotes) (domain : ℕ) (f : InForce) (index : ℕ) (r : DataRecord) (served : List Served) : Type 0 where
-  pub shares : (done : List DataRecord) → old ≡ shares_of domain f done served → new ≡ shares_of domain f (done ++ r ∷ []) served
-  pub tallies : (done : List DataRecord) → map tallied told ≡ tallies_of domain f done served → map tallied tnew ≡ tallies_of domain f (done ++ r ∷ []) served
-  pub noting : notes ≡ and_more before (noted_of_each domain f served (index, r))
-
-pub added : (old new : List (ℕ × List DataRecord)) (told tnew : List Tally) (before notes : KeptNotes) (domain : ℕ) (f : InForce) (index : ℕ) (r : DataRecord) (served : List Served) (place : ℕ)
-    → IsAdding old new told tnew before notes domain f index r served place → length served ≤ place → HasAdded old new told tnew before notes domain f index r served
-added old new told tnew before notes domain f index r served place so over = record {
-  shares = sharing_end (given_by domain f) old new r served place so.shares over;
-  tallies = sharing_end (added_by domain f) (map tallied told) (map tallied tnew) r served place so.tallies over;
-  noting = so.noting ∙ ap (λ l. and_more before (flat_map (notes_on domain f (index, r)) l)) (take_all place served over);
+pub added : (old new : Judges) (told tnew : List Tally) (before notes : KeptNotes) (domain : ℕ) (f : InForce) (index : ℕ) (r : DataRecord) (leaders served : List Served) (first place : ℕ)
+    → IsGiving old.shares new.shares domain f r leaders first → length leaders ≤ first → IsNoting told tnew before notes domain f index r served place → length served ≤ place
+    → JudgeFor new f domain (Some r.template) leaders → HasAdded (progress_of old told before) (progress_of new tnew notes) index r (audience_of domain f leaders served)
+added old new told tnew before notes domain f index r leaders served first place gives over notes_all over_too judges = record {
+  shares = sharing_end (given_by domain f) old.shares new.shares r leaders first gives.shares over;
+  tallies = sharing_end (added_by domain f) (map tallied told) (map tallied tnew) r served place notes_all.tallies over_too;
+  noting = notes_all.noting ∙ ap (λ l. and_more before (flat_map (notes_on domain f (index, r)) l)) (take_all place served over_too);
+  judges = judges;
+  stay = gives.stay;
+  stay_tallies = notes_all.stay;
 }
 
 counts_same : (aggregates : List Aggregate) (clock : ℕ) (r : DataRecord) (o : Outcome) → counts_by aggregates clock r (outcome.decision_of o) ≡ counts aggregates clock r o
@@ -148,14 +164,19 @@ kept_back_same aggregates clock r (Passed kept removed) = refl
 kept_back_same aggregates clock r (Aggregated rule definition) = refl
 kept_back_same aggregates clock r (Withheld rule reason) = refl
 
+-- the note of fields that are removed is counted alone, where no more are kept
+pub counted_removed : (k : KeptNotes) (index sub : ℕ) (removed : List RemovedField) → (length removed == 0) ≡ false → k.most ≤ length k.notes
+    → and_more k (map (note_of index sub) (removed_of removed)) ≡ record { notes = k.notes; count = k.count + 1; most = k.most }
+counted_removed k index sub [] some full = absurd cc
+counted_removed k index sub (field ∷ fields) some full = counted_more k (note_of index sub (Removed (field ∷ fields))) full
+
 -- one subscription more, for which this is decided of the record
-pub adding_step : (old new new2 : List (ℕ × List DataRecord)) (told tnew tnew2 : List Tally) (before notes notes2 : KeptNotes) (domain : ℕ) (f : InForce) (index : ℕ) (r : DataRecord) (served : List Served) (place : ℕ) (who other : Served) (found : Decision)
-    → IsAdding old new told tnew before notes domain f index r served place → place < length served → who ≡ get_or served place other → found ≡ outcome.decision_of (outcome_by domain f who.name.now r)
-    → GrowsAt new new2 place (outcome.passed (outcome_by domain f who.name.now r)) → GrowsAt (map tallied tnew) (map tallied tnew2) place (map count_of (counts_by f.policy.aggregates f.clock r found))
-    → length new2 ≡ length new → length tnew2 ≡ length tnew → notes2 ≡ and_more notes (map (note_of index who.sub) (kept_back_by f.policy.aggregates f.clock r found))
-    → IsAdding old new2 told tnew2 before notes2 domain f index r served (place + 1)
-adding_step old new new2 told tnew tnew2 before notes notes2 domain f index r served place who other found so within at is gives tallies same same_too notes_grow = record {
-  shares = sharing_step (given_by domain f) old new new2 r served place who other so.shares within at gives;
+pub noting_step : (told tnew tnew2 : List Tally) (before notes notes2 : KeptNotes) (domain : ℕ) (f : InForce) (index : ℕ) (r : DataRecord) (served : List Served) (place : ℕ) (who other : Served) (found : Decision)
+    → IsNoting told tnew before notes domain f index r served place → place < length served → who ≡ get_or served place other → found ≡ outcome.decision_of (outcome_by domain f who.name.now r)
+    → GrowsAt (map tallied tnew) (map tallied tnew2) place (map count_of (counts_by f.policy.aggregates f.clock r found))
+    → length tnew2 ≡ length tnew → notes2 ≡ and_more notes (map (note_of index who.sub) (kept_back_by f.policy.aggregates f.clock r found))
+    → IsNoting told tnew2 before notes2 domain f index r served (place + 1)
+noting_step told tnew tnew2 before notes notes2 domain f index r served place who other found so within at is tallies same notes_grow = record {
   tallies = sharing_step (added_by domain f) (map tallied told) (map tallied tnew) (map tallied tnew2) r served place who other so.tallies within at
       (λ b a s split l. tallies b a s split l ∙ ap (λ (d : Decision). b ++ grown s (map count_of (counts_by f.policy.aggregates f.clock r d)) ∷ a) is ∙ ap (λ c. b ++ grown s (map count_of c) ∷ a) (counts_same f.policy.aggregates f.clock r o));
   noting = notes_grow ∙ ap (λ (d : Decision). and_more notes (map (note_of index who.sub) (kept_back_by f.policy.aggregates f.clock r d))) is ∙ ap (λ k. and_more notes (map (note_of index who.sub) k)) (kept_back_same f.policy.aggregates f.clock r o)
@@ -163,7 +184,6 @@ adding_step old new new2 told tnew tnew2 before notes notes2 domain f index r se
       ∙ more_more before (flat_map (notes_on domain f (index, r)) (take place served)) (notes_on domain f (index, r) who)
       ∙ ap (λ l. and_more before l) (sym (flat_map-push (notes_on domain f (index, r)) (take place served) who) ∙ ap (flat_map (notes_on domain f (index, r))) (sym (more_served served place who other within at)));
   stay = same ∙ so.stay;
-  stay_tallies = same_too ∙ so.stay_tallies;
 }
   where
     o : Outcome
@@ -181,29 +201,29 @@ enumerate-append n (x ∷ xs) ys = ap (λ t. (n, x) ∷ t) (enumerate-append (n 
   same = omega arith
 
 -- the shares of the first so many records of a run, the first of which has this index
-pub record IsRunning (old new : List (ℕ × List DataRecord)) (told tnew : List Tally) (before notes : KeptNotes) (domain : ℕ) (f : InForce) (first : ℕ) (rs : List DataRecord) (served : List Served) (place : ℕ) : Type 0 where
-  pub shares : (done : List DataRecord) → old ≡ shares_of domain f done served → new ≡ shares_of domain f (done ++ take place rs) served
+pub record IsRunning (old new : List (ℕ × List DataRecord)) (told tnew : List Tally) (before notes : KeptNotes) (domain : ℕ) (f : InForce) (first : ℕ) (rs : List DataRecord) (leaders served : List Served) (place : ℕ) : Type 0 where
+  pub shares : (done : List DataRecord) → old ≡ shares_of domain f done leaders → new ≡ shares_of domain f (done ++ take place rs) leaders
   pub tallies : (done : List DataRecord) → map tallied told ≡ tallies_of domain f done served → map tallied tnew ≡ tallies_of domain f (done ++ take place rs) served
   pub noting : notes ≡ and_more before (flat_map (noted_of_each domain f served) (enumerate_from first (take place rs)))
-  pub stay : length new ≡ length served
+  pub stay : length new ≡ length leaders
   pub stay_tallies : length tnew ≡ length served
 
-pub running_start : (old new : List (ℕ × List DataRecord)) (t : List Tally) (n : KeptNotes) (domain : ℕ) (f : InForce) (first : ℕ) (rs : List DataRecord) (served : List Served) → new ≡ old → length old ≡ length served → length t ≡ length served
-    → IsRunning old new t t n n domain f first rs served 0
-running_start old new t n domain f first rs served is same same_too = record {
-  shares = λ done start. is ∙ start ∙ ap (λ l. shares_of domain f l served) (sym (append-nil done));
+pub running_start : (old new : List (ℕ × List DataRecord)) (t : List Tally) (n : KeptNotes) (domain : ℕ) (f : InForce) (first : ℕ) (rs : List DataRecord) (leaders served : List Served) → new ≡ old → length old ≡ length leaders → length t ≡ length served
+    → IsRunning old new t t n n domain f first rs leaders served 0
+running_start old new t n domain f first rs leaders served is same same_too = record {
+  shares = λ done start. is ∙ start ∙ ap (λ l. shares_of domain f l leaders) (sym (append-nil done));
   tallies = λ done start. start ∙ ap (λ l. tallies_of domain f l served) (sym (append-nil done));
   noting = sym (none_more n);
   stay = ap length is ∙ same;
   stay_tallies = same_too;
 }
 
-pub running_step : (old new new2 : List (ℕ × List DataRecord)) (told tnew tnew2 : List Tally) (before notes notes2 : KeptNotes) (domain : ℕ) (f : InForce) (first index : ℕ) (rs : List DataRecord) (served : List Served) (place : ℕ) (r other : DataRecord)
-    → IsRunning old new told tnew before notes domain f first rs served place → place < length rs → r ≡ get_or rs place other → index ≡ first + place
-    → HasAdded new new2 tnew tnew2 notes notes2 domain f index r served → length new2 ≡ length served → length tnew2 ≡ length served
-    → IsRunning old new2 told tnew2 before notes2 domain f first rs served (place + 1)
-running_step old new new2 told tnew tnew2 before notes notes2 domain f first index rs served place r other so within at numbered adds same same_too = record {
-  shares = λ done start. adds.shares (done ++ take place rs) (so.shares done start) ∙ ap (λ l. shares_of domain f l served) (longer done);
+pub running_step : (old : List (ℕ × List DataRecord)) (new new2 : Judges) (told tnew tnew2 : List Tally) (before notes notes2 : KeptNotes) (domain : ℕ) (f : InForce) (first index : ℕ) (rs : List DataRecord) (leaders served : List Served) (place : ℕ) (r other : DataRecord)
+    → IsRunning old new.shares told tnew before notes domain f first rs leaders served place → place < length rs → r ≡ get_or rs place other → index ≡ first + place
+    → HasAdded (progress_of new tnew notes) (progress_of new2 tnew2 notes2) index r (audience_of domain f leaders served)
+    → IsRunning old new2.shares told tnew2 before notes2 domain f first rs leaders served (place + 1)
+running_step old new new2 told tnew tnew2 before notes notes2 domain f first index rs leaders served place r other so within at numbered adds = record {
+  shares = λ done start. adds.shares (done ++ take place rs) (so.shares done start) ∙ ap (λ l. shares_of domain f l leaders) (longer done);
   tallies = λ done start. adds.tallies (done ++ take place rs) (so.tallies done start) ∙ ap (λ l. tallies_of domain f l served) (longer done);
   noting = adds.noting ∙ ap (λ l. and_more l (noted_of_each domain f served (index, r))) so.noting
       ∙ more_more before (flat_map (noted_of_each domain f served) (enumerate_from first (take place rs))) (noted_of_each domain f served (index, r))
@@ -212,8 +232,8 @@ running_step old new new2 told tnew tnew2 before notes notes2 domain f first ind
       ∙ sym (flat_map-push (noted_of_each domain f served) (enumerate_from first (take place rs)) (first + length (take place rs), r))
       ∙ ap (flat_map (noted_of_each domain f served)) (sym (enumerate-append first (take place rs) (r ∷ [])) ∙ ap (enumerate_from first) (sym more))
       );
-  stay = same;
-  stay_tallies = same_too;
+  stay = adds.stay;
+  stay_tallies = adds.stay_tallies;
 }
   where
     more : take (place + 1) rs ≡ take place rs ++ r ∷ []
@@ -226,44 +246,44 @@ running_step old new new2 told tnew tnew2 before notes notes2 domain f first ind
     here = omega (arith, numbered, length-take-le place rs (omega (arith, within)))
 
 -- the shares of all records of a run
-pub record HasRun (old new : List (ℕ × List DataRecord)) (told tnew : List Tally) (before notes : KeptNotes) (domain : ℕ) (f : InForce) (first : ℕ) (rs : List DataRecord) (served : List Served) : Type 0 where
-  pub shares : (done : List DataRecord) → old ≡ shares_of domain f done served → new ≡ shares_of domain f (done ++ rs) served
+pub record HasRun (old new : List (ℕ × List DataRecord)) (told tnew : List Tally) (before notes : KeptNotes) (domain : ℕ) (f : InForce) (first : ℕ) (rs : List DataRecord) (leaders served : List Served) : Type 0 where
+  pub shares : (done : List DataRecord) → old ≡ shares_of domain f done leaders → new ≡ shares_of domain f (done ++ rs) leaders
   pub tallies : (done : List DataRecord) → map tallied told ≡ tallies_of domain f done served → map tallied tnew ≡ tallies_of domain f (done ++ rs) served
   pub noting : notes ≡ and_more before (flat_map (noted_of_each domain f served) (enumerate_from first rs))
 
-pub has_run : (old new : List (ℕ × List DataRecord)) (told tnew : List Tally) (before notes : KeptNotes) (domain : ℕ) (f : InForce) (first : ℕ) (rs : List DataRecord) (served : List Served) (place : ℕ)
-    → IsRunning old new told tnew before notes domain f first rs served place → length rs ≤ place → HasRun old new told tnew before notes domain f first rs served
-has_run old new told tnew before notes domain f first rs served place so over =
-    let P : List DataRecord → Type 0 = λ l. HasRun old new told tnew before notes domain f first l served in
+pub has_run : (old new : List (ℕ × List DataRecord)) (told tnew : List Tally) (before notes : KeptNotes) (domain : ℕ) (f : InForce) (first : ℕ) (rs : List DataRecord) (leaders served : List Served) (place : ℕ)
+    → IsRunning old new told tnew before notes domain f first rs leaders served place → length rs ≤ place → HasRun old new told tnew before notes domain f first rs leaders served
+has_run old new told tnew before notes domain f first rs leaders served place so over =
+    let P : List DataRecord → Type 0 = λ l. HasRun old new told tnew before notes domain f first l leaders served in
     subst P (take_all place rs over) (record { shares = so.shares; tallies = so.tallies; noting = so.noting })
 
 -- ---- one run after another
 
 -- the shares of the records of the first so many runs
-pub record AreShares (shares : List (ℕ × List DataRecord)) (tallies : List Tally) (start notes : KeptNotes) (domain : ℕ) (f : InForce) (runs : List RunOf) (served : List Served) (place before : ℕ) : Type 0 where
-  pub sharing : shares ≡ shares_of domain f (records_of_runs (take place runs)) served
+pub record AreShares (shares : List (ℕ × List DataRecord)) (tallies : List Tally) (start notes : KeptNotes) (domain : ℕ) (f : InForce) (runs : List RunOf) (leaders served : List Served) (place before : ℕ) : Type 0 where
+  pub sharing : shares ≡ shares_of domain f (records_of_runs (take place runs)) leaders
   pub tallying : map tallied tallies ≡ tallies_of domain f (records_of_runs (take place runs)) served
   pub noting : notes ≡ and_more start (notes_of domain f (records_of_runs (take place runs)) served)
   pub counted : before ≡ length (records_of_runs (take place runs))
-  pub stay : length shares ≡ length served
+  pub stay : length shares ≡ length leaders
   pub stay_tallies : length tallies ≡ length served
 
-pub shares_start : (s : List (ℕ × List DataRecord)) (t : List Tally) (n : KeptNotes) (domain : ℕ) (f : InForce) (runs : List RunOf) (served : List Served)
-    → s ≡ map blank served → map tallied t ≡ map blank served → AreShares s t n n domain f runs served 0 0
-shares_start s t n domain f runs served blanks empty = record {
+pub shares_start : (s : List (ℕ × List DataRecord)) (t : List Tally) (n : KeptNotes) (domain : ℕ) (f : InForce) (runs : List RunOf) (leaders served : List Served)
+    → s ≡ map blank leaders → map tallied t ≡ map blank served → AreShares s t n n domain f runs leaders served 0 0
+shares_start s t n domain f runs leaders served blanks empty = record {
   sharing = blanks;
   tallying = empty;
   noting = sym (none_more n);
   counted = refl;
-  stay = ap length blanks ∙ length-map served blank;
+  stay = ap length blanks ∙ length-map leaders blank;
   stay_tallies = sym (length-map t tallied) ∙ ap length empty ∙ length-map served blank;
 }
 
-pub shares_step : (s s2 : List (ℕ × List DataRecord)) (t t2 : List Tally) (begin n n2 : KeptNotes) (domain : ℕ) (f : InForce) (runs : List RunOf) (served : List Served) (place before more : ℕ) (run other : RunOf)
-    → AreShares s t begin n domain f runs served place before → place < length runs → run ≡ get_or runs place other → more ≡ length run.texts → HasRun s s2 t t2 n n2 domain f before (run_records run) served
-    → length s2 ≡ length served → length t2 ≡ length served → AreShares s2 t2 begin n2 domain f runs served (place + 1) (before + more)
-shares_step s s2 t t2 begin n n2 domain f runs served place before more run other so within at many adds same same_too = record {
-  sharing = adds.shares (records_of_runs (take place runs)) so.sharing ∙ ap (λ l. shares_of domain f l served) (sym grows);
+pub shares_step : (s s2 : List (ℕ × List DataRecord)) (t t2 : List Tally) (begin n n2 : KeptNotes) (domain : ℕ) (f : InForce) (runs : List RunOf) (leaders served : List Served) (place before more : ℕ) (run other : RunOf)
+    → AreShares s t begin n domain f runs leaders served place before → place < length runs → run ≡ get_or runs place other → more ≡ length run.texts → HasRun s s2 t t2 n n2 domain f before (run_records run) leaders served
+    → length s2 ≡ length leaders → length t2 ≡ length served → AreShares s2 t2 begin n2 domain f runs leaders served (place + 1) (before + more)
+shares_step s s2 t t2 begin n n2 domain f runs leaders served place before more run other so within at many adds same same_too = record {
+  sharing = adds.shares (records_of_runs (take place runs)) so.sharing ∙ ap (λ l. shares_of domain f l leaders) (sym grows);
   tallying = adds.tallies (records_of_runs (take place runs)) so.tallying ∙ ap (λ l. tallies_of domain f l served) (sym grows);
   noting = adds.noting ∙ ap (λ l. and_more l (flat_map (noted_of_each domain f served) (enumerate_from before (run_records run)))) so.noting
       ∙ more_more begin (notes_of domain f (records_of_runs (take place runs)) served) (flat_map (noted_of_each domain f served) (enumerate_from before (run_records run)))
@@ -298,13 +318,13 @@ fewer_records (r ∷ runs) (suc place) run other within at =
     omega (arith, rest, all, some)
 
 -- the shares of all records
-pub record HasShares (shares : List (ℕ × List DataRecord)) (tallies : List Tally) (begin notes : KeptNotes) (domain : ℕ) (f : InForce) (records : List DataRecord) (served : List Served) : Type 0 where
-  pub shares_are : shares ≡ shares_of domain f records served
+pub record HasShares (shares : List (ℕ × List DataRecord)) (tallies : List Tally) (begin notes : KeptNotes) (domain : ℕ) (f : InForce) (records : List DataRecord) (leaders served : List Served) : Type 0 where
+  pub shares_are : shares ≡ shares_of domain f records leaders
   pub tallies_are : map tallied tallies ≡ tallies_of domain f records served
   pub notes_are : notes ≡ and_more begin (notes_of domain f records served)
 
-pub has_shares : (s : List (ℕ × List DataRecord)) (t : List Tally) (begin n : KeptNotes) (domain : ℕ) (f : InForce) (runs : List RunOf) (served : List Served) (place before : ℕ)
-    → AreShares s t begin n domain f runs served place before → length runs ≤ place → HasShares s t begin n domain f (records_of_runs runs) served
-has_shares s t begin n domain f runs served place before so over =
-    let P : List RunOf → Type 0 = λ l. HasShares s t begin n domain f (records_of_runs l) served in
+pub has_shares : (s : List (ℕ × List DataRecord)) (t : List Tally) (begin n : KeptNotes) (domain : ℕ) (f : InForce) (runs : List RunOf) (leaders served : List Served) (place before : ℕ)
+    → AreShares s t begin n domain f runs leaders served place before → length runs ≤ place → HasShares s t begin n domain f (records_of_runs runs) leaders served
+has_shares s t begin n domain f runs leaders served place before so over =
+    let P : List RunOf → Type 0 = λ l. HasShares s t begin n domain f (records_of_runs l) leaders served in
     subst P (take_all place runs over) (record { shares_are = so.sharing; tallies_are = so.tallying; notes_are = so.noting })

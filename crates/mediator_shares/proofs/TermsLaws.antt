@@ -17,7 +17,7 @@ use Rattle.disclosure_audit.specs.declared.entry.Note.{Note}
 use Rattle.mediator_shares.specs.declared.shares.Shares.{Shares}
 use Rattle.mediator_shares.specs.InForce.{InForce}
 use Rattle.mediator_shares.specs.Sharing.{given_by, added_by, kept_by, note_of, noted_of_each, shares_of, tallies_of, notes_of}
-use Rattle.mediator_shares.specs.Noting.{kept_notes}
+use Rattle.disclosure_audit.specs.Noting.{kept_notes}
 use Rattle.mediator_shares.specs.Terms.{Terms, terms_of}
 use Rattle.mediator_shares.specs.Judgements.{AreSharesOf}
 use Rattle.mediator_shares.proofs.JudgeLaws.{got_map, map_twice}

@@ -7,7 +7,7 @@ use Rattle.mediator_tables.specs.SubscriptionTable.{shown}
 use Rattle.mediator_tables.specs.Adding.{tallied}
 use Rattle.mediator_shares.specs.InForce.{InForce}
 use Rattle.mediator_shares.specs.Sharing.{shares_of, tallies_of, notes_of}
-use Rattle.mediator_shares.specs.Noting.{kept_notes}
+use Rattle.disclosure_audit.specs.Noting.{kept_notes}
 use Rattle.mediator_shares.specs.Terms.{terms_of}
 use Rattle.mediator_shares.specs.declared.shares.Shares.{Shares}
 use Rattle.mediator_shares.specs.declared.judgement.Judgement.{Judgement}

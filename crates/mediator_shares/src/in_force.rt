@@ -59,6 +59,7 @@ impl Model for InForce {
 
 impl InForce {
     ghost use Rattle.mediator_shares.specs.InForce.{in_force_with, timing_by, count_by, as_list};
+    ghost use Rattle.mediator_shares.specs.Alike.{is_told_apart};
     ghost use Rattle.mediator_shares.specs.Judges.{JudgeFor, JudgesAny};
     ghost use Rattle.mediator_shares.specs.Sharing.{blank};
 
@@ -112,6 +113,13 @@ impl InForce {
         ensures { IsTrue result ↔ self.now.policy ≡ other.now.policy }
     {
         self.revision.is_same(&other.revision)
+    }
+
+    /// Whether a rule of the policy names the subscriber `name`.
+    pub(crate) fn names(&self, name: &str) -> bool
+        ensures { result ≡ is_told_apart name.now self.now.policy.rules }
+    {
+        self.revision.names(name)
     }
 
     /// What decides over the records of a message of the Observation Domain `domain` for each of the subscriptions

@@ -161,7 +161,8 @@ impl Judges {
         requires classes { classes ≡ classes_of self.old.cuts flow_record.now }
         // It is told what became of the record, and what passes is given to that subscription alone.
         ensures decision { (p : PlansFor) → slice_get self.old.fors place ≡ Some p
-            → IfOk result (λ d. d ≡ decision_of (outcome_for p flow_record.now)) }
+            → IfOk result
+            (λ d. d ≡ decision_of (outcome_for p flow_record.now)) }
         ensures given { (p : PlansFor) (before after : List (ℕ × List DataRecord))
             (s : ℕ × List DataRecord) → slice_get self.old.fors place ≡ Some p
             → self.old.shares ≡ before ++ s ∷ after

@@ -3,10 +3,10 @@
 //!
 //! - `in_force`: [`InForce`], the policy in force and the time of the clock, with what was worked out for the last messages.
 //! - `revision`: a policy, with what is worked out of it once.
+//! - `alike`: subscriptions that no rule tells apart.
 //! - `judges`: what becomes of a record, for each subscription.
-//! - `notes`: [`Notes`], what the audit notes of a message, as much of it as may be kept.
 //! - `shares`: [`Shares`], what each subscription is given (a [`Share`](mediator_tables::Share)), what is added to its
-//!   aggregates ([`Tally`](mediator_tables::Tally)), and what the audit notes ([`Note`]).
+//!   aggregates ([`Tally`](mediator_tables::Tally)), and what the audit notes ([`Notes`]).
 //! - `terms`: [`Terms`], what decides for all that are served, as it stood; threads judge by it elsewhere.
 //! - `workspace`: [`Workspace`], what one such thread judges with; `judgement`: [`Judgement`], what it judged; `counts`: how many
 //!   of its records count in aggregates.
@@ -20,20 +20,19 @@
 //! them (`exact`).
 #![tactic(auto)]
 
+mod alike;
 mod counts;
 mod in_force;
 mod judgement;
 mod judges;
-mod notes;
 mod revision;
 mod shares;
 mod terms;
 mod workspace;
 
-pub use disclosure_audit::Note;
+pub use disclosure_audit::{Note, Notes};
 pub use in_force::InForce;
 pub use judgement::Judgement;
-pub use notes::Notes;
 pub use shares::Shares;
 pub use terms::Terms;
 pub use workspace::Workspace;

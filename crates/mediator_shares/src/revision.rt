@@ -1,21 +1,24 @@
 //! A policy, with what is worked out of it once, for all messages that it judges.
-ghost use Rattle.std.specs.Prelude.{◌≡◌, ◌↔◌, true, IsTrue, IfOk};
+ghost use Rattle.std.specs.Prelude.{◌≡◌, ◌↔◌, ◌||◌, ℕ, true, IsTrue, IfOk, OnOk};
 ghost use Rattle.std.specs.Prelude.{List, map};
 ghost use Rattle.std.specs.List.{AllByRecursion};
 ghost use Rattle.std.specs.Arc.{arc_value};
 ghost use Rattle.ipfix_element.specs.Kinds.{kind_of};
 ghost use Rattle.policy_text.specs.Classes.{is_key_kind};
+ghost use Rattle.std.specs.BTreeSet.{contains_text};
 ghost use Rattle.rule_table.specs.Cuts.{HaveCuts};
+ghost use Rattle.mediator_shares.specs.Alike.{is_who, is_told_apart};
 
 use flow_aggregate::Definition;
-use policy_text::{AggregateDef, Policy};
+use policy_text::{AggregateDef, Policy, Rule};
 use rule_table::{AddressClasses, RuleTable};
 use std::alloc::{AllocError, Global};
+use std::collections::BTreeSet;
 use std::marker::Model;
 use std::sync::Arc;
 
-/// A policy, with its printed text, its rules in a table, the classes that their prefixes make, and its aggregates as
-/// groups share them. Threads share it. Contracts see the policy.
+/// A policy, with its printed text, its rules in a table, the classes that their prefixes make, its aggregates as groups
+/// share them, and the names of the subscribers that its rules name. Threads share it. Contracts see the policy.
 pub(crate) struct Revision {
     policy: Policy,
     /// The policy's printed text: two policies are the same where their texts are.
@@ -23,6 +26,8 @@ pub(crate) struct Revision {
     table: Arc<RuleTable>,
     classes: Arc<AddressClasses>,
     definitions: Vec<Definition>,
+    /// The subscribers that the rules name.
+    named: BTreeSet<String>,
 }
 
 impl Drop for Revision {
@@ -34,6 +39,7 @@ impl Drop for Revision {
             table: _,
             classes: _,
             definitions: _,
+            named: _,
         } = self;
     }
 }
@@ -43,6 +49,7 @@ impl Model for Revision {
     ghost use Rattle.std.specs.Arc.{arc_value};
     ghost use Rattle.policy_text.specs.Policies.{PolicyMeaning};
     ghost use Rattle.policy_text.specs.Printing.{policy_text};
+    ghost use Rattle.std.specs.BTreeSet.{contains_text};
     ghost use Rattle.mediator_shares.specs.InForce.{IsPolicyKept};
 
     ghost Value = { PolicyMeaning };
@@ -50,7 +57,7 @@ impl Model for Revision {
     ghost view = { λ r. r.policy };
 
     ghost invariant = { λ r. IsPolicyKept r.policy (string_bytes r.text) (arc_value r.table)
-        (arc_value r.classes) r.definitions.items };
+        (arc_value r.classes) r.definitions.items (contains_text r.named) };
 }
 
 impl Revision {
@@ -70,13 +77,22 @@ impl Revision {
         let text = policy.print(alloc)?;
         let table = RuleTable::build(alloc, &policy)?;
         let classes = AddressClasses::of_rules(alloc, policy.rules())?;
+        let named = named_by(alloc, policy.rules())?;
         Ok(Revision {
             policy,
             text,
             table: Arc::new(alloc, table)?,
             classes: Arc::new(alloc, classes)?,
             definitions,
+            named,
         })
+    }
+
+    /// Whether a rule names the subscriber `name`.
+    pub(crate) fn names(&self, name: &str) -> bool
+        ensures { result ≡ is_told_apart name.now self.now.rules }
+    {
+        self.named.contains(name)
     }
 
     /// Whether the policy is that of `other`. Their printed texts are compared.
@@ -126,4 +142,37 @@ fn definitions_of(alloc: Global, aggregates: &[AggregateDef]) -> Result<Vec<Defi
         definitions.push(Definition::of(alloc, definition)?)?;
     }
     Ok(definitions)
+}
+
+/// The subscribers that `rules` name, in memory from `alloc`.
+///
+/// # Errors
+/// Want of memory.
+fn named_by(alloc: Global, rules: &[Rule]) -> Result<BTreeSet<String>, AllocError>
+    ensures { IfOk result
+        (λ named. (name : List ℕ) → contains_text named name ≡ is_told_apart name rules.now) }
+{
+    let mut named = BTreeSet::new(alloc);
+    'rules: for rule in rules {
+        put_named(alloc, rule, &mut named)?;
+    }
+    Ok(named)
+}
+
+/// Adds to `named` the subscriber that `rule` names, if it names one, in memory from `alloc`.
+///
+/// # Errors
+/// Want of memory.
+fn put_named(alloc: Global, rule: &Rule, named: &mut BTreeSet<String>) -> Result<(), AllocError>
+    ensures { OnOk result ((name : List ℕ)
+        → contains_text named.new name ≡ (contains_text named.old name || is_who name rule.now.who)) }
+{
+    match &rule.who {
+        Some(name) => {
+            let key = String::from_str(alloc, name.as_str())?;
+            named.insert(key)?;
+            Ok(())
+        }
+        None => Ok(()),
+    }
 }

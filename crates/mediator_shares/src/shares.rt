@@ -1,27 +1,32 @@
 //! What each subscription is given of one message, what counts in its aggregates, and what the audit notes of it.
 ghost use Rattle.std.specs.Prelude.{◌≡◌, ◌++◌, ◌∷◌, ◌≤◌, ◌<◌, ◌+◌, ◌^◌, ℕ, List, [], Some, None, length, map, IfOk, OnOk};
-ghost use Rattle.std.specs.List.{flat_map, enumerate_from};
+ghost use Rattle.std.specs.List.{flat_map, enumerate_from, AllByRecursion};
 ghost use Rattle.ipfix_template.specs.DataRecord.{DataRecord};
 ghost use Rattle.ipfix_records.specs.Runs.{run_records, records_of_runs};
 ghost use Rattle.flow_aggregate.specs.Counts.{Count as OneCount, count_of};
 ghost use Rattle.mediator_history.specs.Auditing.{removed_of, told_of};
-ghost use Rattle.mediator_shares.specs.InForce.{count_by, timing_by, as_list};
+ghost use Rattle.mediator_shares.specs.Adding.{HasAdded, progress_of, audience_of};
+ghost use Rattle.mediator_shares.specs.Alike.{AreLed};
+ghost use Rattle.mediator_shares.specs.InForce.{InForce as WhatIsInForce, count_by, timing_by, as_list};
 ghost use Rattle.mediator_shares.specs.Judges.{JudgeFor, JudgesAny};
+ghost use Rattle.mediator_tables.specs.declared.served.Served.{Served as ServedOf};
 ghost use Rattle.mediator_tables.specs.SubscriptionTable.{shown};
 ghost use Rattle.mediator_tables.specs.Adding.{tallied};
 ghost use Rattle.mediator_shares.specs.Sharing.{blank, counts_by, kept_back_by, shares_of, tallies_of, notes_of, note_of, noted_of_each};
-ghost use Rattle.mediator_shares.specs.Noting.{kept_notes, and_more};
+ghost use Rattle.disclosure_audit.specs.Noting.{kept_notes, and_more};
+ghost use Rattle.disclosure_audit.specs.declared.entry.What.TheVariants.{Withheld};
 
+use crate::alike::groups_of;
 use crate::in_force::InForce;
 use crate::judges::Judges;
-use crate::notes::Notes;
-use disclosure_audit::{Note, Reason, RemovedFields, What};
+use disclosure_audit::{Note, Notes, Reason, RemovedFields, What};
 use flow_aggregate::{Count, Timing};
 use flow_anonymize::Disclosure;
 use ipfix_records::{Records, Run};
 use ipfix_template::RecordView;
 use mediator_tables::{Served, Share, Tally};
 use std::alloc::{AllocError, Global};
+use std::mem;
 
 /// What one message gives to the subscriptions that are served, and what it leaves for the audit.
 #[derive(Drop)]
@@ -38,7 +43,7 @@ impl Shares {
     /// Judges `records`, which are those of one message of the Observation Domain `domain`, at most 2^32, for each of
     /// the subscriptions `served`, by what `in_force` says. At most `most` notes are kept. What is disclosed of the
     /// records is in memory from `alloc`. The policy and the time of `in_force` stay; what is worked out serves later
-    /// messages.
+    /// messages. For subscriptions that no rule tells apart each record is judged once.
     ///
     /// # Errors
     /// Want of memory.
@@ -61,12 +66,29 @@ impl Shares {
         // The policy and the clock stay.
         ensures unchanged { in_force.new ≡ in_force.old }
     {
-        let mut judges = in_force.judges(alloc, domain, records.runs(), served)?;
+        let groups = groups_of(alloc, in_force, served)?;
+        let (leaders, places) = (groups.leaders.as_slice(), groups.places.as_slice());
+        let runs = records.runs();
+        let mut judges = in_force.judges(alloc, domain, runs, leaders)?;
         let mut sums = Sums::of_none(alloc, served, most)?;
-        sums.add_runs(alloc, in_force, &mut judges, domain, records.runs(), served)?;
-        let shares = judges.take_shares(alloc)?;
+        sums.add_runs(
+            alloc,
+            in_force,
+            &mut judges,
+            domain,
+            runs,
+            leaders,
+            places,
+            served,
+        )?;
+        let given = judges.take_shares(alloc)?;
         in_force.keep(judges);
-        let Sums { tallies, notes } = sums;
+        let shares = spread(alloc, &given, places, served)?;
+        let Sums {
+            tallies,
+            notes,
+            decided: _,
+        } = sums;
         Ok(Shares {
             shares,
             tallies,
@@ -80,6 +102,8 @@ impl Shares {
 pub(crate) struct Sums {
     tallies: Vec<Tally>,
     notes: Notes,
+    /// What was decided of a record for each leader. The list is kept from one record to the next.
+    decided: Vec<Disclosure<()>>,
 }
 
 impl Sums {
@@ -102,12 +126,14 @@ impl Sums {
         Ok(Sums {
             tallies,
             notes: Notes::new(alloc, most),
+            decided: Vec::new(alloc),
         })
     }
 
-    /// Judges the records of `runs`, one run after another, for each of the subscriptions `served`: `judges` say what
-    /// is disclosed of a record of the Observation Domain `domain`, and are given what passes; `in_force` says where it
-    /// counts. What is worked out is in memory from `alloc`.
+    /// Judges the records of `runs`, one run after another, for the subscriptions `leaders`: `judges` say what is
+    /// disclosed of a record of the Observation Domain `domain`, and are given what passes; `in_force` says where it
+    /// counts. What counts and what is noted is added for each of `served`, whose leaders stand at `places`. What is
+    /// worked out is in memory from `alloc`.
     ///
     /// # Errors
     /// Want of memory.
@@ -118,32 +144,36 @@ impl Sums {
         judges: &mut Judges,
         domain: u32,
         runs: &[Run],
+        leaders: &[Served<'_>],
+        places: &[usize],
         served: &[Served<'_>],
     ) -> Result<(), AllocError>
         requires few { length (records_of_runs runs.now) ≤ 2 ^ 32 }
-        requires judges { JudgesAny judges.old in_force.now domain served.now }
-        requires blank { judges.old.shares ≡ map blank served.now }
+        requires led { AreLed in_force.now.policy.rules leaders.now served.now places.now }
+        requires judges { JudgesAny judges.old in_force.now domain leaders.now }
+        requires blank { judges.old.shares ≡ map blank leaders.now }
         requires blank_tallies { map tallied self.old.tallies.items ≡ map blank served.now }
         // All is that of the records of the runs.
         ensures shares { OnOk result (judges.new.shares
-            ≡ shares_of domain in_force.now (records_of_runs runs.now) served.now) }
+            ≡ shares_of domain in_force.now (records_of_runs runs.now) leaders.now) }
         ensures tallies { OnOk result (map tallied self.new.tallies.items
             ≡ tallies_of domain in_force.now (records_of_runs runs.now) served.now) }
         ensures notes { OnOk result (self.new.notes ≡ and_more self.old.notes
             (notes_of domain in_force.now (records_of_runs runs.now) served.now)) }
         // The judges are fit for what comes next.
-        ensures judges { OnOk result (JudgesAny judges.new in_force.now domain served.now) }
+        ensures judges { OnOk result (JudgesAny judges.new in_force.now domain leaders.now) }
     {
         let mut before = 0;
         'runs: for run in runs {
-            self.add_run(alloc, in_force, judges, domain, before, run, served)?;
+            self.add_run(
+                alloc, in_force, judges, domain, before, run, leaders, places, served,
+            )?;
             before += run.len();
         }
         Ok(())
     }
 
-    /// Judges the records of `run`, before which the message has `before` records, for each of the subscriptions
-    /// `served`, as [`add_runs`](Sums::add_runs) does.
+    /// Judges the records of `run`, before which the message has `before` records, as [`add_runs`](Sums::add_runs) does.
     ///
     /// # Errors
     /// Want of memory.
@@ -155,17 +185,20 @@ impl Sums {
         domain: u32,
         before: usize,
         run: &Run,
+        leaders: &[Served<'_>],
+        places: &[usize],
         served: &[Served<'_>],
     ) -> Result<(), AllocError>
         requires few { before + length run.now.texts ≤ 2 ^ 32 }
-        requires judges { JudgesAny judges.old in_force.now domain served.now }
-        requires each { length judges.old.shares ≡ length served.now }
+        requires led { AreLed in_force.now.policy.rules leaders.now served.now places.now }
+        requires judges { JudgesAny judges.old in_force.now domain leaders.now }
+        requires each { length judges.old.shares ≡ length leaders.now }
         requires each_tally { length self.old.tallies.items ≡ length served.now }
         // The records of the run stand behind those that were done.
         ensures shares { (done : List DataRecord)
-            → judges.old.shares ≡ shares_of domain in_force.now done served.now
+            → judges.old.shares ≡ shares_of domain in_force.now done leaders.now
             → OnOk result (judges.new.shares
-            ≡ shares_of domain in_force.now (done ++ run_records run.now) served.now) }
+            ≡ shares_of domain in_force.now (done ++ run_records run.now) leaders.now) }
         ensures tallies { (done : List DataRecord)
             → map tallied self.old.tallies.items ≡ tallies_of domain in_force.now done served.now
             → OnOk result (map tallied self.new.tallies.items
@@ -174,8 +207,8 @@ impl Sums {
             ≡ and_more self.old.notes (flat_map (noted_of_each domain in_force.now served.now)
             (enumerate_from before (run_records run.now)))) }
         // The judges are fit for what comes next, with a place for each subscription.
-        ensures judges { OnOk result (JudgesAny judges.new in_force.now domain served.now) }
-        ensures stay { OnOk result (length judges.new.shares ≡ length served.now) }
+        ensures judges { OnOk result (JudgesAny judges.new in_force.now domain leaders.now) }
+        ensures stay { OnOk result (length judges.new.shares ≡ length leaders.now) }
         ensures stay_tallies { OnOk result (length self.new.tallies.items ≡ length served.now) }
     {
         judges.begin(alloc, run.shared_template())?;
@@ -183,13 +216,23 @@ impl Sums {
         'records: for place in 0..run.len() {
             let flow_record = run.view(place);
             let index = (before + place) as u32;
-            self.add_record(alloc, in_force, judges, domain, index, &flow_record, served)?;
+            self.add_record(
+                alloc,
+                in_force,
+                judges,
+                domain,
+                index,
+                &flow_record,
+                leaders,
+                places,
+                served,
+            )?;
         }
         Ok(())
     }
 
     /// Judges the record `flow_record`, which stands at `index` in its message, counted from 0, for each of the
-    /// subscriptions `served`, as [`add_runs`](Sums::add_runs) does.
+    /// subscriptions `leaders`, and adds what is decided for each of `served`, as [`add_runs`](Sums::add_runs) does.
     ///
     /// # Errors
     /// Want of memory.
@@ -201,35 +244,32 @@ impl Sums {
         domain: u32,
         index: u32,
         flow_record: &RecordView<'_>,
+        leaders: &[Served<'_>],
+        places: &[usize],
         served: &[Served<'_>],
     ) -> Result<(), AllocError>
+        requires led { AreLed in_force.now.policy.rules leaders.now served.now places.now }
         requires judges { JudgeFor judges.old in_force.now domain
-            (Some flow_record.now.template) served.now }
-        requires each { length judges.old.shares ≡ length served.now }
+            (Some flow_record.now.template) leaders.now }
+        requires each { length judges.old.shares ≡ length leaders.now }
         requires each_tally { length self.old.tallies.items ≡ length served.now }
-        // The record stands behind those that were done.
-        ensures shares { (done : List DataRecord)
-            → judges.old.shares ≡ shares_of domain in_force.now done served.now
-            → OnOk result (judges.new.shares
-            ≡ shares_of domain in_force.now (done ++ flow_record.now ∷ []) served.now) }
-        ensures tallies { (done : List DataRecord)
-            → map tallied self.old.tallies.items ≡ tallies_of domain in_force.now done served.now
-            → OnOk result (map tallied self.new.tallies.items
-            ≡ tallies_of domain in_force.now (done ++ flow_record.now ∷ []) served.now) }
-        // The judges are fit for what comes next, with a place for each subscription.
-        ensures judges { OnOk result (JudgeFor judges.new in_force.now domain
-            (Some flow_record.now.template) served.now) }
-        ensures stay { OnOk result (length judges.new.shares ≡ length served.now) }
-        ensures stay_tallies { OnOk result (length self.new.tallies.items ≡ length served.now) }
-        // Its notes stand behind those before.
-        ensures notes { OnOk result (self.new.notes ≡ and_more self.old.notes
-            (noted_of_each domain in_force.now served.now (index, flow_record.now))) }
+        ensures { OnOk result (HasAdded
+            (progress_of judges.old self.old.tallies.items self.old.notes)
+            (progress_of judges.new self.new.tallies.items self.new.notes)
+            index flow_record.now (audience_of domain in_force.now leaders.now served.now)) }
     {
         let classes = judges.classes_of(flow_record);
-        'served: for (place, who) in served.iter().enumerate() {
+        let mut decided = mem::replace(&mut self.decided, Vec::new(alloc));
+        decided.clear();
+        'leaders: for place in 0..leaders.len() {
             let found = judges.disclose(alloc, place, classes, flow_record)?;
+            decided.push(found)?;
+        }
+        'served: for (place, who) in served.iter().enumerate() {
+            let found = &decided[places[place]];
             self.add(alloc, place, index, who.sub, in_force, flow_record, found)?;
         }
+        self.decided = decided;
         Ok(())
     }
 
@@ -247,7 +287,7 @@ impl Sums {
         sub: u64,
         in_force: &InForce,
         flow_record: &RecordView<'_>,
-        found: Disclosure<()>,
+        found: &Disclosure<()>,
     ) -> Result<(), AllocError>
         requires within { place < length self.old.tallies.items }
         ensures tallies { (before after : List (ℕ × List OneCount)) (s : ℕ × List OneCount)
@@ -255,28 +295,26 @@ impl Sums {
             → OnOk result (map tallied self.new.tallies.items ≡ before ++ (
               s.0,
               s.1 ++ map count_of (counts_by in_force.now.policy.aggregates
-                  in_force.now.clock flow_record.now found),
+                  in_force.now.clock flow_record.now found.now),
             ) ∷ after) }
         ensures stay { OnOk result (length self.new.tallies.items ≡ length self.old.tallies.items) }
         ensures notes { OnOk result (self.new.notes
             ≡ and_more self.old.notes (map (note_of index sub)
             (kept_back_by in_force.now.policy.aggregates in_force.now.clock
-            flow_record.now found))) }
+            flow_record.now found.now))) }
     {
         match found {
             Disclosure::Passed { kept: _, removed } => self.note_removed(index, sub, removed),
             Disclosure::Aggregated { rule, definition } => {
                 let flow_record = flow_record.to_record()?;
-                let what = told(rule, in_force.timing(definition, &flow_record));
+                let what = told(*rule, in_force.timing(*definition, &flow_record));
                 self.note(index, sub, what)?;
-                match in_force.count(alloc, definition, &flow_record)? {
+                match in_force.count(alloc, *definition, &flow_record)? {
                     Some(count) => self.tally(place, count),
                     None => Ok(()),
                 }
             }
-            Disclosure::Withheld { rule, reason } => {
-                self.note(index, sub, What::Withheld { rule, reason })
-            }
+            Disclosure::Withheld { rule, reason } => self.note_withheld(index, sub, *rule, *reason),
         }
     }
 
@@ -306,16 +344,42 @@ impl Sums {
         &mut self,
         index: u32,
         sub: u64,
-        removed: RemovedFields,
+        removed: &RemovedFields,
     ) -> Result<(), AllocError>
         ensures notes { OnOk result (self.new.notes
-            ≡ and_more self.old.notes (map (note_of index sub) (removed_of removed))) }
+            ≡ and_more self.old.notes (map (note_of index sub) (removed_of removed.now))) }
         ensures tallies { self.new.tallies ≡ self.old.tallies }
     {
         if removed.is_empty() {
             return Ok(());
         }
-        self.note(index, sub, What::Removed { fields: removed })
+        if !self.notes.keeps_next() {
+            return self.notes.count_one();
+        }
+        let fields = removed.clone()?;
+        self.note(index, sub, What::Removed { fields })
+    }
+
+    /// Notes that the record at `index` is withheld from the subscription with the number `sub`, by the rule with the
+    /// number `rule`.
+    ///
+    /// # Errors
+    /// Want of memory.
+    fn note_withheld(
+        &mut self,
+        index: u32,
+        sub: u64,
+        rule: u32,
+        reason: Reason,
+    ) -> Result<(), AllocError>
+        ensures notes { OnOk result (self.new.notes
+            ≡ and_more self.old.notes (note_of index sub (Withheld rule reason) ∷ [])) }
+        ensures tallies { self.new.tallies ≡ self.old.tallies }
+    {
+        if !self.notes.keeps_next() {
+            return self.notes.count_one();
+        }
+        self.note(index, sub, What::Withheld { rule, reason })
     }
 
     /// Notes that `what` became of the record at `index` for the subscription with the number `sub`.
@@ -329,6 +393,45 @@ impl Sums {
     {
         self.notes.push(Note { index, sub, what })
     }
+}
+
+/// What each of the subscriptions `served` is given, where `given` is what each leader is, and their leaders stand at
+/// `places`. The list is in memory from `alloc`.
+///
+/// # Errors
+/// Want of memory.
+fn spread(
+    alloc: Global,
+    given: &[Share],
+    places: &[usize],
+    served: &[Served<'_>],
+) -> Result<Vec<Share>, AllocError>
+    requires each { length places.now ≡ length served.now }
+    requires within { AllByRecursion (λ place. place < length given.now) places.now }
+    ensures { (domain : ℕ) (f : WhatIsInForce) (records : List DataRecord) (leaders : List ServedOf)
+        → map shown given.now ≡ shares_of domain f records leaders
+        → AreLed f.policy.rules leaders served.now places.now
+        → IfOk result (λ s. map shown s.items ≡ shares_of domain f records served.now) }
+{
+    let mut shares = Vec::with_capacity(alloc, served.len())?;
+    'served: for (place, who) in served.iter().enumerate() {
+        let leader = places[place];
+        shares.push(shared_with(who.sub, &given[leader])?)?;
+    }
+    Ok(shares)
+}
+
+/// The records of `share`, for the subscription with the number `sub`.
+///
+/// # Errors
+/// Want of memory.
+fn shared_with(sub: u64, share: &Share) -> Result<Share, AllocError>
+    ensures { IfOk result (λ s. shown s ≡ (sub, share.now.given)) }
+{
+    Ok(Share {
+        sub,
+        given: share.given.clone()?,
+    })
 }
 
 /// What the audit says of a record that the aggregate rule with the number `rule` names, where `timing` is what became

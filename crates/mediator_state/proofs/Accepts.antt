@@ -1,5 +1,5 @@
 -- A plan that is carried out: the cuts, and then the message.
-use Rattle.std.proofs.Common.{length-take, take_all, ◌≡◌, ◌≢◌, ℕ, ◌+◌, ◌*◌, ◌≤◌, ◌<◌, ◌^◌, Bool, true, false, cond, List, [], ◌∷◌, length, map, take, drop, slice_get, Option, Some, None, refl, sym, ap, ◌∙◌, subst, arith, length-append}
+use Rattle.std.proofs.Common.{◌≡◌, ◌≢◌, ℕ, ◌+◌, ◌*◌, ◌≤◌, ◌<◌, ◌^◌, Bool, true, false, cond, List, [], ◌∷◌, length, map, take, drop, slice_get, Option, Some, None, refl, sym, ap, ◌∙◌, subst, arith, length-append}
 use Rattle.std.specs.Prelude.{IsSomeAnd, IfSome, not, ◌&&◌}
 use Rattle.std.specs.Option.{option_map}
 use Rattle.std.specs.List.{flat_map, AllByRecursion}
@@ -12,8 +12,8 @@ use Rattle.subscriber_stream.specs.Parts.{parts, records_of_parts}
 use Rattle.subscriber_stream.specs.Standing.{StreamStanding, StandsAt, HasStreamRoom, queue_size}
 use Rattle.subscriber_stream.proofs.CallLaws.{parts_bring}
 use Rattle.subscriber_stream.proofs.Standings.{records_in-append}
-use Rattle.disclosure_audit.specs.declared.entry.AuditEntry.{AuditEntry}
-use Rattle.disclosure_audit.specs.Queue.{stamp}
+use Rattle.disclosure_audit.specs.Noting.{KeptNotes, kept_notes}
+use Rattle.disclosure_audit.specs.Queue.{stamp, most_notes}
 use Rattle.event_journal.specs.declared.entry.Entry.{Entry}
 use Rattle.event_journal.specs.declared.entry.Entry.TheVariants.{Message, Advance}
 use Rattle.mediator_history.specs.Numbers.{AreDistinct, is_in}
@@ -43,7 +43,6 @@ use Rattle.mediator_tables.specs.Sessions.{IsSession}
 use Rattle.mediator_state.specs.Standing.{Stands, place, IsLiveAs, AreEngineLimits}
 use Rattle.mediator_state.specs.Steps.{CutsInARow, HasAuditRoom}
 use Rattle.mediator_tables.specs.Adding.{AllReady, NoneTwice}
-use Rattle.mediator_shares.specs.Noting.{KeptNotes}
 use Rattle.mediator_state.specs.Planning.{share_at, AreTallied, HasRoomIn, IsJudged, IsPlan}
 use Rattle.mediator_state.specs.Accepting.{HasRoomForPlan, IsPlannedFor, IsReadyToTake, IsBroughtBy}
 use Rattle.mediator_state.specs.Advancing.{HasRoomToClose, IsClosingFor, IsReadyToClose, AreClosings}
@@ -65,8 +64,8 @@ whole s records so =
         ∙ ap (λ (rs : List DataRecord). length rs) (sym (records_in-append (take p (parts records)) (drop p (parts records))) ∙ ap records_of_parts (take-append-drop p (parts records)) ∙ parts_bring records)
 
 -- the audit counts no more than the history allows
-pub audit_count : (e : Engine) (h : List Entry) → Stands e h → e.audit.standing.drained + length e.audit.standing.entries ≤ MOST_AUDITED * length h
-audit_count e h so = omega (arith, so.audit.within, ap (λ (l : List AuditEntry). length l) so.audit.waiting, length-drop e.audit.standing.drained (audit_list h), so.small.audited)
+pub audit_count : {Q : Type 0} (e : Engine Q) (h : List Entry) → Stands e h → e.audit.standing.drained + e.audit.standing.waiting ≤ MOST_AUDITED * length h
+audit_count e h so = omega (arith, so.audit.within, so.audit.waiting, length-drop e.audit.standing.drained (audit_list h), so.small.audited)
 
 -- ---- the session
 
@@ -88,11 +87,11 @@ same_room more true None room = room
 same_room more true (Some s) room = room
 same_room more false s room = room
 
-kept_room : (d e : Engine) (cuts : List ℕ) → CutsInARow cuts d e → (share : ℕ × List DataRecord) → HasRoomIn d.subscriptions share → HasRoomIn e.subscriptions share
+kept_room : {Q : Type 0} (d e : Engine Q) (cuts : List ℕ) → CutsInARow cuts d e → (share : ℕ × List DataRecord) → HasRoomIn d.subscriptions share → HasRoomIn e.subscriptions share
 kept_room d e cuts row share room some =
     subst (λ (s : Option Subscription). IsSomeAnd s (λ x. HasStreamRoom x.stream share.1)) (sym (row.table share.0)) (same_room share.1 (is_in share.0 cuts) (at d.subscriptions share.0) (room some))
 
-pub rooms_kept : (d e : Engine) (cuts : List ℕ) → CutsInARow cuts d e → (shares : List (ℕ × List DataRecord)) → AllByRecursion (HasRoomIn d.subscriptions) shares → AllByRecursion (HasRoomIn e.subscriptions) shares
+pub rooms_kept : {Q : Type 0} (d e : Engine Q) (cuts : List ℕ) → CutsInARow cuts d e → (shares : List (ℕ × List DataRecord)) → AllByRecursion (HasRoomIn d.subscriptions) shares → AllByRecursion (HasRoomIn e.subscriptions) shares
 rooms_kept d e cuts row [] rooms = tt
 rooms_kept d e cuts row (share ∷ shares) rooms = (kept_room d e cuts row share rooms.0, rooms_kept d e cuts row shares rooms.1)
 
@@ -115,12 +114,12 @@ others_apart : (f : ℕ → List DataRecord) (n : ℕ) (ns : List ℕ) → AllBy
 others_apart f n [] apart = tt
 others_apart f n (m ∷ ns) apart = (apart.0, others_apart f n ns apart.1)
 
-ready_all : (e : Engine) (f : ℕ → List DataRecord) (ns : List ℕ) → ((n : ℕ) → HasRoomIn e.subscriptions (n, f n) → HasSpare e.subscriptions.live (n, f n) → IfSome (at e.subscriptions n) (λ x. IsReady x.stream (f n))) → AreDistinct ns
+ready_all : {Q : Type 0} (e : Engine Q) (f : ℕ → List DataRecord) (ns : List ℕ) → ((n : ℕ) → HasRoomIn e.subscriptions (n, f n) → HasSpare e.subscriptions.live (n, f n) → IfSome (at e.subscriptions n) (λ x. IsReady x.stream (f n))) → AreDistinct ns
     → AllByRecursion (HasRoomIn e.subscriptions) (map (λ n. (n, f n)) ns) → AllByRecursion (HasSpare e.subscriptions.live) (map (λ n. (n, f n)) ns) → AreReadyAmong e.subscriptions.live (map (λ n. (n, f n)) ns)
 ready_all e f [] one distinct rooms spares = tt
 ready_all e f (n ∷ ns) one distinct rooms spares = (one n rooms.0 spares.0, others_apart f n ns distinct.0, ready_all e f ns one distinct.1 rooms.1 spares.1)
 
-spares_kept : (d e : Engine) (cuts : List ℕ) → CutsInARow cuts d e → (shares : List (ℕ × List DataRecord)) → AllByRecursion (HasSpare d.subscriptions.live) shares → AllByRecursion (HasSpare e.subscriptions.live) shares
+spares_kept : {Q : Type 0} (d e : Engine Q) (cuts : List ℕ) → CutsInARow cuts d e → (shares : List (ℕ × List DataRecord)) → AllByRecursion (HasSpare d.subscriptions.live) shares → AllByRecursion (HasSpare e.subscriptions.live) shares
 spares_kept d e cuts row [] spares = tt
 spares_kept d e cuts row (share ∷ shares) spares = (
   subst (λ (s : Option Subscription). IfSome s (λ x. length share.1 ≤ x.stream.spare)) (sym (row.table share.0)) (same_spare (length share.1) (is_in share.0 cuts) (at d.subscriptions share.0) spares.0),
@@ -128,7 +127,7 @@ spares_kept d e cuts row (share ∷ shares) spares = (
 )
 
 -- the streams of those that are left are ready for what an entry gives them
-pub streams_ready : (d e : Engine) (h : List Entry) (x : Entry) (cuts : List ℕ) (shares : List (ℕ × List DataRecord))
+pub streams_ready : {Q : Type 0} (d e : Engine Q) (h : List Entry) (x : Entry) (cuts : List ℕ) (shares : List (ℕ × List DataRecord))
     → Stands e (after_cuts h cuts) → length (after_cuts h cuts) ≤ 2 * MOST_ENTRIES → CutsInARow cuts d e → shares ≡ map (share_at (after_cuts h cuts) x) (served (after_cuts h cuts))
     → AllByRecursion (HasRoomIn d.subscriptions) shares → AllByRecursion (HasSpare d.subscriptions.live) shares → AreReadyAmong e.subscriptions.live shares
 streams_ready d e h x cuts shares so long row are rooms spares =
@@ -158,7 +157,7 @@ all_apart g [] distinct = tt
 all_apart g (n ∷ ns) distinct = (tallies_apart g n ns distinct.0, all_apart g ns distinct.1)
 
 -- what is ready for those that are left stays so
-left_ready : (d e : Engine) (cuts : List ℕ) (g : ℕ → List Count) (reserved : List (ℕ × List Addition)) (ns : List ℕ) → CutsInARow cuts d e → AllByRecursion (λ n. is_in n cuts ≡ false) ns
+left_ready : {Q : Type 0} (d e : Engine Q) (cuts : List ℕ) (g : ℕ → List Count) (reserved : List (ℕ × List Addition)) (ns : List ℕ) → CutsInARow cuts d e → AllByRecursion (λ n. is_in n cuts ≡ false) ns
     → AllReady d.groups reserved (map (λ n. (n, g n)) ns) → AllReady e.groups reserved (map (λ n. (n, g n)) ns)
 left_ready d e cuts g [] [] row uncut made = tt
 left_ready d e cuts g [] (n ∷ ns) row uncut made = absurd made
@@ -168,7 +167,7 @@ left_ready d e cuts g (r ∷ rs) (n ∷ ns) row uncut made = (
   left_ready d e cuts g rs ns row uncut.1 made.1,
 )
 
-pub groups_ready : (d e : Engine) (h : List Entry) (x : Entry) (cuts : List ℕ) (reserved : List (ℕ × List Addition)) (tallies : List (ℕ × List Count))
+pub groups_ready : {Q : Type 0} (d e : Engine Q) (h : List Entry) (x : Entry) (cuts : List ℕ) (reserved : List (ℕ × List Addition)) (tallies : List (ℕ × List Count))
     → Stands e (after_cuts h cuts) → CutsInARow cuts d e → AreTallied (after_cuts h cuts) x tallies → (NoneTwice tallies → AllReady d.groups reserved tallies)
     → AllReady e.groups reserved tallies × NoneTwice tallies
 groups_ready d e h x cuts reserved tallies so row are made =
@@ -183,35 +182,22 @@ groups_ready d e h x cuts reserved tallies so row are made =
 
 -- ---- a plan
 
--- no more notes are kept than there are
-few_kept : (e : Engine) (h : List Entry) (number : ℕ) (octets : List ℕ) (p : MessagePlan) → IsPlan e h number octets p → length p.notes.notes ≤ p.notes.count
-few_kept e h number octets p plan =
-    omega (arith, ap (λ (k : KeptNotes). length k.notes) plan.kept, ap (λ (k : KeptNotes). k.count) plan.kept, length-take e.audit.limit plan.named)
-
--- all are kept that the audit may hold
-all_kept : (e : Engine) (h : List Entry) (number : ℕ) (octets : List ℕ) (p : MessagePlan) (plan : IsPlan e h number octets p) → p.notes.count ≤ e.audit.limit → p.notes.notes ≡ plan.named
-all_kept e h number octets p plan few =
-    ap (λ (k : KeptNotes). k.notes) plan.kept ∙ take_all e.audit.limit plan.named (omega (arith, few, ap (λ (k : KeptNotes). k.count) plan.kept))
-
 -- behind the cuts the message is what the plan says
-pub is_message : (d e : Engine) (h : List Entry) (number : ℕ) (octets : List ℕ) (p : MessagePlan) (reserved : List (ℕ × List Addition)) → IsPlan d h number octets p → HasRoomForPlan d p reserved → CutsInARow p.cuts.items d e
-    → IsBroughtBy e (after_cuts h p.cuts.items) p.session.0 number octets (record { reading = p.reading; shares = map shown p.shares.items; tallies = map tallied p.tallies.items; entries = map (stamp p.position) p.notes.notes })
+pub is_message : {Q : Type 0} (d e : Engine Q) (h : List Entry) (number : ℕ) (octets : List ℕ) (p : MessagePlan) (reserved : List (ℕ × List Addition)) (plan : IsPlan d h number octets p) → HasRoomForPlan d p reserved → CutsInARow p.cuts.items d e
+    → IsBroughtBy e (after_cuts h p.cuts.items) p.session.0 number octets (record { reading = p.reading; shares = map shown p.shares.items; tallies = map tallied p.tallies.items; entries = map (stamp p.position) plan.named })
 is_message d e h number octets p reserved plan room row = record {
   opened = is_open-cuts p.session.0 h p.cuts.items ∙ plan.opened;
   read = subst (λ ms. IsReadingOf ms octets p.reading) (sym (messages-cuts p.session.0 h p.cuts.items)) plan.read;
   shares_are = plan.judged.shares_are;
   tallies_are = plan.tallied_are;
-  entries_are = ap (map (stamp p.position)) (all_kept d h number octets p plan whole) ∙ plan.judged.entries_are;
+  entries_are = plan.judged.entries_are;
   room = rooms_kept d e p.cuts.items row (map shown p.shares.items) plan.judged.room;
   streamable = plan.judged.streamable;
-  few = omega (arith, room.audit, room.limit, length-map p.notes.notes (stamp p.position), few_kept d h number octets p plan);
+  few = omega (arith, room.audit, room.limit, length-map plan.named (stamp p.position), ap (λ (k : KeptNotes). k.count) plan.kept);
 }
-  where
-    whole : p.notes.count ≤ d.audit.limit
-    whole = omega (arith, room.audit)
 
 -- there is room for the cuts
-pub cuts_room : (d : Engine) (position : ℕ) (p : MessagePlan) (reserved : List (ℕ × List Addition)) → IsPlannedFor d position p → HasRoomForPlan d p reserved → HasAuditRoom d.audit (length p.cuts.items)
+pub cuts_room : {Q : Type 0} (d : Engine Q) (position : ℕ) (p : MessagePlan) (reserved : List (ℕ × List Addition)) → IsPlannedFor d position p → HasRoomForPlan d p reserved → HasAuditRoom d.audit (length p.cuts.items)
 cuts_room d position p reserved planned room = record {
   room = omega (arith, room.audit);
   reserved = omega (arith, room.reserved);
@@ -219,15 +205,14 @@ cuts_room d position p reserved planned room = record {
 }
 
 -- and behind them for the message
-pub ready : (d e : Engine) (position : ℕ) (p : MessagePlan) (reserved : List (ℕ × List Addition)) → IsPlannedFor d position p → HasRoomForPlan d p reserved → CutsInARow p.cuts.items d e
-    → ((h : List Entry) → Stands d h → length h ≡ position → Stands e (after_cuts h p.cuts.items)) → IsReadyToTake e p.session.0 p.reading (map shown p.shares.items) reserved (length p.notes.notes)
-ready d e position p reserved planned room row stands =
+pub ready : {Q : Type 0} (d e : Engine Q) (position : ℕ) (p : MessagePlan) (reserved : List (ℕ × List Addition)) → IsPlannedFor d position p → HasRoomForPlan d p reserved → CutsInARow p.cuts.items d e → most_notes e.audit ≡ most_notes d.audit
+    → ((h : List Entry) → Stands d h → length h ≡ position → Stands e (after_cuts h p.cuts.items)) → IsReadyToTake e p.session.0 p.reading (map shown p.shares.items) reserved p.notes
+ready d e position p reserved planned room row noting stands =
     let h = planned.history in
     let cuts = p.cuts.items in
     let so : Stands e (after_cuts h cuts) = stands h planned.stands planned.counted in
     let long : length (after_cuts h cuts) ≤ 2 * MOST_ENTRIES = omega (arith, length-cuts h cuts, planned.counted, planned.short, room.audit, room.limit) in
     let E : Entry = Message p.session.0 planned.number planned.octets in
-    let few = few_kept d h planned.number planned.octets p planned.plan in
     record {
       history = after_cuts h cuts;
       stands = so;
@@ -235,21 +220,23 @@ ready d e position p reserved planned room row stands =
       session_count = subst (λ ss. IfSome (at_key p.session.0 ss) (λ o. o.accepted + 1 < 2 ^ 64)) (sym row.rest.sessions) (session_count h p.session.0 (at_key p.session.0 d.sessions) (omega (arith, planned.counted, planned.short)) (planned.stands.sessions p.session.0));
       streams = streams_ready d e h E cuts (map shown p.shares.items) so long row planned.plan.judged.shares_are planned.plan.judged.room room.streams;
       groups = let made = groups_ready d e h E cuts reserved (map tallied p.tallies.items) so row planned.plan.tallied_are room.groups in (map tallied p.tallies.items, made.0, made.1);
-      audit = omega (arith, row.entries, row.rest.audit_limit, room.audit, few);
+      named = planned.plan.named;
+      kept = planned.plan.kept ∙ ap (λ (n : ℕ). kept_notes n planned.plan.named) (sym noting);
+      audit = omega (arith, row.entries, row.rest.audit_limit, room.audit);
       reserved = omega (arith, row.spare, room.reserved);
-      count = omega (arith, audit_count e (after_cuts h cuts) so, long, room.audit, room.limit, few);
+      count = omega (arith, audit_count e (after_cuts h cuts) so, long, room.audit, room.limit);
     }
 
 -- ---- an advance of the clock
 
-pub close_cuts_room : (d : Engine) (position t : ℕ) (c : Closing) → IsClosingFor d position t c → HasRoomToClose d c → HasAuditRoom d.audit (length c.cuts.items)
+pub close_cuts_room : {Q : Type 0} (d : Engine Q) (position t : ℕ) (c : Closing) → IsClosingFor d position t c → HasRoomToClose d c → HasAuditRoom d.audit (length c.cuts.items)
 close_cuts_room d position t c planned room = record {
   room = room.audit.room;
   reserved = room.audit.reserved;
   count = omega (arith, audit_count d planned.history planned.stands, planned.counted, planned.short, room.audit.room, room.audit.limit);
 }
 
-pub ready_to_close : (d e : Engine) (position t : ℕ) (c : Closing) → IsClosingFor d position t c → HasRoomToClose d c → CutsInARow c.cuts.items d e
+pub ready_to_close : {Q : Type 0} (d e : Engine Q) (position t : ℕ) (c : Closing) → IsClosingFor d position t c → HasRoomToClose d c → CutsInARow c.cuts.items d e
     → ((h : List Entry) → Stands d h → length h ≡ position → Stands e (after_cuts h c.cuts.items)) → IsReadyToClose e (map shown c.shares.items)
 ready_to_close d e position t c planned room row stands =
     let h = planned.history in
@@ -262,7 +249,7 @@ ready_to_close d e position t c planned room row stands =
       streams = streams_ready d e h (Advance t) cuts (map shown c.shares.items) so long row planned.judged.shares_are planned.judged.room room.streams;
     }
 
-pub are_closings : (d e : Engine) (h : List Entry) (t : ℕ) (c : Closing) → IsJudged d h (Advance t) c.cuts.items (map shown c.shares.items) [] → CutsInARow c.cuts.items d e
+pub are_closings : {Q : Type 0} (d e : Engine Q) (h : List Entry) (t : ℕ) (c : Closing) → IsJudged d h (Advance t) c.cuts.items (map shown c.shares.items) [] → CutsInARow c.cuts.items d e
     → AreClosings e (after_cuts h c.cuts.items) t (map shown c.shares.items)
 are_closings d e h t c judged row = record {
   shares_are = judged.shares_are;

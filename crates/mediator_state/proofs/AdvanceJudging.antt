@@ -57,15 +57,15 @@ part_one t all cuts left x false is so = record {
 }
 
 -- the share of what an advance closes for one of those that are served
-pub record IsShareOf (e : Engine) (t : ℕ) (who : Served) (s : Share) : Type 0 where
+pub record IsShareOf {Q : Type 0} (e : Engine Q) (t : ℕ) (who : Served) (s : Share) : Type 0 where
   pub sub : s.sub ≡ who.sub
   pub closes : (counted : List Sample) → StandsForRecords (groups_at e.groups who.sub) counted → s.given ≡ closed_by t counted
 
 -- those before a place are parted
-abbrev pub IsParting : Engine → ℕ → List Served → List ℕ → List Share → ℕ → Type 0
+abbrev pub IsParting : {Q : Type 0} → Engine Q → ℕ → List Served → List ℕ → List Share → ℕ → Type 0
 IsParting e t all cuts shares place = (h : List Entry) → Stands e h → AreParted e.subscriptions (map (closing_share h t) (map told (take place all))) cuts (map shown shares)
 
-one_more : (e : Engine) (h : List Entry) (t : ℕ) (all : List Served) (place : ℕ) (who other : Served) (s : Share) → Stands e h → place < length all → who ≡ get_or all place other → IsShareOf e t who s
+one_more : {Q : Type 0} (e : Engine Q) (h : List Entry) (t : ℕ) (all : List Served) (place : ℕ) (who other : Served) (s : Share) → Stands e h → place < length all → who ≡ get_or all place other → IsShareOf e t who s
     → map (closing_share h t) (map told (take (place + 1) all)) ≡ map (closing_share h t) (map told (take place all)) ++ shown s ∷ []
 one_more e h t all place who other s so within at is =
     ap (λ l. map (closing_share h t) (map told l)) (take_more all place other within ∙ ap (λ x. take place all ++ x ∷ []) (sym at))
@@ -73,7 +73,7 @@ one_more e h t all place who other s so within at is =
     ∙ map-append (closing_share h t) (map told (take place all)) (told who ∷ [])
     ∙ ap (λ x. map (closing_share h t) (map told (take place all)) ++ x ∷ []) (ap (sharing who.sub) (sym (is.closes (running who.sub h) (so.groups who.sub))) ∙ ap (λ n. sharing n s.given) (sym is.sub))
 
-pub parting_cut : (e : Engine) (t : ℕ) (all : List Served) (cuts more : List ℕ) (shares : List Share) (place : ℕ) (who other : Served) (s : Share)
+pub parting_cut : {Q : Type 0} (e : Engine Q) (t : ℕ) (all : List Served) (cuts more : List ℕ) (shares : List Share) (place : ℕ) (who other : Served) (s : Share)
     → IsParting e t all cuts shares place → place < length all → who ≡ get_or all place other → IsShareOf e t who s → lacks_room_at e.subscriptions (shown s) ≡ true → more ≡ cuts ++ who.sub ∷ []
     → IsParting e t all more shares (place + 1)
 parting_cut e t all cuts more shares place who other s so within at is lacking grown h stands =
@@ -82,7 +82,7 @@ parting_cut e t all cuts more shares place who other s so within at is lacking g
     (subst (AreParted e.subscriptions (map (closing_share h t) (map told (take place all)) ++ shown s ∷ []) (cuts ++ s.sub ∷ [])) (append-nil (map shown shares))
     (part_one e.subscriptions (map (closing_share h t) (map told (take place all))) cuts (map shown shares) (shown s) true lacking (so h stands))))
 
-pub parting_left : (e : Engine) (t : ℕ) (all : List Served) (cuts : List ℕ) (shares more : List Share) (place : ℕ) (who other : Served) (s : Share)
+pub parting_left : {Q : Type 0} (e : Engine Q) (t : ℕ) (all : List Served) (cuts : List ℕ) (shares more : List Share) (place : ℕ) (who other : Served) (s : Share)
     → IsParting e t all cuts shares place → place < length all → who ≡ get_or all place other → IsShareOf e t who s → lacks_room_at e.subscriptions (shown s) ≡ false → more ≡ shares ++ s ∷ []
     → IsParting e t all cuts more (place + 1)
 parting_left e t all cuts shares more place who other s so within at is room grown h stands =
@@ -91,20 +91,20 @@ parting_left e t all cuts shares more place who other s so within at is room gro
     (subst (λ l. AreParted e.subscriptions (map (closing_share h t) (map told (take place all)) ++ shown s ∷ []) l (map shown shares ++ shown s ∷ [])) (append-nil cuts)
     (part_one e.subscriptions (map (closing_share h t) (map told (take place all))) cuts (map shown shares) (shown s) false room (so h stands))))
 
-shares_at : (e : Engine) (h : List Entry) (t : ℕ) (all : List Served) (shares : List (ℕ × List DataRecord)) → Stands e h → map told all ≡ map (told_in e.subscriptions) e.subscriptions.served
+shares_at : {Q : Type 0} (e : Engine Q) (h : List Entry) (t : ℕ) (all : List Served) (shares : List (ℕ × List DataRecord)) → Stands e h → map told all ≡ map (told_in e.subscriptions) e.subscriptions.served
     → shares ≡ map (closing_share h t) (map told all) → shares ≡ map (share_at h (Advance t)) (served h)
 shares_at e h t all shares so tells are =
     are ∙ ap (map (closing_share h t)) (all_told e h all so tells) ∙ map-map (closing_share h t) (known h) (served h)
 
 -- ---- whom it cuts, and who is left
 
-abbrev lacks_at : Engine → List Entry → ℕ → ℕ → Bool
+abbrev lacks_at : {Q : Type 0} → Engine Q → List Entry → ℕ → ℕ → Bool
 lacks_at e h t sub = lacks_room_at e.subscriptions (share_at h (Advance t) sub)
 
-lacks_is : (e : Engine) (h : List Entry) (t : ℕ) → Stands e h → (sub : ℕ) → is_served sub h ≡ true → lacks_at e h t sub ≡ is_cut_by e.limits h (Advance t) (waiting_of e) sub
+lacks_is : {Q : Type 0} (e : Engine Q) (h : List Entry) (t : ℕ) → Stands e h → (sub : ℕ) → is_served sub h ≡ true → lacks_at e h t sub ≡ is_cut_by e.limits h (Advance t) (waiting_of e) sub
 lacks_is e h t so sub on = lacks_over e h so sub on (given_at sub h (Advance t))
 
-cuts_are : (e : Engine) (h : List Entry) (t : ℕ) (shares : List (ℕ × List DataRecord)) → Stands e h → shares ≡ map (share_at h (Advance t)) (served h)
+cuts_are : {Q : Type 0} (e : Engine Q) (h : List Entry) (t : ℕ) (shares : List (ℕ × List DataRecord)) → Stands e h → shares ≡ map (share_at h (Advance t)) (served h)
     → map number_in (filter (lacks_room_at e.subscriptions) shares) ≡ filter (is_cut_by e.limits h (Advance t) (waiting_of e)) (served h)
 cuts_are e h t shares so are =
     ap (λ l. map number_in (filter (lacks_room_at e.subscriptions) l)) are
@@ -117,7 +117,7 @@ cuts_are e h t shares so are =
 left_uncut : (h : List Entry) (cuts : List ℕ) (sub : ℕ) → is_served sub (after_cuts h cuts) ≡ true → is_in sub cuts ≡ false
 left_uncut h cuts sub on = (both_so (is_served sub h) (is_in sub cuts) (sym (is_served-cuts sub h cuts) ∙ on)).1
 
-left_are : (e : Engine) (h : List Entry) (t : ℕ) (shares : List (ℕ × List DataRecord)) (cuts : List ℕ) → Stands e h → shares ≡ map (share_at h (Advance t)) (served h)
+left_are : {Q : Type 0} (e : Engine Q) (h : List Entry) (t : ℕ) (shares : List (ℕ × List DataRecord)) (cuts : List ℕ) → Stands e h → shares ≡ map (share_at h (Advance t)) (served h)
     → cuts ≡ filter (is_cut_by e.limits h (Advance t) (waiting_of e)) (served h)
     → filter (λ s. not (lacks_room_at e.subscriptions s)) shares ≡ map (share_at (after_cuts h cuts) (Advance t)) (served (after_cuts h cuts))
 left_are e h t shares cuts so are cutting =
@@ -131,7 +131,7 @@ left_are e h t shares cuts so are cutting =
     (all_on (λ sub. share_at h (Advance t) sub ≡ share_at (after_cuts h cuts) (Advance t) sub) (after_cuts h cuts)
     (λ sub on. ap (sharing sub) (sym (given_at-cuts sub h cuts (Advance t) (left_uncut h cuts sub on)))))
 
-room_left : (e : Engine) (h : List Entry) (t : ℕ) (cuts : List ℕ) → Stands e h → cuts ≡ filter (is_cut_by e.limits h (Advance t) (waiting_of e)) (served h)
+room_left : {Q : Type 0} (e : Engine Q) (h : List Entry) (t : ℕ) (cuts : List ℕ) → Stands e h → cuts ≡ filter (is_cut_by e.limits h (Advance t) (waiting_of e)) (served h)
     → AllByRecursion (HasRoomIn e.subscriptions) (map (share_at (after_cuts h cuts) (Advance t)) (served (after_cuts h cuts)))
 room_left e h t cuts so are =
     all_mapped (HasRoomIn e.subscriptions) (share_at (after_cuts h cuts) (Advance t)) (served (after_cuts h cuts))
@@ -144,7 +144,7 @@ room_left e h t cuts so are =
 
 -- ---- all of it
 
-pub closing_judged : (e : Engine) (h : List Entry) (t : ℕ) (all : List Served) (cuts : List ℕ) (left : List (ℕ × List DataRecord))
+pub closing_judged : {Q : Type 0} (e : Engine Q) (h : List Entry) (t : ℕ) (all : List Served) (cuts : List ℕ) (left : List (ℕ × List DataRecord))
     → Stands e h → map told all ≡ map (told_in e.subscriptions) e.subscriptions.served → AreParted e.subscriptions (map (closing_share h t) (map told all)) cuts left → AllByRecursion AreStreamed left
     → IsJudged e h (Advance t) cuts left []
 closing_judged e h t all cuts left so tells parted streamable = record {
@@ -164,7 +164,7 @@ closing_judged e h t all cuts left so tells parted streamable = record {
   giving = parted.leaving ∙ left_are e h t (map (closing_share h t) (map told all)) cuts so shared are
 
 -- the same where what is served was lent as a slice
-pub plan_judged : (e : Engine) (t : ℕ) (all lent : List Served) (cuts : List ℕ) (left : List Share) (lent2 : List Share) → map told all ≡ map (told_in e.subscriptions) e.subscriptions.served → lent ≡ all
+pub plan_judged : {Q : Type 0} (e : Engine Q) (t : ℕ) (all lent : List Served) (cuts : List ℕ) (left : List Share) (lent2 : List Share) → map told all ≡ map (told_in e.subscriptions) e.subscriptions.served → lent ≡ all
     → ((h : List Entry) → Stands e h → AreParted e.subscriptions (map (closing_share h t) (map told lent)) cuts (map shown left)) → lent2 ≡ left → AllByRecursion AreStreamed (map shown lent2)
     → (h : List Entry) → Stands e h → IsJudged e h (Advance t) cuts (map shown left) []
 plan_judged e t all lent cuts left lent2 tells same parted same_too streamable h so =

@@ -102,7 +102,7 @@ numbered_advance h t so =
 -- ---- the step
 
 -- the streams take their shares, the groups that are due are closed, and the clock is advanced
-pub record Closes (d e : Engine) (t : ℕ) (shares : List (ℕ × List DataRecord)) : Type 0 where
+pub record Closes {Q : Type 0} (d e : Engine Q) (t : ℕ) (shares : List (ℕ × List DataRecord)) : Type 0 where
   pub in_force : e.in_force ≡ in_force_with d.in_force.policy t
   pub edits : e.edits ≡ d.edits
   pub opened : e.opened ≡ d.opened
@@ -114,7 +114,7 @@ pub record Closes (d e : Engine) (t : ℕ) (shares : List (ℕ × List DataRecor
   pub stays : (q : ℕ) (counted : List Sample) → StandsForRecords (groups_at d.groups q) counted → StandsForRecords (groups_at e.groups q) (staying t counted)
   pub audit : e.audit ≡ d.audit
 
-pub advance_step : (d e : Engine) (h : List Entry) (t : ℕ) (shares : List (ℕ × List DataRecord)) → Stands d h → clock_of h ≤ t → AreClosings d h t shares → Closes d e t shares → Stands e (h ++ Advance t ∷ [])
+pub advance_step : {Q : Type 0} (d e : Engine Q) (h : List Entry) (t : ℕ) (shares : List (ℕ × List DataRecord)) → Stands d h → clock_of h ≤ t → AreClosings d h t shares → Closes d e t shares → Stands e (h ++ Advance t ∷ [])
 advance_step d e h t shares so ahead is did = record {
   policy = ap (λ (f : InForce). f.policy) did.in_force ∙ so.policy ∙ sym (last_of-push policy_from no_policy h (Advance t));
   clock = ap (λ (f : InForce). f.clock) did.in_force ∙ sym (last_of-push clock_in 0 h (Advance t));
@@ -137,7 +137,7 @@ advance_step d e h t shares so ahead is did = record {
     gives sub = ap (given_to sub) is.shares_are ∙ given_is h (Advance t) sub so.numbered (closes_served_only h t)
 
 -- the places stay
-pub places_closed : (d e : Engine) (h : List Entry) (shares : List (ℕ × List DataRecord)) → Stands d h → ((sub : ℕ) → Related (TakesGiven (given_to sub shares)) (at d.subscriptions sub) (at e.subscriptions sub)) → (sub : ℕ) → handed_place e sub ≡ handed_place d sub
+pub places_closed : {Q : Type 0} (d e : Engine Q) (h : List Entry) (shares : List (ℕ × List DataRecord)) → Stands d h → ((sub : ℕ) → Related (TakesGiven (given_to sub shares)) (at d.subscriptions sub) (at e.subscriptions sub)) → (sub : ℕ) → handed_place e sub ≡ handed_place d sub
 places_closed d e h shares so each sub = at_one (given_to sub shares) (at d.subscriptions sub) (at e.subscriptions sub) (each sub) (so.subscriptions sub) where
   at_one : (more : List DataRecord) (old new : Option Subscription) → Related (TakesGiven more) old new → IsLiveAs h d.limits sub old → place_in new ≡ place_in old
   at_one more None None takes is = refl

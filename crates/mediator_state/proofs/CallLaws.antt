@@ -30,7 +30,7 @@ use Rattle.mediator_state.specs.declared.fault.Fault.TheVariants as fault
 use Rattle.mediator_state.specs.declared.state.State.{State}
 use Rattle.mediator_state.specs.Standing.{Stands, StandsSomewhere}
 use Rattle.mediator_state.specs.Seen.{waiting_of, IsUntouched, IsSameEngine}
-use Rattle.mediator_shares.specs.Noting.{KeptNotes}
+use Rattle.disclosure_audit.specs.Noting.{KeptNotes}
 use Rattle.mediator_state.specs.Planning.{IsPlan, IsNext, IsNextReading, RefusesMessage}
 use Rattle.mediator_state.specs.Accepting.{LacksAudit, HasRoomForPlan, IsPlannedFor, receipt_of}
 use Rattle.mediator_state.specs.Calls.{StateStandsFor, StandsForSome, StaysSame, AuditHoldsAfter, Accepts, LacksRoom, LacksRoomAfter, with_cuts_after, HasMeaning, RefusesReceiveAfter, RefusesReceivePreparedAfter, ReceivesAfter, IsFree, RefusesEdit, RefusesSubscribe}
@@ -42,7 +42,7 @@ use Rattle.event_journal.specs.declared.limits.TheConstants.{MOST_ENTRIES}
 abbrev pub Counts : {C : Type 0} → (C → List Entry → Type 0) → C → ℕ → ℕ → Type 0
 Counts tells c count octets = (h : List Entry) → tells c h → IsCountOf h count octets
 
-pub somewhere : {C : Type 0} (tells : C → List Entry → Type 0) (s : State C) (count octets position : ℕ) → Counts tells s.chronicle count octets → position ≡ count → StandsForSome tells s → StandsSomewhere s.engine position
+pub somewhere : {C Q : Type 0} (tells : C → List Entry → Type 0) (s : State C Q) (count octets position : ℕ) → Counts tells s.chronicle count octets → position ≡ count → StandsForSome tells s → StandsSomewhere s.engine position
 somewhere tells s count octets position counted is some = record {
   history = some.history;
   stands = some.stands.stands;
@@ -82,21 +82,21 @@ lacks_after (fault.AuditFull need room) limits count octets h more c lacks = abs
 
 -- ---- a message and its cuts
 
-pub next_of : (e : Engine) (h : List Entry) (session number : ℕ) (octets : List ℕ) (p : MessagePlan) → p.session.0 ≡ session → IsPlan e h number octets p → IsNext h session number
+pub next_of : {Q : Type 0} (e : Engine Q) (h : List Entry) (session number : ℕ) (octets : List ℕ) (p : MessagePlan) → p.session.0 ≡ session → IsPlan e h number octets p → IsNext h session number
 next_of e h session number octets p is plan = record {
   opened = subst (λ (s : ℕ). is_open s h ≡ true) is plan.opened;
   turn = subst (λ (s : ℕ). number ≡ length (messages_of s h)) is plan.turn;
 }
 
-means_of : (e : Engine) (h : List Entry) (session number : ℕ) (octets : List ℕ) (p : MessagePlan) → p.session.0 ≡ session → IsPlan e h number octets p → meaning_of (messages_of session h) octets ≡ Ok p.reading.meaning
+means_of : {Q : Type 0} (e : Engine Q) (h : List Entry) (session number : ℕ) (octets : List ℕ) (p : MessagePlan) → p.session.0 ≡ session → IsPlan e h number octets p → meaning_of (messages_of session h) octets ≡ Ok p.reading.meaning
 means_of e h session number octets p is plan = ap (λ (s : ℕ). meaning_of (messages_of s h) octets) (sym is) ∙ plan.read.means
 
-cuts_of : (e : Engine) (h : List Entry) (session number : ℕ) (octets : List ℕ) (p : MessagePlan) → p.session.0 ≡ session → IsPlan e h number octets p → map Cut p.cuts.items ≡ cuts_before e.limits h (Message session number octets) (waiting_of e)
+cuts_of : {Q : Type 0} (e : Engine Q) (h : List Entry) (session number : ℕ) (octets : List ℕ) (p : MessagePlan) → p.session.0 ≡ session → IsPlan e h number octets p → map Cut p.cuts.items ≡ cuts_before e.limits h (Message session number octets) (waiting_of e)
 cuts_of e h session number octets p is plan =
     ap (λ (cuts : List ℕ). map Cut cuts) plan.judged.cuts_are ∙ ap (λ (s : ℕ). cuts_before e.limits h (Message s number octets) (waiting_of e)) is
 
 -- the entries that are appended
-pub entries_are : (e : Engine) (h : List Entry) (session number : ℕ) (octets : List ℕ) (p : MessagePlan) (entries : List Entry) → p.session.0 ≡ session → entries ≡ map Cut p.cuts.items ++ Message session number octets ∷ [] → IsPlan e h number octets p → entries ≡ with_cuts_after e h (Message session number octets)
+pub entries_are : {Q : Type 0} (e : Engine Q) (h : List Entry) (session number : ℕ) (octets : List ℕ) (p : MessagePlan) (entries : List Entry) → p.session.0 ≡ session → entries ≡ map Cut p.cuts.items ++ Message session number octets ∷ [] → IsPlan e h number octets p → entries ≡ with_cuts_after e h (Message session number octets)
 entries_are e h session number octets p entries is made plan =
     made ∙ ap (λ (cuts : List Entry). cuts ++ Message session number octets ∷ []) (cuts_of e h session number octets p is plan)
 
@@ -107,15 +107,15 @@ length-cut_entries n [] = refl
 length-cut_entries n (sub ∷ subs) = ap (λ (k : ℕ). suc k) (length-cut_entries (n + 1) subs)
 
 -- the entries of what the audit names of a message
-abbrev entries_of : (e : Engine) (h : List Entry) (number : ℕ) (octets : List ℕ) (p : MessagePlan) → IsPlan e h number octets p → List AuditEntry
+abbrev entries_of : {Q : Type 0} (e : Engine Q) (h : List Entry) (number : ℕ) (octets : List ℕ) (p : MessagePlan) → IsPlan e h number octets p → List AuditEntry
 entries_of e h number octets p plan = map (stamp p.position) plan.named
 
-length-named : (e : Engine) (h : List Entry) (number : ℕ) (octets : List ℕ) (p : MessagePlan) (plan : IsPlan e h number octets p)
+length-named : {Q : Type 0} (e : Engine Q) (h : List Entry) (number : ℕ) (octets : List ℕ) (p : MessagePlan) (plan : IsPlan e h number octets p)
     → length (cut_entries (length h) p.cuts.items ++ entries_of e h number octets p plan) ≡ length p.cuts.items + p.notes.count
 length-named e h number octets p plan =
     omega (arith, length-append (cut_entries (length h) p.cuts.items) (entries_of e h number octets p plan), length-cut_entries (length h) p.cuts.items, length-map plan.named (stamp p.position), ap (λ (k : KeptNotes). k.count) plan.kept)
 
-noted_of : (e : Engine) (h : List Entry) (session number : ℕ) (octets : List ℕ) (p : MessagePlan) → p.session.0 ≡ session → (plan : IsPlan e h number octets p)
+noted_of : {Q : Type 0} (e : Engine Q) (h : List Entry) (session number : ℕ) (octets : List ℕ) (p : MessagePlan) → p.session.0 ≡ session → (plan : IsPlan e h number octets p)
     → audit_list (h ++ with_cuts_after e h (Message session number octets)) ≡ audit_list h ++ (cut_entries (length h) p.cuts.items ++ entries_of e h number octets p plan)
 noted_of e h session number octets p is plan =
     let message : Entry = Message session number octets in
@@ -129,7 +129,7 @@ noted_of e h session number octets p is plan =
 
 -- ---- why a message is refused
 
-pub refused_message : (why : Fault) (limits : JournalLimits) (e : Engine) (h : List Entry) (session number : ℕ) (octets : List ℕ) → RefusesMessage why h session number octets → RefusesReceiveAfter why limits e h session number octets
+pub refused_message : {Q : Type 0} (why : Fault) (limits : JournalLimits) (e : Engine Q) (h : List Entry) (session number : ℕ) (octets : List ℕ) → RefusesMessage why h session number octets → RefusesReceiveAfter why limits e h session number octets
 refused_message fault.JournalFull limits e h session number octets r = absurd r
 refused_message fault.OutOfMemory limits e h session number octets r = r
 refused_message fault.UnknownSession limits e h session number octets r = r
@@ -147,7 +147,7 @@ refused_message (fault.ClockBack last) limits e h session number octets r = r
 refused_message (fault.AuditFull need room) limits e h session number octets r = absurd r
 
 -- so it is where the message was prepared, which then has a meaning
-pub refused_as_prepared : (why : Fault) (limits : JournalLimits) (e : Engine) (h : List Entry) (session number : ℕ) (p : Preparation) (reading : Ahead) → IsNextReading h session number p.message reading → RefusesReceiveAfter why limits e h session number p.message
+pub refused_as_prepared : {Q : Type 0} (why : Fault) (limits : JournalLimits) (e : Engine Q) (h : List Entry) (session number : ℕ) (p : Preparation) (reading : Ahead) → IsNextReading h session number p.message reading → RefusesReceiveAfter why limits e h session number p.message
     → RefusesReceivePreparedAfter why limits e h session number p
 refused_as_prepared fault.JournalFull limits e h session number p reading read r = r
 refused_as_prepared fault.OutOfMemory limits e h session number p reading read r = r
@@ -166,22 +166,22 @@ refused_as_prepared (fault.ClockBack last) limits e h session number p reading r
 refused_as_prepared (fault.AuditFull need room) limits e h session number p reading read r = r
 
 -- what was found out of a message before it is accepted
-pub record IsFound (e : Engine) (h : List Entry) (session number : ℕ) (octets : List ℕ) (p : MessagePlan) (entries : List Entry) : Type 0 where
+pub record IsFound {Q : Type 0} (e : Engine Q) (h : List Entry) (session number : ℕ) (octets : List ℕ) (p : MessagePlan) (entries : List Entry) : Type 0 where
   pub plan : IsPlan e h number octets p
   pub session_is : p.session.0 ≡ session
   pub entries_made : entries ≡ map Cut p.cuts.items ++ Message session number octets ∷ []
 
-has_meaning : (e : Engine) (h : List Entry) (session number : ℕ) (octets : List ℕ) (p : MessagePlan) → p.session.0 ≡ session → IsPlan e h number octets p → HasMeaning h session octets
+has_meaning : {Q : Type 0} (e : Engine Q) (h : List Entry) (session number : ℕ) (octets : List ℕ) (p : MessagePlan) → p.session.0 ≡ session → IsPlan e h number octets p → HasMeaning h session octets
 has_meaning e h session number octets p is plan = record { meaning = p.reading.meaning; means = means_of e h session number octets p is plan }
 
-pub refused_full : (limits : JournalLimits) (count sizes : ℕ) (e : Engine) (h : List Entry) (session number : ℕ) (octets : List ℕ) (p : MessagePlan) (entries : List Entry) → IsCountOf h count sizes → IsFound e h session number octets p entries → (HasRoom limits count sizes entries → ⊥) → RefusesReceiveAfter fault.JournalFull limits e h session number octets
+pub refused_full : {Q : Type 0} (limits : JournalLimits) (count sizes : ℕ) (e : Engine Q) (h : List Entry) (session number : ℕ) (octets : List ℕ) (p : MessagePlan) (entries : List Entry) → IsCountOf h count sizes → IsFound e h session number octets p entries → (HasRoom limits count sizes entries → ⊥) → RefusesReceiveAfter fault.JournalFull limits e h session number octets
 refused_full limits count sizes e h session number octets p entries c f full = (
   next_of e h session number octets p f.session_is f.plan,
   has_meaning e h session number octets p f.session_is f.plan,
   λ r. full (room_before limits count sizes h entries c (subst (λ (more : List Entry). HasRoomAfter limits h more) (sym (entries_are e h session number octets p entries f.session_is f.entries_made f.plan)) r)),
 )
 
-pub refused_audit : (why : Fault) (limits : JournalLimits) (count sizes : ℕ) (e : Engine) (h : List Entry) (session number : ℕ) (octets : List ℕ) (p : MessagePlan) (entries : List Entry) → IsCountOf h count sizes → IsFound e h session number octets p entries → HasRoom limits count sizes entries → LacksAudit why e.audit (length p.cuts.items + p.notes.count) → RefusesReceiveAfter why limits e h session number octets
+pub refused_audit : {Q : Type 0} (why : Fault) (limits : JournalLimits) (count sizes : ℕ) (e : Engine Q) (h : List Entry) (session number : ℕ) (octets : List ℕ) (p : MessagePlan) (entries : List Entry) → IsCountOf h count sizes → IsFound e h session number octets p entries → HasRoom limits count sizes entries → LacksAudit why e.audit (length p.cuts.items + p.notes.count) → RefusesReceiveAfter why limits e h session number octets
 refused_audit (fault.AuditFull need room) limits count sizes e h session number octets p entries c f r lacks = (
   next_of e h session number octets p f.session_is f.plan,
   has_meaning e h session number octets p f.session_is f.plan,
@@ -210,36 +210,36 @@ refused_audit fault.BadLimits limits count sizes e h session number octets p ent
 refused_audit (fault.ClockBack last) limits count sizes e h session number octets p entries c f r lacks = absurd lacks
 
 -- memory ran out behind what was found out of a message
-pub next_memory : (why : Fault) (limits : JournalLimits) (e : Engine) (h : List Entry) (session number : ℕ) (octets : List ℕ) → why ≡ fault.OutOfMemory → IsNext h session number → RefusesReceiveAfter why limits e h session number octets
+pub next_memory : {Q : Type 0} (why : Fault) (limits : JournalLimits) (e : Engine Q) (h : List Entry) (session number : ℕ) (octets : List ℕ) → why ≡ fault.OutOfMemory → IsNext h session number → RefusesReceiveAfter why limits e h session number octets
 next_memory why limits e h session number octets is next = rw is next
 
 -- ---- that the audit holds what is named
 
-pub audit_holds : (e : Engine) (h more : List Entry) (noted : List AuditEntry) → StandsIn e.audit.standing (audit_list h) → audit_list (h ++ more) ≡ audit_list h ++ noted
-    → length e.audit.standing.entries + length noted ≤ e.audit.limit → AuditHoldsAfter e h more
+pub audit_holds : {Q : Type 0} (e : Engine Q) (h more : List Entry) (noted : List AuditEntry) → StandsIn e.audit.standing (audit_list h) → audit_list (h ++ more) ≡ audit_list h ++ noted
+    → e.audit.standing.waiting + length noted ≤ e.audit.limit → AuditHoldsAfter e h more
 audit_holds e h more noted stands is room = record {
   before = omega (arith, room);
   after = subst (λ (n : ℕ). n ≤ e.audit.limit) (sym waiting) room;
 }
   where
-    waiting : length (drop e.audit.standing.drained (audit_list (h ++ more))) ≡ length e.audit.standing.entries + length noted
+    waiting : length (drop e.audit.standing.drained (audit_list (h ++ more))) ≡ e.audit.standing.waiting + length noted
     waiting =
         ap (λ (all : List AuditEntry). length (drop e.audit.standing.drained all)) is
         ∙ ap (λ (l : List AuditEntry). length l) (drop-append-le e.audit.standing.drained (audit_list h) noted stands.within)
         ∙ length-append (drop e.audit.standing.drained (audit_list h)) noted
-        ∙ ap (λ (l : List AuditEntry). length l + length noted) (sym stands.waiting)
+        ∙ ap (λ (n : ℕ). n + length noted) (sym stands.waiting)
 
 -- the room that was made for a message holds what is named of it and its cuts
-pub message_held : (d e : Engine) (h : List Entry) (session number : ℕ) (octets : List ℕ) (p : MessagePlan) (entries : List Entry) (added : List (ℕ × List Addition)) → IsSameEngine d e → Stands d h → IsFound d h session number octets p entries → HasRoomForPlan e p added
+pub message_held : {Q : Type 0} (d e : Engine Q) (h : List Entry) (session number : ℕ) (octets : List ℕ) (p : MessagePlan) (entries : List Entry) (added : List (ℕ × List Addition)) → IsSameEngine d e → Stands d h → IsFound d h session number octets p entries → HasRoomForPlan e p added
     → AuditHoldsAfter d h (with_cuts_after d h (Message session number octets))
 message_held d e h session number octets p entries added same so f room =
     audit_holds d h (with_cuts_after d h (Message session number octets)) (cut_entries (length h) p.cuts.items ++ entries_of d h number octets p f.plan) so.audit (noted_of d h session number octets p f.session_is f.plan)
-    (omega (arith, room.audit, same.audit_limit, ap (λ (s : AuditStanding). length s.entries) same.audit, length-named d h number octets p f.plan))
+    (omega (arith, room.audit, same.audit_limit, ap (λ (s : AuditStanding). s.waiting) same.audit, length-named d h number octets p f.plan))
 
 -- ---- what an accepted message leaves
 
 -- room was made for it, which the engine shows in nothing else
-pub planned_for : (d e : Engine) (h : List Entry) (number : ℕ) (octets : List ℕ) (position : ℕ) (p : MessagePlan) → IsSameEngine d e → Stands d h → length h ≡ position → position ≤ MOST_ENTRIES → IsPlan d h number octets p → IsPlannedFor e position p
+pub planned_for : {Q : Type 0} (d e : Engine Q) (h : List Entry) (number : ℕ) (octets : List ℕ) (position : ℕ) (p : MessagePlan) → IsSameEngine d e → Stands d h → length h ≡ position → position ≤ MOST_ENTRIES → IsPlan d h number octets p → IsPlannedFor e position p
 planned_for d e h number octets position p same stands counted short plan = record {
   history = h;
   number = number;
@@ -251,10 +251,10 @@ planned_for d e h number octets position p same stands counted short plan = reco
 }
 
 -- what accept says of the engine
-abbrev pub AcceptsPlan : Engine → ℕ → MessagePlan → Engine → Type 0
+abbrev pub AcceptsPlan : {Q : Type 0} → Engine Q → ℕ → MessagePlan → Engine Q → Type 0
 AcceptsPlan e position p new = (h : List Entry) (number : ℕ) (octets : List ℕ) → Stands e h → length h ≡ position → IsPlan e h number octets p → Stands new (after_cuts h p.cuts.items ++ Message p.session.0 number octets ∷ [])
 
-pub received : {C : Type 0} (tells : C → List Entry → Type 0) (limits : C → JournalLimits) (old new : State C) (e : Engine) (count sizes : ℕ) (h : List Entry) (session number : ℕ) (octets : List ℕ) (p : MessagePlan) (entries : List Entry) (r : Receipt) (position : ℕ)
+pub received : {C Q : Type 0} (tells : C → List Entry → Type 0) (limits : C → JournalLimits) (old new : State C Q) (e : Engine Q) (count sizes : ℕ) (h : List Entry) (session number : ℕ) (octets : List ℕ) (p : MessagePlan) (entries : List Entry) (r : Receipt) (position : ℕ)
     → StateStandsFor tells old h → IsCountOf h count sizes → position ≡ count → IsFound old.engine h session number octets p entries → HasRoom (limits old.chronicle) count sizes entries → IsSameEngine old.engine e → AuditHoldsAfter old.engine h (with_cuts_after old.engine h (Message session number octets))
     → tells new.chronicle (h ++ entries) → AcceptsPlan e position p new.engine → r ≡ receipt_of position (length p.cuts.items) p.reading.meaning → ReceivesAfter old.engine session number octets r h (Accepts tells limits old new h)
 received tells limits old new e count sizes h session number octets p entries r position stands c at f room same held told accepts receipt =
@@ -282,7 +282,7 @@ received tells limits old new e count sizes h session number octets p entries r 
 -- ---- one entry more
 
 -- room was made for the entry, it was appended, and the engine goes on with it
-pub accepts_one : {C : Type 0} (tells : C → List Entry → Type 0) (limits : C → JournalLimits) (count sizes : C → ℕ) (old mid : State C) (chronicle : C) (engine : Engine) (h : List Entry) (written entry : Entry)
+pub accepts_one : {C Q : Type 0} (tells : C → List Entry → Type 0) (limits : C → JournalLimits) (count sizes : C → ℕ) (old mid : State C Q) (chronicle : C) (engine : Engine Q) (h : List Entry) (written entry : Entry)
     → StateStandsFor tells old h → IsCountOf h (count old.chronicle) (sizes old.chronicle)
     → limits mid.chronicle ≡ limits old.chronicle → count mid.chronicle ≡ count old.chronicle → sizes mid.chronicle ≡ sizes old.chronicle
     → HasRoom (limits mid.chronicle) (count mid.chronicle) (sizes mid.chronicle) (written ∷ []) → written ≡ entry
@@ -297,7 +297,7 @@ accepts_one tells limits count sizes old mid chronicle engine h written entry s 
       (subst (λ (e : Entry). HasRoom (limits mid.chronicle) (count mid.chronicle) (sizes mid.chronicle) (e ∷ [])) is room))));
   stands = record {
     told = subst (λ (e : Entry). tells chronicle (h ++ e ∷ [])) is (goes_on h (keeps h s.told));
-    stands = stands h (subst (λ (e : Engine). Stands e h) (sym same_engine) s.stands);
+    stands = stands h (subst (λ (e : Engine _). Stands e h) (sym same_engine) s.stands);
   };
 }
 
@@ -353,7 +353,7 @@ refused_memory e limits h name is named free = rw is (named, free)
 
 -- ---- a state that stays
 
-pub same_state : {C : Type 0} (tells : C → List Entry → Type 0) (limits : C → JournalLimits) (s : State C) → StaysSame tells limits s s
+pub same_state : {C Q : Type 0} (tells : C → List Entry → Type 0) (limits : C → JournalLimits) (s : State C Q) → StaysSame tells limits s s
 same_state tells limits s = record {
   histories = λ h so. so;
   untouched = record { places = λ n. refl; drained = refl; limits = refl; audit_limit = refl };
@@ -361,17 +361,17 @@ same_state tells limits s = record {
 }
 
 -- the engine is the same, and what keeps the history tells of no other
-pub same_kept : {C : Type 0} (tells : C → List Entry → Type 0) (limits : C → JournalLimits) (old : State C) (chronicle : C) (engine : Engine)
+pub same_kept : {C Q : Type 0} (tells : C → List Entry → Type 0) (limits : C → JournalLimits) (old : State C Q) (chronicle : C) (engine : Engine Q)
     → ((h : List Entry) → tells old.chronicle h → tells chronicle h) → engine ≡ old.engine → limits chronicle ≡ limits old.chronicle
     → StaysSame tells limits old (record { chronicle = chronicle; engine = engine })
 same_kept tells limits old chronicle engine keeps same journaled = record {
-  histories = λ h so. record { told = keeps h so.told; stands = subst (λ (e : Engine). Stands e h) (sym same) so.stands };
-  untouched = subst (λ (e : Engine). IsUntouched old.engine e) (sym same) (record { places = λ n. refl; drained = refl; limits = refl; audit_limit = refl });
+  histories = λ h so. record { told = keeps h so.told; stands = subst (λ (e : Engine _). Stands e h) (sym same) so.stands };
+  untouched = subst (λ (e : Engine _). IsUntouched old.engine e) (sym same) (record { places = λ n. refl; drained = refl; limits = refl; audit_limit = refl });
   journaled = journaled;
 }
 
 -- in the engine reserved room has changed too
-pub same_roomed : {C : Type 0} (tells : C → List Entry → Type 0) (limits : C → JournalLimits) (old : State C) (chronicle : C) (engine : Engine)
+pub same_roomed : {C Q : Type 0} (tells : C → List Entry → Type 0) (limits : C → JournalLimits) (old : State C Q) (chronicle : C) (engine : Engine Q)
     → ((h : List Entry) → tells old.chronicle h → tells chronicle h) → IsSameEngine old.engine engine → limits chronicle ≡ limits old.chronicle
     → StaysSame tells limits old (record { chronicle = chronicle; engine = engine })
 same_roomed tells limits old chronicle engine keeps same journaled = record {
@@ -405,7 +405,7 @@ pub room_where : (b : Bool) (limits : JournalLimits) (count sizes : ℕ) (seen e
 room_where b limits count sizes seen entries exact is has = subst (λ (more : List Entry). HasRoom limits count sizes more) is (exact.0 has)
 
 -- what was found out, where the cuts were lent as a slice
-pub found : (e : Engine) (h : List Entry) (session number : ℕ) (octets : List ℕ) (p : MessagePlan) (entries : List Entry) (seen : List ℕ) → IsPlan e h number octets p → p.session.0 ≡ session → entries ≡ map Cut seen ++ Message session number octets ∷ [] → seen ≡ p.cuts.items → IsFound e h session number octets p entries
+pub found : {Q : Type 0} (e : Engine Q) (h : List Entry) (session number : ℕ) (octets : List ℕ) (p : MessagePlan) (entries : List Entry) (seen : List ℕ) → IsPlan e h number octets p → p.session.0 ≡ session → entries ≡ map Cut seen ++ Message session number octets ∷ [] → seen ≡ p.cuts.items → IsFound e h session number octets p entries
 found e h session number octets p entries seen plan is made lent = record {
   plan = plan;
   session_is = is;

@@ -16,16 +16,18 @@ use Rattle.mediator_tables.specs.declared.subscription.Subscription.{Subscriptio
 use Rattle.mediator_tables.specs.SubscriptionTable.{at, cut_off}
 use Rattle.mediator_state.specs.declared.engine.Engine.{Engine}
 use Rattle.mediator_state.specs.Standing.{Stands}
+use Rattle.disclosure_audit.specs.Queue.{most_notes}
 use Rattle.mediator_state.specs.Steps.{HasAuditRoom, KeepsRest, IsCutOnce, CutsInARow}
 
 -- the first `done` of the numbers are cut
-pub record IsCutting (old now : Engine) (position all done : ℕ) (numbers : List ℕ) : Type 0 where
+pub record IsCutting {Q : Type 0} (old now : Engine Q) (position all done : ℕ) (numbers : List ℕ) : Type 0 where
   pub within : done ≤ all
   pub stands : (h : List Entry) → Stands old h → length h ≡ position → Stands now (after_cuts h (take done numbers))
   pub row : CutsInARow (take done numbers) old now
   pub room : HasAuditRoom old.audit all
+  pub notes : most_notes now.audit ≡ most_notes old.audit
 
-rest_once : (a b c : Engine) → KeepsRest a b → KeepsRest b c → KeepsRest a c
+rest_once : {Q : Type 0} (a b c : Engine Q) → KeepsRest a b → KeepsRest b c → KeepsRest a c
 rest_once a b c f g = record {
   in_force = g.in_force ∙ f.in_force;
   edits = g.edits ∙ f.edits;
@@ -38,7 +40,7 @@ rest_once a b c f g = record {
 }
 
 -- no number is among none
-pub none_cut : (e : Engine) (position : ℕ) (numbers : List ℕ) → HasAuditRoom e.audit (length numbers) → IsCutting e e position (length numbers) 0 numbers
+pub none_cut : {Q : Type 0} (e : Engine Q) (position : ℕ) (numbers : List ℕ) → HasAuditRoom e.audit (length numbers) → IsCutting e e position (length numbers) 0 numbers
 none_cut e position numbers room = record {
   within = omega arith;
   stands = λ h so is. subst (Stands e) (sym (append-nil h)) so;
@@ -51,6 +53,7 @@ none_cut e position numbers room = record {
     spare = omega arith;
   };
   room = room;
+  notes = refl;
 }
 
 cut_again : (q number : ℕ) (numbers : List ℕ) (s : Option Subscription) → (if q == number then option_map cut_off (if is_in q numbers then option_map cut_off s else s) else (if is_in q numbers then option_map cut_off s else s))
@@ -81,9 +84,9 @@ gone_again q number numbers s = by_tests (is_in q numbers) (q == number) refl �
     by_tests false false is = ap (λ (b : Bool). cond (b || false) nothing_held s) (sym (ne_eqb number q (λ e. eqb-false q number is (sym e))))
 
 -- one more
-pub one_cut : (old now new : Engine) (position done number : ℕ) (numbers : List ℕ) → IsCutting old now position (length numbers) done numbers → done < length numbers → number ≡ get_or numbers done number
-    → ((h : List Entry) → Stands now h → length h ≡ position + done → Stands new (h ++ Cut number ∷ [])) → IsCutOnce number now new → IsCutting old new position (length numbers) (done + 1) numbers
-one_cut old now new position done number numbers so within is stands once =
+pub one_cut : {Q : Type 0} (old now new : Engine Q) (position done number : ℕ) (numbers : List ℕ) → IsCutting old now position (length numbers) done numbers → done < length numbers → number ≡ get_or numbers done number
+    → ((h : List Entry) → Stands now h → length h ≡ position + done → Stands new (h ++ Cut number ∷ [])) → IsCutOnce number now new → most_notes new.audit ≡ most_notes now.audit → IsCutting old new position (length numbers) (done + 1) numbers
+one_cut old now new position done number numbers so within is stands once noting =
     let more : take (done + 1) numbers ≡ take done numbers ++ number ∷ [] = take_more numbers done number within ∙ ap (λ n. take done numbers ++ n ∷ []) (sym is) in
     let long : length (take done numbers) ≡ done = length-take-le done numbers (omega (arith, within)) in
     record {
@@ -99,10 +102,11 @@ one_cut old now new position done number numbers so within is stands once =
         spare = omega (arith, once.spare, so.row.spare, length-append (take done numbers) (number ∷ []));
       });
       room = so.room;
+      notes = noting ∙ so.notes;
     }
 
 -- there is room for one more
-pub room_left : (old now : Engine) (position done : ℕ) (numbers : List ℕ) → IsCutting old now position (length numbers) done numbers → done < length numbers → HasAuditRoom now.audit 1
+pub room_left : {Q : Type 0} (old now : Engine Q) (position done : ℕ) (numbers : List ℕ) → IsCutting old now position (length numbers) done numbers → done < length numbers → HasAuditRoom now.audit 1
 room_left old now position done numbers so within =
     let long : length (take done numbers) ≡ done = length-take-le done numbers (omega (arith, within)) in
     record {

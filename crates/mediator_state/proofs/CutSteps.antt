@@ -132,7 +132,7 @@ small_cut h number so = record {
   streamable = λ sub. subst AreStreamable (sym (disclosed-cut sub h number)) (so.streamable sub);
 }
 
-pub cut_step : (d e : Engine) (h : List Entry) (number : ℕ) → Stands d h → KeepsRest d e
+pub cut_step : {Q : Type 0} (d e : Engine Q) (h : List Entry) (number : ℕ) → Stands d h → KeepsRest d e
     → ((q : ℕ) → at e.subscriptions q ≡ (if q == number then option_map cut_off (at d.subscriptions q) else at d.subscriptions q))
     → e.subscriptions.served ≡ filter (λ q. not (q == number)) d.subscriptions.served
     → groups_at e.groups number ≡ [] → ((q : ℕ) → q ≢ number → groups_at e.groups q ≡ groups_at d.groups q)

@@ -143,7 +143,7 @@ small_stays h x given audited so = record {
 
 -- ---- an engine that changes in some of its fields
 
-same_subscriptions : (e d : Engine) (h : List Entry) (x : Entry) → Stands e h → d.subscriptions ≡ e.subscriptions → d.limits ≡ e.limits
+same_subscriptions : {Q : Type 0} (e d : Engine Q) (h : List Entry) (x : Entry) → Stands e h → d.subscriptions ≡ e.subscriptions → d.limits ≡ e.limits
     → ((sub : ℕ) → begins sub x ≡ None) → ((sub : ℕ) → switched sub x ≡ None) → ((sub : ℕ) → named sub x ≡ None) → ((sub : ℕ) → given_at sub h x ≡ [])
     → (sub : ℕ) → IsLiveAs (h ++ x ∷ []) d.limits sub (at d.subscriptions sub)
 same_subscriptions e d h x so table limits begun on name given sub =
@@ -151,17 +151,17 @@ same_subscriptions e d h x so table limits begun on name given sub =
     (subst (λ (t : SubscriptionRows). IsLiveAs (h ++ x ∷ []) e.limits sub (at t sub)) (sym table)
     (subscription_stays h x e.limits sub (at e.subscriptions sub) (begun sub) (on sub) (name sub) (given sub) (so.subscriptions sub)))
 
-same_sessions : (e d : Engine) (h : List Entry) (x : Entry) → Stands e h → d.sessions ≡ e.sessions → ((session : ℕ) → opens session x ≡ None) → ((session : ℕ) → message_in session x ≡ [])
+same_sessions : {Q : Type 0} (e d : Engine Q) (h : List Entry) (x : Entry) → Stands e h → d.sessions ≡ e.sessions → ((session : ℕ) → opens session x ≡ None) → ((session : ℕ) → message_in session x ≡ [])
     → (session : ℕ) → IsSession (h ++ x ∷ []) session (at_key session d.sessions)
 same_sessions e d h x so sessions still silent session =
     subst (λ (t : List (ℕ × OpenSession)). IsSession (h ++ x ∷ []) session (at_key session t)) (sym sessions)
     (session_stays h x session (at_key session e.sessions) (still session) (silent session) (so.sessions session))
 
-same_audit : (e d : Engine) (h : List Entry) (x : Entry) → Stands e h → d.audit ≡ e.audit → audit_at h x ≡ [] → StandsIn d.audit.standing (audit_list (h ++ x ∷ []))
+same_audit : {Q : Type 0} (e d : Engine Q) (h : List Entry) (x : Entry) → Stands e h → d.audit ≡ e.audit → audit_at h x ≡ [] → StandsIn d.audit.standing (audit_list (h ++ x ∷ []))
 same_audit e d h x so audit none = subst (StandsIn d.audit.standing) (sym (audit_same h x none)) (subst (λ a. StandsIn a.standing (audit_list h)) (sym audit) so.audit)
 
 -- a session is opened
-pub stands-open : (e d : Engine) (h : List Entry) (n : ℕ) → Stands e h → n ≡ e.opened + 1
+pub stands-open : {Q : Type 0} (e d : Engine Q) (h : List Entry) (n : ℕ) → Stands e h → n ≡ e.opened + 1
     → d.in_force ≡ e.in_force → d.groups ≡ e.groups → d.edits ≡ e.edits → d.opened ≡ n → d.begun ≡ e.begun → d.subscriptions ≡ e.subscriptions → d.audit ≡ e.audit → d.limits ≡ e.limits
     → ((q : ℕ) → q ≢ n → at_key q d.sessions ≡ at_key q e.sessions) → IsSomeAnd (at_key n d.sessions) IsFresh
     → Stands d (h ++ Open n ∷ [])
@@ -216,7 +216,7 @@ stands-open e d h n so next in_force groups edits opened begun table audit limit
       }
 
 -- a session is closed
-pub stands-close : (e d : Engine) (h : List Entry) (n : ℕ) → Stands e h
+pub stands-close : {Q : Type 0} (e d : Engine Q) (h : List Entry) (n : ℕ) → Stands e h
     → d.in_force ≡ e.in_force → d.groups ≡ e.groups → d.edits ≡ e.edits → d.opened ≡ e.opened → d.begun ≡ e.begun → d.subscriptions ≡ e.subscriptions → d.audit ≡ e.audit → d.limits ≡ e.limits
     → ((q : ℕ) → at_key q d.sessions ≡ (if q == n then None else at_key q e.sessions))
     → Stands d (h ++ Close n ∷ [])
@@ -259,7 +259,7 @@ stands-close e d h n so in_force groups edits opened begun table audit limits le
       rw stays (session_stays h (Close n) session (at_key session e.sessions) (rw same refl) refl (so.sessions session))
 
 -- a policy is put in force
-pub stands-edit : (e d : Engine) (h : List Entry) (text : List ℕ) (policy : Policy) → Stands e h → policy_of text ≡ Ok policy
+pub stands-edit : {Q : Type 0} (e d : Engine Q) (h : List Entry) (text : List ℕ) (policy : Policy) → Stands e h → policy_of text ≡ Ok policy
     → d.in_force.policy ≡ policy → d.in_force.clock ≡ e.in_force.clock → d.groups ≡ e.groups → d.edits ≡ e.edits + 1 → d.opened ≡ e.opened → d.begun ≡ e.begun → d.sessions ≡ e.sessions → d.subscriptions ≡ e.subscriptions → d.audit ≡ e.audit → d.limits ≡ e.limits
     → Stands d (h ++ Edit text ∷ [])
 stands-edit e d h text p so spelled policy clock groups edits opened begun sessions table audit limits = record {
@@ -281,7 +281,7 @@ stands-edit e d h text p so spelled policy clock groups edits opened begun sessi
   x = Edit text
 
 -- a subscription ends
-pub stands-unsubscribe : (e d : Engine) (h : List Entry) (n : ℕ) → Stands e h
+pub stands-unsubscribe : {Q : Type 0} (e d : Engine Q) (h : List Entry) (n : ℕ) → Stands e h
     → d.in_force ≡ e.in_force → d.edits ≡ e.edits → d.opened ≡ e.opened → d.begun ≡ e.begun → d.sessions ≡ e.sessions → d.audit ≡ e.audit → d.limits ≡ e.limits
     → ((q : ℕ) → at d.subscriptions q ≡ (if q == n then None else at e.subscriptions q)) → d.subscriptions.served ≡ filter (λ q. not (q == n)) e.subscriptions.served
     → groups_at d.groups n ≡ [] → ((q : ℕ) → q ≢ n → groups_at d.groups q ≡ groups_at e.groups q)
@@ -325,11 +325,11 @@ stands-unsubscribe e d h n so in_force edits opened begun sessions audit limits 
       rw stays (subscription_stays h (Unsubscribe n) e.limits sub (at e.subscriptions sub) (rw same refl) (rw same refl) refl refl (so.subscriptions sub))
 
 -- the number of the next subscription is one under which none is live
-pub next_is_free : (e : Engine) (h : List Entry) (n : ℕ) → Stands e h → n ≡ e.begun + 1 → at e.subscriptions n ≡ None
+pub next_is_free : {Q : Type 0} (e : Engine Q) (h : List Entry) (n : ℕ) → Stands e h → n ≡ e.begun + 1 → at e.subscriptions n ≡ None
 next_is_free e h n so next = none_live h e.limits n (at e.subscriptions n) (so.numbered.subscriptions n (omega (arith, so.begun))).gone (so.subscriptions n)
 
 -- a subscription begins
-pub stands-subscribe : (e d : Engine) (h : List Entry) (n : ℕ) (name : List ℕ) (stream : KeptStream) → Stands e h → n ≡ e.begun + 1
+pub stands-subscribe : {Q : Type 0} (e d : Engine Q) (h : List Entry) (n : ℕ) (name : List ℕ) (stream : KeptStream) → Stands e h → n ≡ e.begun + 1
     → d.in_force ≡ e.in_force → d.groups ≡ e.groups → d.edits ≡ e.edits → d.opened ≡ e.opened → d.begun ≡ n → d.sessions ≡ e.sessions → d.audit ≡ e.audit → d.limits ≡ e.limits
     → StandsAt stream.standing [] 0 → stream.limits ≡ e.limits
     → ((q : ℕ) → at d.subscriptions q ≡ (if q == n then Some (record { name = name; is_cut = false; stream = stream }) else at e.subscriptions q)) → d.subscriptions.served ≡ e.subscriptions.served ++ n ∷ []
@@ -438,7 +438,7 @@ no_shapes = refl
 none_streamable : AreStreamable []
 none_streamable = record { each = tt; shapes = rw no_shapes (omega arith) }
 
-pub stands-new : (d : Engine) → d.in_force ≡ in_force_with no_policy 0 → ((q : ℕ) → groups_at d.groups q ≡ []) → d.edits ≡ 0 → d.opened ≡ 0 → d.begun ≡ 0 → d.sessions ≡ [] → d.subscriptions ≡ record { live = []; served = [] } → StandsIn d.audit.standing [] → AreEngineLimits d.limits → Stands d []
+pub stands-new : {Q : Type 0} (d : Engine Q) → d.in_force ≡ in_force_with no_policy 0 → ((q : ℕ) → groups_at d.groups q ≡ []) → d.edits ≡ 0 → d.opened ≡ 0 → d.begun ≡ 0 → d.sessions ≡ [] → d.subscriptions ≡ record { live = []; served = [] } → StandsIn d.audit.standing [] → AreEngineLimits d.limits → Stands d []
 stands-new d in_force groups edits opened begun sessions table audit range = record {
   policy = ap (λ (f : InForce). f.policy) in_force;
   clock = ap (λ (f : InForce). f.clock) in_force;
@@ -478,11 +478,11 @@ if_none (Some x) so p = tt
 
 -- ---- counts stay far from their ends
 
-pub few_edits : (e : Engine) (count : ℕ) → StandsSomewhere e count → e.edits ≤ count
+pub few_edits : {Q : Type 0} (e : Engine Q) (count : ℕ) → StandsSomewhere e count → e.edits ≤ count
 few_edits e count so = omega (arith, so.stands.edits, so.counted, edits_few so.history)
 
-pub few_opened : (e : Engine) (count : ℕ) → StandsSomewhere e count → e.opened ≤ count
+pub few_opened : {Q : Type 0} (e : Engine Q) (count : ℕ) → StandsSomewhere e count → e.opened ≤ count
 few_opened e count so = omega (arith, so.stands.opened, so.counted, opened_few so.history)
 
-pub few_begun : (e : Engine) (count : ℕ) → StandsSomewhere e count → e.begun ≤ count
+pub few_begun : {Q : Type 0} (e : Engine Q) (count : ℕ) → StandsSomewhere e count → e.begun ≤ count
 few_begun e count so = omega (arith, so.stands.begun, so.counted, subscribed_few so.history)

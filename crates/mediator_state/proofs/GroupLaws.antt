@@ -16,7 +16,7 @@ use Rattle.mediator_state.specs.Standing.{Stands}
 pub clock_stays : (h : List Entry) (x : Entry) → clock_in x ≡ None → clock_of (h ++ x ∷ []) ≡ clock_of h
 clock_stays h x none = last_of-push clock_in 0 h x ∙ ap (λ (o : Option ℕ). unwrap_or o (clock_of h)) none
 
-pub clock_kept : (d e : Engine) (h : List Entry) (x : Entry) → Stands d h → e.in_force ≡ d.in_force → clock_in x ≡ None → e.in_force.clock ≡ clock_of (h ++ x ∷ [])
+pub clock_kept : {Q : Type 0} (d e : Engine Q) (h : List Entry) (x : Entry) → Stands d h → e.in_force ≡ d.in_force → clock_in x ≡ None → e.in_force.clock ≡ clock_of (h ++ x ∷ [])
 clock_kept d e h x so same none = ap (λ (f : InForce). f.clock) same ∙ so.clock ∙ sym (clock_stays h x none)
 
 -- ---- running groups
@@ -25,14 +25,14 @@ pub none_stand : SumsStand [] []
 none_stand g = refl
 
 -- an entry that changes nothing of what runs
-pub groups_kept : (d e : Engine) (h : List Entry) (x : Entry) → Stands d h → e.groups ≡ d.groups → ((sub : ℕ) → running sub (h ++ x ∷ []) ≡ running sub h)
+pub groups_kept : {Q : Type 0} (d e : Engine Q) (h : List Entry) (x : Entry) → Stands d h → e.groups ≡ d.groups → ((sub : ℕ) → running sub (h ++ x ∷ []) ≡ running sub h)
     → (sub : ℕ) → SumsStand (groups_at e.groups sub) (running sub (h ++ x ∷ []))
 groups_kept d e h x so same still sub =
     subst (λ (t : List (ℕ × HeldGroups)). SumsStand (groups_at t sub) (running sub (h ++ x ∷ []))) (sym same)
     (subst (SumsStand (groups_at d.groups sub)) (sym (still sub)) (so.groups sub))
 
 -- one that ends what runs for one subscription
-pub groups_ended : (d e : Engine) (h : List Entry) (x : Entry) (n : ℕ) → Stands d h → groups_at e.groups n ≡ [] → ((q : ℕ) → q ≢ n → groups_at e.groups q ≡ groups_at d.groups q)
+pub groups_ended : {Q : Type 0} (d e : Engine Q) (h : List Entry) (x : Entry) (n : ℕ) → Stands d h → groups_at e.groups n ≡ [] → ((q : ℕ) → q ≢ n → groups_at e.groups q ≡ groups_at d.groups q)
     → running n (h ++ x ∷ []) ≡ [] → ((q : ℕ) → q ≢ n → running q (h ++ x ∷ []) ≡ running q h)
     → (sub : ℕ) → SumsStand (groups_at e.groups sub) (running sub (h ++ x ∷ []))
 groups_ended d e h x n so gone others ended still sub = by_number (sub == n) refl where

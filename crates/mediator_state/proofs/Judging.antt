@@ -32,7 +32,7 @@ use Rattle.subscriber_stream.specs.Standing.{KeptStream, HasStreamRoom, queue_si
 use Rattle.subscriber_stream.proofs.ShapeLaws.{shapes_on}
 use Rattle.disclosure_audit.specs.declared.entry.AuditEntry.{AuditEntry}
 use Rattle.disclosure_audit.specs.declared.entry.Note.{Note}
-use Rattle.disclosure_audit.specs.Queue.{stamp}
+use Rattle.disclosure_audit.specs.Queue.{stamp, most_notes}
 use Rattle.event_journal.specs.declared.entry.Entry.{Entry}
 use Rattle.event_journal.specs.declared.entry.Entry.TheVariants.{Message}
 use Rattle.mediator_history.specs.Numbers.{is_in}
@@ -54,7 +54,7 @@ use Rattle.mediator_tables.specs.declared.tally.Tally.{Tally}
 use Rattle.mediator_shares.specs.InForce.{InForce, in_force_with}
 use Rattle.mediator_tables.specs.SubscriptionTable.{shown}
 use Rattle.mediator_tables.specs.Adding.{tallied}
-use Rattle.mediator_shares.specs.Noting.{KeptNotes, kept_notes}
+use Rattle.disclosure_audit.specs.Noting.{KeptNotes, kept_notes}
 use Rattle.mediator_shares.specs.Sharing.{given_by, added_by, kept_by, share_of, shares_of, tallies_of, note_of, notes_on, noted_of_each, notes_of}
 use Rattle.mediator_tables.specs.declared.open_session.OpenSession.{OpenSession}
 use Rattle.mediator_tables.specs.declared.subscription.Subscription.{Subscription}
@@ -132,13 +132,13 @@ sharing sub records = (sub, records)
 pub all_on : (P : ℕ → Type 0) (h : List Entry) → ((sub : ℕ) → is_served sub h ≡ true → P sub) → AllByRecursion P (served h)
 all_on P h so = all_implied (λ sub. is_served sub h ≡ true) P (served h) so (all_served h)
 
-told_is : (e : Engine) (h : List Entry) → Stands e h → (sub : ℕ) → is_served sub h ≡ true → told_in e.subscriptions sub ≡ known h sub
+told_is : {Q : Type 0} (e : Engine Q) (h : List Entry) → Stands e h → (sub : ℕ) → is_served sub h ≡ true → told_in e.subscriptions sub ≡ known h sub
 told_is e h so sub on = there (at e.subscriptions sub) (so.subscriptions sub) where
   there : (o : Option Subscription) → IsLiveAs h e.limits sub o → named sub (option_map_or (λ s. s.name) o []) ≡ known h sub
   there None gone = let live : is_live sub h ≡ true = served_is_live sub h on in absurd cc
   there (Some s) is = ap (named sub) is.name
 
-pub all_told : (e : Engine) (h : List Entry) (all : List Served) → Stands e h → map told all ≡ map (told_in e.subscriptions) e.subscriptions.served → map told all ≡ map (known h) (served h)
+pub all_told : {Q : Type 0} (e : Engine Q) (h : List Entry) (all : List Served) → Stands e h → map told all ≡ map (told_in e.subscriptions) e.subscriptions.served → map told all ≡ map (known h) (served h)
 all_told e h all so tells =
     tells
     ∙ ap (map (told_in e.subscriptions)) so.served_are
@@ -266,7 +266,7 @@ notes_at h session number octets domain f records left position is tells counted
 -- ---- whom it cuts
 
 -- there is no room in a stream just where its records overflow what the history discloses
-pub lacks_over : (e : Engine) (h : List Entry) → Stands e h → (sub : ℕ) → is_served sub h ≡ true → (more : List DataRecord)
+pub lacks_over : {Q : Type 0} (e : Engine Q) (h : List Entry) → Stands e h → (sub : ℕ) → is_served sub h ≡ true → (more : List DataRecord)
     → lacks_room_at e.subscriptions (sharing sub more) ≡ overflows e.limits (disclosed sub h) (waiting_of e sub) more
 lacks_over e h so sub on more = there (at e.subscriptions sub) (so.subscriptions sub) where
   there : (o : Option Subscription) → IsLiveAs h e.limits sub o → option_map_or (λ s. lacks_room s.stream more) o false ≡ overflows e.limits (disclosed sub h) (waiting_in o) more
@@ -280,14 +280,14 @@ lacks_over e h so sub on more = there (at e.subscriptions sub) (so.subscriptions
 abbrev pub lacks_told : SubscriptionRows → ℕ → InForce → List DataRecord → ℕ × List ℕ → Bool
 lacks_told t domain f records p = lacks_room_at t (share_told domain f records p)
 
-lacks_is : (e : Engine) (h : List Entry) (session number : ℕ) (octets : List ℕ) (domain : ℕ) (f : InForce) (records : List DataRecord)
+lacks_is : {Q : Type 0} (e : Engine Q) (h : List Entry) (session number : ℕ) (octets : List ℕ) (domain : ℕ) (f : InForce) (records : List DataRecord)
     → Stands e h → IsAsked h session octets domain f records → (sub : ℕ) → is_served sub h ≡ true
     → lacks_told e.subscriptions domain f records (known h sub) ≡ is_cut_by e.limits h (Message session number octets) (waiting_of e) sub
 lacks_is e h session number octets domain f records so is sub on =
     ap (λ more. lacks_room_at e.subscriptions (sharing sub more)) (given_told h session number octets domain f records is sub on)
     ∙ lacks_over e h so sub on (given_at sub h (Message session number octets))
 
-cuts_are : (e : Engine) (h : List Entry) (session number : ℕ) (octets : List ℕ) (domain : ℕ) (f : InForce) (records : List DataRecord) (all : List Served)
+cuts_are : {Q : Type 0} (e : Engine Q) (h : List Entry) (session number : ℕ) (octets : List ℕ) (domain : ℕ) (f : InForce) (records : List DataRecord) (all : List Served)
     → Stands e h → IsAsked h session octets domain f records → map told all ≡ map (known h) (served h)
     → map (λ who. who.sub) (filter (lacks e.subscriptions domain f records) all) ≡ filter (is_cut_by e.limits h (Message session number octets) (waiting_of e)) (served h)
 cuts_are e h session number octets domain f records all so is tells =
@@ -306,7 +306,7 @@ cuts_are e h session number octets domain f records all so is tells =
 pub in_filter : (h : List Entry) (p : ℕ → Bool) (cuts : List ℕ) (sub : ℕ) → cuts ≡ filter p (served h) → is_served sub h ≡ true → is_in sub cuts ≡ p sub
 in_filter h p cuts sub are on = ap (is_in sub) are ∙ is_in-filter p sub (served h) ∙ ap (λ b. p sub && b) (is_in-served sub h ∙ on) ∙ and-true (p sub)
 
-left_told : (e : Engine) (h : List Entry) (session number : ℕ) (octets : List ℕ) (domain : ℕ) (f : InForce) (records : List DataRecord) (all : List Served) (cuts : List ℕ)
+left_told : {Q : Type 0} (e : Engine Q) (h : List Entry) (session number : ℕ) (octets : List ℕ) (domain : ℕ) (f : InForce) (records : List DataRecord) (all : List Served) (cuts : List ℕ)
     → Stands e h → IsAsked h session octets domain f records → map told all ≡ map (known h) (served h)
     → cuts ≡ filter (is_cut_by e.limits h (Message session number octets) (waiting_of e)) (served h)
     → map told (filter (has e.subscriptions domain f records) all) ≡ map (known (after_cuts h cuts)) (served (after_cuts h cuts))
@@ -335,7 +335,7 @@ has_room k more none some = first (nat_lt 0 (length more)) refl none where
   first true f over = last (nat_lt k.limits.queue (queue_size k.standing + length more)) (nat_lt k.limits.shapes (length (shapes_after k.standing.shapes more))) refl refl over
   first false f over = absurd (omega (arith, some, ltb-false 0 (length more) f))
 
-pub room_at : (e : Engine) (h : List Entry) → Stands e h → (sub : ℕ) → is_served sub h ≡ true → (more : List DataRecord)
+pub room_at : {Q : Type 0} (e : Engine Q) (h : List Entry) → Stands e h → (sub : ℕ) → is_served sub h ≡ true → (more : List DataRecord)
     → lacks_room_at e.subscriptions (sharing sub more) ≡ false → HasRoomIn e.subscriptions (sharing sub more)
 room_at e h so sub on more none some = there (at e.subscriptions sub) (so.subscriptions sub) none where
   there : (o : Option Subscription) → IsLiveAs h e.limits sub o → option_map_or (λ s. lacks_room s.stream more) o false ≡ false → IsSomeAnd o (λ s. HasStreamRoom s.stream more)
@@ -347,7 +347,7 @@ both_so true false so = (refl, refl)
 both_so true true so = absurd cc
 both_so false b so = absurd cc
 
-room_left : (e : Engine) (h : List Entry) (session number : ℕ) (octets : List ℕ) (cuts : List ℕ) → Stands e h
+room_left : {Q : Type 0} (e : Engine Q) (h : List Entry) (session number : ℕ) (octets : List ℕ) (cuts : List ℕ) → Stands e h
     → cuts ≡ filter (is_cut_by e.limits h (Message session number octets) (waiting_of e)) (served h)
     → AllByRecursion (HasRoomIn e.subscriptions) (map (share_at (after_cuts h cuts) (Message session number octets)) (served (after_cuts h cuts)))
 room_left e h session number octets cuts so are =
@@ -361,7 +361,7 @@ room_left e h session number octets cuts so are =
 
 -- ---- all of it
 
-pub is_judged : (e : Engine) (h : List Entry) (session number : ℕ) (octets : List ℕ) (domain : ℕ) (f : InForce) (records : List DataRecord) (all : List Served) (position : ℕ)
+pub is_judged : {Q : Type 0} (e : Engine Q) (h : List Entry) (session number : ℕ) (octets : List ℕ) (domain : ℕ) (f : InForce) (records : List DataRecord) (all : List Served) (position : ℕ)
     (cuts : List ℕ) (shares : List (ℕ × List DataRecord)) (entries : List AuditEntry)
     → Stands e h → IsAsked h session octets domain f records → position ≡ length h
     → map told all ≡ map (told_in e.subscriptions) e.subscriptions.served
@@ -389,7 +389,7 @@ is_judged e h session number octets domain f records all position cuts shares en
   shared : shares ≡ map (share_at (after_cuts h cuts) (Message session number octets)) (served (after_cuts h cuts))
   shared = giving ∙ shares_at (after_cuts h cuts) session number octets domain f records (filter (has e.subscriptions domain f records) all) (asked-cuts h session octets domain f records cuts is) left
 
-pub is_tallied : (e : Engine) (h : List Entry) (session number : ℕ) (octets : List ℕ) (domain : ℕ) (f : InForce) (records : List DataRecord) (all : List Served) (cuts : List ℕ) (tallies : List (ℕ × List Count))
+pub is_tallied : {Q : Type 0} (e : Engine Q) (h : List Entry) (session number : ℕ) (octets : List ℕ) (domain : ℕ) (f : InForce) (records : List DataRecord) (all : List Served) (cuts : List ℕ) (tallies : List (ℕ × List Count))
     → Stands e h → IsAsked h session octets domain f records → map told all ≡ map (told_in e.subscriptions) e.subscriptions.served
     → cuts ≡ map (λ who. who.sub) (filter (lacks e.subscriptions domain f records) all)
     → tallies ≡ tallies_of domain f records (filter (has e.subscriptions domain f records) all)
@@ -493,16 +493,16 @@ meaning_header older octets m e = found (contents_of older octets) e where
   found (Ok c) e = ap (λ x. x.header) (sym (same_Ok (record { header = header_of octets; records = c.records; skips = c.skips; gap = gap_of older octets }) m e))
   found (Err w) e = absurd cc
 
-pub judges : (e : Engine) (position : ℕ) (m : Meaning) (domain : ℕ) (records : List DataRecord) (all : List Served) (cuts : List ℕ) (left lent : List Served) (shares : List Share) (tallies : List Tally) (notes : KeptNotes) (j : Judged)
+pub judges : {Q : Type 0} (e : Engine Q) (position : ℕ) (m : Meaning) (domain : ℕ) (records : List DataRecord) (all : List Served) (cuts : List ℕ) (left lent : List Served) (shares : List Share) (tallies : List Tally) (notes : KeptNotes) (j : Judged)
     → domain ≡ m.header.domain → records ≡ m.records → map told all ≡ map (told_in e.subscriptions) e.subscriptions.served
     → IsSplitOf e.subscriptions domain e.in_force records all cuts left → lent ≡ left
-    → map shown shares ≡ shares_of domain e.in_force records lent → map tallied tallies ≡ tallies_of domain e.in_force records lent → notes ≡ kept_notes e.audit.limit (notes_of domain e.in_force records lent)
+    → map shown shares ≡ shares_of domain e.in_force records lent → map tallied tallies ≡ tallies_of domain e.in_force records lent → notes ≡ kept_notes (most_notes e.audit) (notes_of domain e.in_force records lent)
     → j.cuts.items ≡ cuts → j.shares.items ≡ shares → j.tallies.items ≡ tallies → j.position ≡ position + length cuts → j.notes ≡ notes
     → AllByRecursion AreStreamed (map shown j.shares.items)
     → (h : List Entry) → Stands e h → length h ≡ position → IsJudgedFor e h m j
 judges e position m domain records all cuts left lent shares tallies notes j in_domain means tells so lending gives adds noting cut shared counted_too at noted_too streamable = λ h stands counted session number octets meant. record {
   named = named;
-  kept = noted_too ∙ noting ∙ ap (λ l. kept_notes e.audit.limit (notes_of domain e.in_force records l)) (lending ∙ so.leaving);
+  kept = noted_too ∙ noting ∙ ap (λ l. kept_notes (most_notes e.audit) (notes_of domain e.in_force records l)) (lending ∙ so.leaving);
   judged = is_judged e h session number octets domain e.in_force records all position j.cuts.items (map shown j.shares.items) (map (stamp j.position) named) stands (asked h stands session octets meant) (sym counted) tells (cut ∙ so.cutting)
       (ap (map shown) shared ∙ gives ∙ ap (shares_of domain e.in_force records) (lending ∙ so.leaving))
       (ap (λ n. map (stamp n) named) at ∙ ap (λ c. map (stamp (position + length c)) named) (sym cut))
@@ -529,7 +529,7 @@ pub record IsTurn (h : List Entry) (session number : ℕ) (o : OpenSession) : Ty
   pub turn : number ≡ length (messages_of session h)
   pub stands : StandsFor o.session (messages_of session h)
 
-pub turn_of : (e : Engine) (h : List Entry) (session number : ℕ) (o : OpenSession) → Stands e h → IsInTurn e session number o → IsTurn h session number o
+pub turn_of : {Q : Type 0} (e : Engine Q) (h : List Entry) (session number : ℕ) (o : OpenSession) → Stands e h → IsInTurn e session number o → IsTurn h session number o
 turn_of e h session number o so is = there (at_key session e.sessions) (so.sessions session) is.is where
   there : (x : Option OpenSession) → IsSession h session x → IsSomeAnd x (λ s. s ≡ o) → IsTurn h session number o
   there None closed none = absurd none
@@ -561,20 +561,20 @@ short_message older octets m are means = sized (ltb (length octets) 16) (eqb (nu
 pub means_few : (older : List (List ℕ)) (octets : List ℕ) (m : Meaning) → AreOctets octets → meaning_of older octets ≡ Ok m → length m.records ≤ 65535
 means_few older octets m are means = omega (arith, few_records older octets, ap (λ r. length (records_meant r)) means, short_message older octets m are means)
 
-pub next_reading : (e : Engine) (h : List Entry) (session number : ℕ) (octets : List ℕ) (reading : Ahead) (o : OpenSession) → Stands e h → IsInTurn e session number o
+pub next_reading : {Q : Type 0} (e : Engine Q) (h : List Entry) (session number : ℕ) (octets : List ℕ) (reading : Ahead) (o : OpenSession) → Stands e h → IsInTurn e session number o
     → ((older : List (List ℕ)) → StandsFor o.session older → IsReadingOf older octets reading) → IsNextReading h session number octets reading
 next_reading e h session number octets reading o so is reads =
     let turn : IsTurn h session number o = turn_of e h session number o so is in
     record { next = record { opened = turn.opened; turn = turn.turn }; read = reads (messages_of session h) turn.stands }
 
 -- it was prepared by other templates than those of the session
-pub is_stale : (e : Engine) (h : List Entry) (session number : ℕ) (p : Preparation) (o : OpenSession) → Stands e h → IsInTurn e session number o
+pub is_stale : {Q : Type 0} (e : Engine Q) (h : List Entry) (session number : ℕ) (p : Preparation) (o : OpenSession) → Stands e h → IsInTurn e session number o
     → ((older : List (List ℕ)) → StandsFor o.session older → AgreesWith older p → ⊥) → RefusesPrepared fault.Stale h session number p
 is_stale e h session number p o so is refused =
     let turn : IsTurn h session number o = turn_of e h session number o so is in
     (record { opened = turn.opened; turn = turn.turn }, refused (messages_of session h) turn.stands)
 
-pub planned : (e : Engine) (h : List Entry) (session number : ℕ) (octets : List ℕ) (p : MessagePlan) (j : Judged) → p.session.0 ≡ session → IsNextReading h session number octets p.reading
+pub planned : {Q : Type 0} (e : Engine Q) (h : List Entry) (session number : ℕ) (octets : List ℕ) (p : MessagePlan) (j : Judged) → p.session.0 ≡ session → IsNextReading h session number octets p.reading
     → IsJudgedFor e h p.reading.meaning j → p.cuts ≡ j.cuts → p.shares ≡ j.shares → p.tallies ≡ j.tallies → p.position ≡ j.position → p.notes ≡ j.notes
     → IsPlan e h number octets p
 planned e h session number octets p j is next judged cuts shares tallies at notes =

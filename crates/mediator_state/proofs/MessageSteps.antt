@@ -225,7 +225,7 @@ streamable_given share limits h s range so room each before = by_size (length sh
   by_size zero is = subst AreStreamable (sym (ap (λ (l : List DataRecord). disclosed share.0 h ++ l) (nil_from_length share.1 is) ∙ append-nil (disclosed share.0 h))) before
   by_size (suc n) is = with_room s so (room (omega (arith, is)))
 
-pub small_given : (e : Engine) (h : List Entry) (x : Entry) (shares : List (ℕ × List DataRecord)) → Stands e h → GivesServedOnly h x → length (audit_at h x) ≤ MOST_AUDITED
+pub small_given : {Q : Type 0} (e : Engine Q) (h : List Entry) (x : Entry) (shares : List (ℕ × List DataRecord)) → Stands e h → GivesServedOnly h x → length (audit_at h x) ≤ MOST_AUDITED
     → shares ≡ map (share_at h x) (served h) → AllByRecursion (HasRoomIn e.subscriptions) shares → AllByRecursion AreStreamed shares → IsSmall (h ++ x ∷ [])
 small_given e h x shares so only noted are room streamable = record {
   listed = λ sub. omega (arith, so.small.listed sub, few sub, ap (λ (l : List DataRecord). length l) (disclosed-push sub h x), length-append (disclosed sub h) (given_at sub h x), length-append h (x ∷ []));
@@ -262,7 +262,7 @@ small_given e h x shares so only noted are room streamable = record {
 served_only : (session number : ℕ) (octets : List ℕ) (h : List Entry) → GivesServedOnly h (Message session number octets)
 served_only session number octets h sub off = given-unserved sub session number octets h off
 
-pub record TakesMessage (d e : Engine) (session : ℕ) (reading : Ahead) (shares : List (ℕ × List DataRecord)) (tallies : List (ℕ × List Count)) (entries : List AuditEntry) : Type 0 where
+pub record TakesMessage {Q : Type 0} (d e : Engine Q) (session : ℕ) (reading : Ahead) (shares : List (ℕ × List DataRecord)) (tallies : List (ℕ × List Count)) (entries : List AuditEntry) : Type 0 where
   pub in_force : e.in_force ≡ d.in_force
   pub edits : e.edits ≡ d.edits
   pub opened : e.opened ≡ d.opened
@@ -275,7 +275,7 @@ pub record TakesMessage (d e : Engine) (session : ℕ) (reading : Ahead) (shares
   pub adds : (q : ℕ) (before more : List Sample) → StandsForRecords (groups_at d.groups q) before → added_to q tallies ≡ map count_of more → StandsForRecords (groups_at e.groups q) (before ++ more)
   pub takes : TakesEntries d.audit.standing entries e.audit.standing
 
-pub message_step : (d e : Engine) (h : List Entry) (session number : ℕ) (octets : List ℕ) (reading : Ahead) (shares : List (ℕ × List DataRecord)) (tallies : List (ℕ × List Count)) (entries : List AuditEntry)
+pub message_step : {Q : Type 0} (d e : Engine Q) (h : List Entry) (session number : ℕ) (octets : List ℕ) (reading : Ahead) (shares : List (ℕ × List DataRecord)) (tallies : List (ℕ × List Count)) (entries : List AuditEntry)
     → Stands d h → IsBroughtBy d h session number octets (record { reading = reading; shares = shares; tallies = tallies; entries = entries }) → TakesMessage d e session reading shares tallies entries → Stands e (h ++ Message session number octets ∷ [])
 message_step d e h session number octets reading shares tallies entries so is did = record {
   policy = ap (λ (f : InForce). f.policy) did.in_force ∙ so.policy ∙ sym (policy-message h session number octets);
@@ -314,7 +314,7 @@ message_step d e h session number octets reading shares tallies entries so is di
         (subst (IsSession h q) (sym (did.others q (eqb-false q session here))) (so.sessions q))
 
 -- the places stay
-pub places_taken : (d e : Engine) (h : List Entry) (session : ℕ) (reading : Ahead) (shares : List (ℕ × List DataRecord)) (tallies : List (ℕ × List Count)) (entries : List AuditEntry) → Stands d h → TakesMessage d e session reading shares tallies entries → (sub : ℕ) → handed_place e sub ≡ handed_place d sub
+pub places_taken : {Q : Type 0} (d e : Engine Q) (h : List Entry) (session : ℕ) (reading : Ahead) (shares : List (ℕ × List DataRecord)) (tallies : List (ℕ × List Count)) (entries : List AuditEntry) → Stands d h → TakesMessage d e session reading shares tallies entries → (sub : ℕ) → handed_place e sub ≡ handed_place d sub
 places_taken d e h session reading shares tallies entries so did sub = at_one (given_to sub shares) (at d.subscriptions sub) (at e.subscriptions sub) (did.each sub) (so.subscriptions sub) where
   at_one : (more : List DataRecord) (old new : Option Subscription) → Related (TakesGiven more) old new → IsLiveAs h d.limits sub old → place_in new ≡ place_in old
   at_one more None None takes so = refl

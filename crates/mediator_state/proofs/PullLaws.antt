@@ -5,9 +5,11 @@ use Rattle.std.proofs.lemmas.Bool.{eqb-true, eq-eqb}
 use Rattle.subscriber_stream.specs.declared.limits.StreamLimits.{StreamLimits}
 use Rattle.subscriber_stream.specs.Standing.{StandsAt}
 use Rattle.subscriber_stream.specs.Message.{built, place_after}
+use Rattle.disclosure_audit.specs.Queue.{KeptAudit, StandsIn}
 use Rattle.event_journal.specs.declared.entry.Entry.{Entry}
 use Rattle.mediator_history.specs.Subscriptions.{is_live}
 use Rattle.mediator_history.specs.Disclosed.{disclosed}
+use Rattle.mediator_history.specs.Auditing.{audit_list}
 use Rattle.mediator_tables.specs.declared.subscription.Subscription.{Subscription}
 use Rattle.mediator_tables.specs.SubscriptionTable.{SubscriptionRows, at, SameTable, Related, PullsOne}
 use Rattle.mediator_state.specs.declared.engine.Engine.{Engine}
@@ -50,7 +52,7 @@ each_as t u h limits sub others all one q = by_number (q == sub) refl where
   by_number true is = subst (λ (n : ℕ). IsLiveAs h limits n (at u n)) (sym (eqb-true q sub is)) one
   by_number false is = subst (λ (o : Option Subscription). IsLiveAs h limits q o) (sym (others q (λ same. let at : (q == sub) ≡ true = eq-eqb q sub same in absurd cc))) (all q)
 
-pub pull_stands : (d : Engine) (t : SubscriptionRows) (h : List Entry) (sub now target : ℕ) (answer : Option (List ℕ)) → Stands d h → is_live sub h ≡ true → ((q : ℕ) → q ≢ sub → at t q ≡ at d.subscriptions q) → t.served ≡ d.subscriptions.served → Related (PullsOne now target answer) (at d.subscriptions sub) (at t sub) → Stands (record d { subscriptions = t }) h
+pub pull_stands : {Q : Type 0} (d : Engine Q) (t : SubscriptionRows) (h : List Entry) (sub now target : ℕ) (answer : Option (List ℕ)) → Stands d h → is_live sub h ≡ true → ((q : ℕ) → q ≢ sub → at t q ≡ at d.subscriptions q) → t.served ≡ d.subscriptions.served → Related (PullsOne now target answer) (at d.subscriptions sub) (at t sub) → Stands (record d { subscriptions = t }) h
 pull_stands d t h sub now target answer s live others served r = record {
   policy = s.policy;
   clock = s.clock;
@@ -67,18 +69,18 @@ pull_stands d t h sub now target answer s live others served r = record {
   small = s.small;
 }
 
-pub pulls : (d : Engine) (t : SubscriptionRows) (h : List Entry) (sub now target : ℕ) (answer : Option (List ℕ)) → Stands d h → is_live sub h ≡ true → Related (PullsOne now target answer) (at d.subscriptions sub) (at t sub) → PullsAfter d (record d { subscriptions = t }) sub now target answer h
+pub pulls : {Q : Type 0} (d : Engine Q) (t : SubscriptionRows) (h : List Entry) (sub now target : ℕ) (answer : Option (List ℕ)) → Stands d h → is_live sub h ≡ true → Related (PullsOne now target answer) (at d.subscriptions sub) (at t sub) → PullsAfter d (record d { subscriptions = t }) sub now target answer h
 pulls d t h sub now target answer s live r =
     let one : IsPulled h d.limits sub now target answer (at d.subscriptions sub) (at t sub) = pulled h d.limits sub now target answer (at d.subscriptions sub) (at t sub) live r (s.subscriptions sub) in
     record { live = live; message = one.message; moved = one.moved }
 
 -- the history stays
-pub pull_keeps : {C : Type 0} (tells : C → List Entry → Type 0) (old : State C) (t : SubscriptionRows) (h : List Entry) (sub now target : ℕ) (answer : Option (List ℕ)) → StateStandsFor tells old h → is_live sub h ≡ true → ((q : ℕ) → q ≢ sub → at t q ≡ at old.engine.subscriptions q) → t.served ≡ old.engine.subscriptions.served → Related (PullsOne now target answer) (at old.engine.subscriptions sub) (at t sub)
+pub pull_keeps : {C Q : Type 0} (tells : C → List Entry → Type 0) (old : State C Q) (t : SubscriptionRows) (h : List Entry) (sub now target : ℕ) (answer : Option (List ℕ)) → StateStandsFor tells old h → is_live sub h ≡ true → ((q : ℕ) → q ≢ sub → at t q ≡ at old.engine.subscriptions q) → t.served ≡ old.engine.subscriptions.served → Related (PullsOne now target answer) (at old.engine.subscriptions sub) (at t sub)
     → StateStandsFor tells (record { chronicle = old.chronicle; engine = record old.engine { subscriptions = t } }) h
 pull_keeps tells old t h sub now target answer s live others served r = record { told = s.told; stands = pull_stands old.engine t h sub now target answer s.stands live others served r }
 
 -- a table that is the same for all that contracts see
-pub same_table : (d : Engine) (t : SubscriptionRows) → SameTable d.subscriptions t → IsSameEngine d (record d { subscriptions = t })
+pub same_table : {Q : Type 0} (d : Engine Q) (t : SubscriptionRows) → SameTable d.subscriptions t → IsSameEngine d (record d { subscriptions = t })
 same_table d t same = record {
   in_force = refl;
   groups = λ n. refl;
@@ -92,5 +94,25 @@ same_table d t same = record {
   limits = refl;
 }
 
-pub pull_fails : {C : Type 0} (tells : C → List Entry → Type 0) (old : State C) (t : SubscriptionRows) (h : List Entry) → SameTable old.engine.subscriptions t → StateStandsFor tells old h → StateStandsFor tells (record { chronicle = old.chronicle; engine = record old.engine { subscriptions = t } }) h
+pub pull_fails : {C Q : Type 0} (tells : C → List Entry → Type 0) (old : State C Q) (t : SubscriptionRows) (h : List Entry) → SameTable old.engine.subscriptions t → StateStandsFor tells old h → StateStandsFor tells (record { chronicle = old.chronicle; engine = record old.engine { subscriptions = t } }) h
 pull_fails tells old t h same s = record { told = s.told; stands = stands_same old.engine (record old.engine { subscriptions = t }) h (same_table old.engine t same) s.stands }
+
+-- ---- drains
+
+-- another audit, which stands in the same list
+pub drain_stands : {Q : Type 0} (d : Engine Q) (a : KeptAudit) (h : List Entry) → Stands d h → StandsIn a.standing (audit_list h) → Stands (record d { audit = a }) h
+drain_stands d a h s audit = record {
+  policy = s.policy;
+  clock = s.clock;
+  edits = s.edits;
+  opened = s.opened;
+  begun = s.begun;
+  sessions = s.sessions;
+  subscriptions = s.subscriptions;
+  served_are = s.served_are;
+  groups = s.groups;
+  audit = audit;
+  limits = s.limits;
+  numbered = s.numbered;
+  small = s.small;
+}

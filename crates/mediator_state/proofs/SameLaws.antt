@@ -9,7 +9,7 @@ use Rattle.ipfix_session.specs.Standing.{SessionStanding, SessionStands as Holds
 use Rattle.subscriber_stream.specs.declared.limits.StreamLimits.{StreamLimits}
 use Rattle.subscriber_stream.specs.Shapes.{shapes_after}
 use Rattle.subscriber_stream.specs.Standing.{StreamStanding, StandsAt, HasStreamRoom, queue_size}
-use Rattle.disclosure_audit.specs.Queue.{StandsIn, AuditStanding as Audited}
+use Rattle.disclosure_audit.specs.Queue.{StandsIn, notes_for, most_notes, AuditStanding as Audited}
 use Rattle.disclosure_audit.specs.declared.entry.AuditEntry.{AuditEntry}
 use Rattle.event_journal.specs.declared.entry.Entry.{Entry}
 use Rattle.event_journal.specs.declared.entry.Entry.TheVariants.{Message}
@@ -31,7 +31,7 @@ use Rattle.mediator_state.specs.declared.plan.MessagePlan.{MessagePlan}
 use Rattle.mediator_tables.specs.Sessions.{IsSession}
 use Rattle.mediator_state.specs.Standing.{place, IsLiveAs, AreEngineLimits, Stands}
 use Rattle.mediator_state.specs.Seen.{place_in, waiting_in, waiting_of, IsUntouched, IsSameEngine}
-use Rattle.mediator_shares.specs.Noting.{kept_notes}
+use Rattle.disclosure_audit.specs.Noting.{kept_notes}
 use Rattle.mediator_state.specs.Planning.{HasRoomIn, IsJudged, IsPlan}
 
 some_same : {A : Type 0} (x y : A) → Some x ≡ Some y → x ≡ y
@@ -85,7 +85,7 @@ room_same more (Some s) (Some t) e is =
 
 -- ---- the engine
 
-pub stands_same : (d e : Engine) (h : List Entry) → IsSameEngine d e → Stands d h → Stands e h
+pub stands_same : {Q : Type 0} (d e : Engine Q) (h : List Entry) → IsSameEngine d e → Stands d h → Stands e h
 stands_same d e h same s = record {
   policy = ap (λ (f : InForce). f.policy) same.in_force ∙ s.policy;
   clock = ap (λ (f : InForce). f.clock) same.in_force ∙ s.clock;
@@ -102,7 +102,7 @@ stands_same d e h same s = record {
   small = s.small;
 }
 
-pub untouched_same : (d e : Engine) → IsSameEngine d e → IsUntouched d e
+pub untouched_same : {Q : Type 0} (d e : Engine Q) → IsSameEngine d e → IsUntouched d e
 untouched_same d e same = record {
   places = λ n. place_same (at d.subscriptions n) (at e.subscriptions n) (same.subscriptions.each n);
   drained = ap (λ (a : Audited). a.drained) same.audit;
@@ -110,7 +110,7 @@ untouched_same d e same = record {
   audit_limit = same.audit_limit;
 }
 
-pub untouched_after : (a b c : Engine) → IsUntouched a b → IsUntouched b c → IsUntouched a c
+pub untouched_after : {Q : Type 0} (a b c : Engine Q) → IsUntouched a b → IsUntouched b c → IsUntouched a c
 untouched_after a b c first then = record {
   places = λ n. then.places n ∙ first.places n;
   drained = then.drained ∙ first.drained;
@@ -118,16 +118,16 @@ untouched_after a b c first then = record {
   audit_limit = then.audit_limit ∙ first.audit_limit;
 }
 
-cut_by_same : (d e : Engine) (h : List Entry) (entry : Entry) → IsSameEngine d e → (sub : ℕ) → is_cut_by d.limits h entry (waiting_of d) sub ≡ is_cut_by e.limits h entry (waiting_of e) sub
+cut_by_same : {Q : Type 0} (d e : Engine Q) (h : List Entry) (entry : Entry) → IsSameEngine d e → (sub : ℕ) → is_cut_by d.limits h entry (waiting_of d) sub ≡ is_cut_by e.limits h entry (waiting_of e) sub
 cut_by_same d e h entry same sub =
     ap (λ (n : ℕ). overflows d.limits (disclosed sub h) n (given_at sub h entry)) (sym (waiting_same (at d.subscriptions sub) (at e.subscriptions sub) (same.subscriptions.each sub)))
     ∙ ap (λ (l : StreamLimits). overflows l (disclosed sub h) (waiting_of e sub) (given_at sub h entry)) (sym same.limits)
 
-rooms_same : (d e : Engine) → IsSameEngine d e → (shares : List (ℕ × List DataRecord)) → AllByRecursion (HasRoomIn d.subscriptions) shares → AllByRecursion (HasRoomIn e.subscriptions) shares
+rooms_same : {Q : Type 0} (d e : Engine Q) → IsSameEngine d e → (shares : List (ℕ × List DataRecord)) → AllByRecursion (HasRoomIn d.subscriptions) shares → AllByRecursion (HasRoomIn e.subscriptions) shares
 rooms_same d e same [] all = tt
 rooms_same d e same (s ∷ ss) all = (λ some. room_same s.1 (at d.subscriptions s.0) (at e.subscriptions s.0) (same.subscriptions.each s.0) (all.0 some), rooms_same d e same ss all.1)
 
-pub judged_same : (d e : Engine) (h : List Entry) (entry : Entry) (cuts : List ℕ) (shares : List (ℕ × List DataRecord)) (entries : List AuditEntry) → IsSameEngine d e → IsJudged d h entry cuts shares entries → IsJudged e h entry cuts shares entries
+pub judged_same : {Q : Type 0} (d e : Engine Q) (h : List Entry) (entry : Entry) (cuts : List ℕ) (shares : List (ℕ × List DataRecord)) (entries : List AuditEntry) → IsSameEngine d e → IsJudged d h entry cuts shares entries → IsJudged e h entry cuts shares entries
 judged_same d e h entry cuts shares entries same j = record {
   cuts_are = j.cuts_are ∙ filter_ext (is_cut_by d.limits h entry (waiting_of d)) (is_cut_by e.limits h entry (waiting_of e)) (cut_by_same d e h entry same) (served h);
   shares_are = j.shares_are;
@@ -136,13 +136,17 @@ judged_same d e h entry cuts shares entries same j = record {
   streamable = j.streamable;
 }
 
-pub plan_same : (d e : Engine) (h : List Entry) (number : ℕ) (octets : List ℕ) (p : MessagePlan) → IsSameEngine d e → IsPlan d h number octets p → IsPlan e h number octets p
+-- as many notes of a message are to be kept
+notes_same : {Q : Type 0} (d e : Engine Q) → IsSameEngine d e → most_notes e.audit ≡ most_notes d.audit
+notes_same d e same = ap (λ (a : Audited). notes_for a.entries e.audit.limit) same.audit ∙ ap (λ (n : ℕ). notes_for d.audit.standing.entries n) same.audit_limit
+
+pub plan_same : {Q : Type 0} (d e : Engine Q) (h : List Entry) (number : ℕ) (octets : List ℕ) (p : MessagePlan) → IsSameEngine d e → IsPlan d h number octets p → IsPlan e h number octets p
 plan_same d e h number octets p same plan = record {
   opened = plan.opened;
   turn = plan.turn;
   read = plan.read;
   named = plan.named;
-  kept = plan.kept ∙ ap (λ n. kept_notes n plan.named) (sym same.audit_limit);
+  kept = plan.kept ∙ ap (λ (n : ℕ). kept_notes n plan.named) (sym (notes_same d e same));
   judged = judged_same d e h (Message p.session.0 number octets) p.cuts.items _ _ same plan.judged;
   tallied_are = plan.tallied_are;
 }

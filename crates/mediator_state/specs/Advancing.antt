@@ -25,12 +25,12 @@ pub record AreParted (t : SubscriptionRows) (all : List (ℕ × List DataRecord)
   pub leaving : left ≡ filter (λ s. not (lacks_room_at t s)) all
 
 -- room was made for what an advance does
-pub record HasRoomToClose (e : Engine) (c : Closing) : Type 0 where
+pub record HasRoomToClose {Q : Type 0} (e : Engine Q) (c : Closing) : Type 0 where
   pub audit : HasAuditFor e.audit (length c.cuts.items) (length c.cuts.items)
   pub streams : AllByRecursion (HasSpare e.subscriptions.live) (map shown c.shares.items)
 
 -- this is what an advance to t does behind some history of so many entries
-pub record IsClosingFor (e : Engine) (position t : ℕ) (c : Closing) : Type 0 where
+pub record IsClosingFor {Q : Type 0} (e : Engine Q) (position t : ℕ) (c : Closing) : Type 0 where
   pub history : List Entry
   pub stands : Stands e history
   pub counted : length history ≡ position
@@ -38,13 +38,13 @@ pub record IsClosingFor (e : Engine) (position t : ℕ) (c : Closing) : Type 0 w
   pub judged : IsJudged e history (Advance t) c.cuts.items (map shown c.shares.items) []
 
 -- the streams have room for these shares
-pub record IsReadyToClose (e : Engine) (shares : List (ℕ × List DataRecord)) : Type 0 where
+pub record IsReadyToClose {Q : Type 0} (e : Engine Q) (shares : List (ℕ × List DataRecord)) : Type 0 where
   pub history : List Entry
   pub stands : Stands e history
   pub streams : AreReady e.subscriptions shares
 
 -- this is what an advance to t closes behind a history
-pub record AreClosings (e : Engine) (h : List Entry) (t : ℕ) (shares : List (ℕ × List DataRecord)) : Type 0 where
+pub record AreClosings {Q : Type 0} (e : Engine Q) (h : List Entry) (t : ℕ) (shares : List (ℕ × List DataRecord)) : Type 0 where
   pub shares_are : shares ≡ map (share_at h (Advance t)) (served h)
   pub room : AllByRecursion (HasRoomIn e.subscriptions) shares
   pub streamable : AllByRecursion AreStreamed shares

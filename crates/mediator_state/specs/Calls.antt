@@ -7,12 +7,9 @@ use Rattle.prepared_message.specs.Preparation.{Preparation, AgreesWith}
 use Rattle.policy_text.specs.Policies.{PolicyMeaning as Policy}
 use Rattle.policy_text.specs.Parsing.{policy_of}
 use Rattle.policy_text.specs.Naming.{is_name}
-use Rattle.subscriber_stream.specs.declared.limits.TheConstants.{MOST_QUEUE, MOST_SHAPES}
-use Rattle.subscriber_stream.specs.declared.limits.StreamLimits.{StreamLimits}
 use Rattle.subscriber_stream.specs.Shapes.{shapes_of}
 use Rattle.subscriber_stream.specs.Parts.{parts, records_of_parts}
 use Rattle.subscriber_stream.specs.Message.{built, place_after}
-use Rattle.disclosure_audit.specs.declared.audit.TheConstants.{MOST_ENTRIES as MOST_AUDITED}
 use Rattle.disclosure_audit.specs.declared.entry.AuditEntry.{AuditEntry}
 use Rattle.event_journal.specs.Sizes.{history_octets}
 use Rattle.event_journal.specs.declared.entry.Entry.{Entry}
@@ -35,54 +32,47 @@ use Rattle.mediator_state.specs.Seen.{handed_place, waiting_of, IsUntouched}
 use Rattle.mediator_state.specs.Planning.{IsNext, RefusesMessage}
 use Rattle.mediator_state.specs.Accepting.{receipt_of}
 
--- what the stream of each subscription may hold, and how many audit entries may wait
-pub record AreStateLimits (streams : StreamLimits) (audit : ℕ) : Type 0 where
-  pub queue : streams.queue ≤ MOST_QUEUE
-  pub shapes : streams.shapes ≤ MOST_SHAPES
-  pub least : 1 ≤ audit
-  pub most : audit ≤ MOST_AUDITED
-
 -- the state stands for the history, which what keeps it tells
-pub record StateStandsFor {C : Type 0} (tells : C → List Entry → Type 0) (s : State C) (h : List Entry) : Type 0 where
+pub record StateStandsFor {C Q : Type 0} (tells : C → List Entry → Type 0) (s : State C Q) (h : List Entry) : Type 0 where
   pub told : tells s.chronicle h
   pub stands : Stands s.engine h
 
-pub record StandsForSome {C : Type 0} (tells : C → List Entry → Type 0) (s : State C) : Type 0 where
+pub record StandsForSome {C Q : Type 0} (tells : C → List Entry → Type 0) (s : State C Q) : Type 0 where
   pub history : List Entry
   pub stands : StateStandsFor tells s history
 
 -- whichever history the state stands for, this holds of it
-abbrev pub ForEachHistory : {C : Type 0} → (C → List Entry → Type 0) → State C → (List Entry → Type 0) → Type 0
+abbrev pub ForEachHistory : {C Q : Type 0} → (C → List Entry → Type 0) → State C Q → (List Entry → Type 0) → Type 0
 ForEachHistory tells s P = (h : List Entry) → StateStandsFor tells s h → P h
 
 -- the new state stands for each history that the old one stood for
-abbrev pub KeepsHistories : {C : Type 0} → (C → List Entry → Type 0) → State C → State C → Type 0
+abbrev pub KeepsHistories : {C Q : Type 0} → (C → List Entry → Type 0) → State C Q → State C Q → Type 0
 KeepsHistories tells old new = ForEachHistory tells old (StateStandsFor tells new)
 
 -- a step: behind the history there was room for these entries, and the new state stands for it with them
-pub record Accepts {C : Type 0} (tells : C → List Entry → Type 0) (limits : C → JournalLimits) (old new : State C) (h more : List Entry) : Type 0 where
+pub record Accepts {C Q : Type 0} (tells : C → List Entry → Type 0) (limits : C → JournalLimits) (old new : State C Q) (h more : List Entry) : Type 0 where
   pub room : HasRoomAfter (limits old.chronicle) h more
   pub stands : StateStandsFor tells new (h ++ more)
 
 -- whichever history the state stood for, this holds of it, and of the entries that were accepted behind it
-abbrev pub GoesOnBy : {C : Type 0} → (C → List Entry → Type 0) → (C → JournalLimits) → State C → State C → (List Entry → (List Entry → Type 0) → Type 0) → Type 0
+abbrev pub GoesOnBy : {C Q : Type 0} → (C → List Entry → Type 0) → (C → JournalLimits) → State C Q → State C Q → (List Entry → (List Entry → Type 0) → Type 0) → Type 0
 GoesOnBy tells limits old new P = ForEachHistory tells old (λ h. P h (Accepts tells limits old new h))
 
 -- a call that is accepted goes on so, hands out and drains nothing, and leaves the limits
-pub record Proceeds {C : Type 0} (tells : C → List Entry → Type 0) (limits : C → JournalLimits) (old new : State C) (P : List Entry → (List Entry → Type 0) → Type 0) : Type 0 where
+pub record Proceeds {C Q : Type 0} (tells : C → List Entry → Type 0) (limits : C → JournalLimits) (old new : State C Q) (P : List Entry → (List Entry → Type 0) → Type 0) : Type 0 where
   pub goes_on : GoesOnBy tells limits old new P
   pub untouched : IsUntouched old.engine new.engine
   pub journaled : limits new.chronicle ≡ limits old.chronicle
 
 -- one that is refused changes nothing that contracts see
-pub record StaysSame {C : Type 0} (tells : C → List Entry → Type 0) (limits : C → JournalLimits) (old new : State C) : Type 0 where
+pub record StaysSame {C Q : Type 0} (tells : C → List Entry → Type 0) (limits : C → JournalLimits) (old new : State C Q) : Type 0 where
   pub histories : KeepsHistories tells old new
   pub untouched : IsUntouched old.engine new.engine
   pub journaled : limits new.chronicle ≡ limits old.chronicle
 
 -- what waits to be drained is no more than the audit's limit, before these entries behind a history and with what it names of them
-pub record AuditHoldsAfter (e : Engine) (h more : List Entry) : Type 0 where
-  pub before : length e.audit.standing.entries ≤ e.audit.limit
+pub record AuditHoldsAfter {Q : Type 0} (e : Engine Q) (h more : List Entry) : Type 0 where
+  pub before : e.audit.standing.waiting ≤ e.audit.limit
   pub after : length (drop e.audit.standing.drained (audit_list (h ++ more))) ≤ e.audit.limit
 
 -- behind so many entries of so many octets there is no room for these; or there is, and memory ran out
@@ -119,11 +109,11 @@ RefusesClose e limits h session = (is_open session h ≡ true) × LacksRoomAfter
 -- ---- messages
 
 -- the cuts that a message or an advance of the clock makes, and the entry itself
-abbrev pub with_cuts_after : Engine → List Entry → Entry → List Entry
+abbrev pub with_cuts_after : {Q : Type 0} → Engine Q → List Entry → Entry → List Entry
 with_cuts_after e h entry = cuts_before e.limits h entry (waiting_of e) ++ entry ∷ []
 
 -- the message is the next of its session, the audit holds it, it and its cuts are accepted, and this is its receipt
-pub record ReceivesAfter (e : Engine) (session number : ℕ) (octets : List ℕ) (r : Receipt) (h : List Entry) (accepted : List Entry → Type 0) : Type 0 where
+pub record ReceivesAfter {Q : Type 0} (e : Engine Q) (session number : ℕ) (octets : List ℕ) (r : Receipt) (h : List Entry) (accepted : List Entry → Type 0) : Type 0 where
   pub next : IsNext h session number
   pub meaning : Meaning
   pub means : meaning_of (messages_of session h) octets ≡ Ok meaning
@@ -137,18 +127,18 @@ pub record HasMeaning (h : List Entry) (session : ℕ) (octets : List ℕ) : Typ
   pub means : meaning_of (messages_of session h) octets ≡ Ok meaning
 
 -- first its own refusals, then the journal is judged, and then the audit, whose need and room are told
-abbrev pub RefusesReceiveAfter : Fault → JournalLimits → Engine → List Entry → ℕ → ℕ → List ℕ → Type 0
+abbrev pub RefusesReceiveAfter : {Q : Type 0} → Fault → JournalLimits → Engine Q → List Entry → ℕ → ℕ → List ℕ → Type 0
 RefusesReceiveAfter fault.JournalFull limits e h session number octets =
     IsNext h session number × HasMeaning h session octets × (HasRoomAfter limits h (with_cuts_after e h (Message session number octets)) → ⊥)
 RefusesReceiveAfter (fault.AuditFull need room) limits e h session number octets =
     IsNext h session number × HasMeaning h session octets × HasRoomAfter limits h (with_cuts_after e h (Message session number octets))
     × ((noted : List AuditEntry) × (audit_list (h ++ with_cuts_after e h (Message session number octets)) ≡ audit_list h ++ noted) × (need ≡ length noted))
-    × (room + length e.audit.standing.entries ≡ e.audit.limit) × (room < need)
+    × (room + e.audit.standing.waiting ≡ e.audit.limit) × (room < need)
 RefusesReceiveAfter why limits e h session number octets = RefusesMessage why h session number octets
 
 -- what is received of a message that was prepared elsewhere: refused as the message itself is, but never for its octets, and
 -- where the session has other templates than those by which it was prepared
-abbrev pub RefusesReceivePreparedAfter : Fault → JournalLimits → Engine → List Entry → ℕ → ℕ → Preparation → Type 0
+abbrev pub RefusesReceivePreparedAfter : {Q : Type 0} → Fault → JournalLimits → Engine Q → List Entry → ℕ → ℕ → Preparation → Type 0
 RefusesReceivePreparedAfter fault.Stale limits e h session number p = IsNext h session number × (AgreesWith (messages_of session h) p → ⊥)
 RefusesReceivePreparedAfter (fault.Malformed why) limits e h session number p = ⊥
 RefusesReceivePreparedAfter why limits e h session number p = RefusesReceiveAfter why limits e h session number p.message
@@ -166,20 +156,20 @@ RefusesSnapshot _ h session = ⊥
 -- ---- the clock
 
 -- the time isn't before that of the last advance, the audit holds the advance's cuts, and both are accepted
-pub record AdvancesAfter (e : Engine) (t : ℕ) (h : List Entry) (accepted : List Entry → Type 0) : Type 0 where
+pub record AdvancesAfter {Q : Type 0} (e : Engine Q) (t : ℕ) (h : List Entry) (accepted : List Entry → Type 0) : Type 0 where
   pub ahead : clock_of h ≤ t
   pub audit : AuditHoldsAfter e h (with_cuts_after e h (Advance t))
   pub accepts : accepted (with_cuts_after e h (Advance t))
 
 -- the clock stands later; else the journal is judged, and then the audit, whose need and room are told; memory runs out only where
 -- the clock doesn't stand later
-abbrev pub RefusesAdvanceAfter : Fault → JournalLimits → Engine → List Entry → ℕ → Type 0
+abbrev pub RefusesAdvanceAfter : {Q : Type 0} → Fault → JournalLimits → Engine Q → List Entry → ℕ → Type 0
 RefusesAdvanceAfter (fault.ClockBack last) limits e h t = (last ≡ clock_of h) × (t < last)
 RefusesAdvanceAfter fault.JournalFull limits e h t = (clock_of h ≤ t) × (HasRoomAfter limits h (with_cuts_after e h (Advance t)) → ⊥)
 RefusesAdvanceAfter (fault.AuditFull need room) limits e h t =
     (clock_of h ≤ t) × HasRoomAfter limits h (with_cuts_after e h (Advance t))
     × ((noted : List AuditEntry) × (audit_list (h ++ with_cuts_after e h (Advance t)) ≡ audit_list h ++ noted) × (need ≡ length noted))
-    × (room + length e.audit.standing.entries ≡ e.audit.limit) × (room < need)
+    × (room + e.audit.standing.waiting ≡ e.audit.limit) × (room < need)
 RefusesAdvanceAfter fault.OutOfMemory limits e h t = clock_of h ≤ t
 RefusesAdvanceAfter _ limits e h t = ⊥
 
@@ -236,7 +226,7 @@ RefusesUnsubscribe e limits h sub = (is_live sub h ≡ true) × LacksRoomAfter e
 -- ---- what is handed out
 
 -- the message built at the place up to which the parts of what is disclosed were handed out, which then moves past it
-pub record PullsAfter (old new : Engine) (sub now target : ℕ) (answer : Option (List ℕ)) (h : List Entry) : Type 0 where
+pub record PullsAfter {Q : Type 0} (old new : Engine Q) (sub now target : ℕ) (answer : Option (List ℕ)) (h : List Entry) : Type 0 where
   pub live : is_live sub h ≡ true
   pub message : answer ≡ built (disclosed sub h) (handed_place old sub) now target
   pub moved : handed_place new sub ≡ place_after (disclosed sub h) (handed_place old sub) target

@@ -10,7 +10,8 @@ use Rattle.subscriber_stream.specs.Standing.{HasStreamRoom}
 use Rattle.stream_meaning.specs.Served.{IsStreamable}
 use Rattle.disclosure_audit.specs.declared.entry.AuditEntry.{AuditEntry}
 use Rattle.disclosure_audit.specs.declared.entry.Note.{Note}
-use Rattle.disclosure_audit.specs.Queue.{stamp}
+use Rattle.disclosure_audit.specs.Noting.{kept_notes}
+use Rattle.disclosure_audit.specs.Queue.{stamp, most_notes}
 use Rattle.event_journal.specs.declared.entry.Entry.{Entry}
 use Rattle.event_journal.specs.declared.entry.Entry.TheVariants.{Message}
 use Rattle.mediator_history.specs.Sessions.{is_open, messages_of}
@@ -24,7 +25,6 @@ use Rattle.mediator_shares.specs.InForce.{InForce}
 use Rattle.mediator_tables.specs.SubscriptionTable.{shown}
 use Rattle.mediator_tables.specs.Adding.{tallied}
 use Rattle.mediator_shares.specs.Sharing.{share_of}
-use Rattle.mediator_shares.specs.Noting.{kept_notes}
 use Rattle.mediator_tables.specs.declared.open_session.OpenSession.{OpenSession}
 use Rattle.mediator_tables.specs.SubscriptionTable.{SubscriptionRows, at, lacks_room_at}
 use Rattle.prepared_message.specs.Preparation.{Preparation, AgreesWith}
@@ -63,35 +63,35 @@ abbrev pub AreStreamed : ℕ × List DataRecord → Type 0
 AreStreamed share = AllByRecursion IsStreamable share.1
 
 -- an entry behind a history cuts these, gives these shares to those that are left, and the audit names these of it
-pub record IsJudged (e : Engine) (h : List Entry) (entry : Entry) (cuts : List ℕ) (shares : List (ℕ × List DataRecord)) (entries : List AuditEntry) : Type 0 where
+pub record IsJudged {Q : Type 0} (e : Engine Q) (h : List Entry) (entry : Entry) (cuts : List ℕ) (shares : List (ℕ × List DataRecord)) (entries : List AuditEntry) : Type 0 where
   pub cuts_are : cuts ≡ filter (is_cut_by e.limits h entry (waiting_of e)) (served h)
   pub shares_are : shares ≡ map (share_at (after_cuts h cuts) entry) (served (after_cuts h cuts))
   pub entries_are : entries ≡ audit_at (after_cuts h cuts) entry
   pub room : AllByRecursion (HasRoomIn e.subscriptions) shares
   pub streamable : AllByRecursion AreStreamed shares
 
--- and this it names, of which is kept what the audit may hold
-pub record IsJudgedAs (e : Engine) (h : List Entry) (entry : Entry) (j : Judged) : Type 0 where
+-- and this it names, of which is kept what the audit is to keep
+pub record IsJudgedAs {Q : Type 0} (e : Engine Q) (h : List Entry) (entry : Entry) (j : Judged) : Type 0 where
   pub named : List Note
-  pub kept : j.notes ≡ kept_notes e.audit.limit named
+  pub kept : j.notes ≡ kept_notes (most_notes e.audit) named
   pub judged : IsJudged e h entry j.cuts.items (map shown j.shares.items) (map (stamp j.position) named)
   pub tallied_are : AreTallied (after_cuts h j.cuts.items) entry (map tallied j.tallies.items)
 
-abbrev pub IsJudgedFor : Engine → List Entry → Meaning → Judged → Type 0
+abbrev pub IsJudgedFor : {Q : Type 0} → Engine Q → List Entry → Meaning → Judged → Type 0
 IsJudgedFor e h m j = (session number : ℕ) (octets : List ℕ) → meaning_of (messages_of session h) octets ≡ Ok m → IsJudgedAs e h (Message session number octets) j
 
 -- what a message would do behind a history
-pub record IsPlan (e : Engine) (h : List Entry) (number : ℕ) (octets : List ℕ) (p : MessagePlan) : Type 0 where
+pub record IsPlan {Q : Type 0} (e : Engine Q) (h : List Entry) (number : ℕ) (octets : List ℕ) (p : MessagePlan) : Type 0 where
   pub opened : is_open p.session.0 h ≡ true
   pub turn : number ≡ length (messages_of p.session.0 h)
   pub read : IsReadingOf (messages_of p.session.0 h) octets p.reading
   pub named : List Note
-  pub kept : p.notes ≡ kept_notes e.audit.limit named
+  pub kept : p.notes ≡ kept_notes (most_notes e.audit) named
   pub judged : IsJudged e h (Message p.session.0 number octets) p.cuts.items (map shown p.shares.items) (map (stamp p.position) named)
   pub tallied_are : AreTallied (after_cuts h p.cuts.items) (Message p.session.0 number octets) (map tallied p.tallies.items)
 
 -- the session is open, and this is the number of its next message
-pub record IsInTurn (e : Engine) (session number : ℕ) (o : OpenSession) : Type 0 where
+pub record IsInTurn {Q : Type 0} (e : Engine Q) (session number : ℕ) (o : OpenSession) : Type 0 where
   pub is : IsSomeAnd (at_key session e.sessions) (λ s. s ≡ o)
   pub turn : number ≡ o.accepted
 

@@ -15,7 +15,7 @@ place_in None = 0
 place_in (Some s) = place s.stream.standing
 
 -- the place up to which a live subscription's parts were handed out
-abbrev pub handed_place : Engine → ℕ → ℕ
+abbrev pub handed_place : {Q : Type 0} → Engine Q → ℕ → ℕ
 handed_place e sub = place_in (at e.subscriptions sub)
 
 abbrev pub waiting_in : Option Subscription → ℕ
@@ -23,18 +23,18 @@ waiting_in None = 0
 waiting_in (Some s) = queue_size s.stream.standing
 
 -- how many records wait for a live subscription
-abbrev pub waiting_of : Engine → ℕ → ℕ
+abbrev pub waiting_of : {Q : Type 0} → Engine Q → ℕ → ℕ
 waiting_of e sub = waiting_in (at e.subscriptions sub)
 
 -- nothing is handed out or drained, and the limits stay
-pub record IsUntouched (old new : Engine) : Type 0 where
+pub record IsUntouched {Q : Type 0} (old new : Engine Q) : Type 0 where
   pub places : (sub : ℕ) → handed_place new sub ≡ handed_place old sub
   pub drained : new.audit.standing.drained ≡ old.audit.standing.drained
   pub limits : new.limits ≡ old.limits
   pub audit_limit : new.audit.limit ≡ old.audit.limit
 
 -- the same, whatever room is reserved
-pub record IsSameEngine (old new : Engine) : Type 0 where
+pub record IsSameEngine {Q : Type 0} (old new : Engine Q) : Type 0 where
   pub in_force : new.in_force ≡ old.in_force
   pub edits : new.edits ≡ old.edits
   pub opened : new.opened ≡ old.opened

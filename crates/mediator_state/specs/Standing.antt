@@ -68,7 +68,7 @@ pub record AreEngineLimits (limits : StreamLimits) : Type 0 where
   pub queue : limits.queue ≤ MOST_QUEUE
   pub shapes : limits.shapes ≤ MOST_SHAPES
 
-pub record Stands (e : Engine) (h : List Entry) : Type 0 where
+pub record Stands {Q : Type 0} (e : Engine Q) (h : List Entry) : Type 0 where
   pub policy : e.in_force.policy ≡ policy_in_force h
   pub clock : e.in_force.clock ≡ clock_of h
   pub edits : e.edits ≡ edits_made h
@@ -84,16 +84,16 @@ pub record Stands (e : Engine) (h : List Entry) : Type 0 where
   pub small : IsSmall h
 
 -- so it does for some history of so many entries
-pub record StandsSomewhere (e : Engine) (count : ℕ) : Type 0 where
+pub record StandsSomewhere {Q : Type 0} (e : Engine Q) (count : ℕ) : Type 0 where
   pub history : List Entry
   pub stands : Stands e history
   pub counted : length history ≡ count
 
 -- so it does for some history
-pub record HasHistory (e : Engine) : Type 0 where
+pub record HasHistory {Q : Type 0} (e : Engine Q) : Type 0 where
   pub history : List Entry
   pub stands : Stands e history
 
 -- the new engine stands for each history that the old one stood for, with these entries behind it
-abbrev pub GoesOnWith : List Entry → Engine → Engine → Type 0
+abbrev pub GoesOnWith : {Q : Type 0} → List Entry → Engine Q → Engine Q → Type 0
 GoesOnWith more old new = (h : List Entry) → Stands old h → Stands new (h ++ more)

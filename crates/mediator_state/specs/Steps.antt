@@ -11,12 +11,12 @@ use Rattle.mediator_state.specs.declared.engine.Engine.{Engine}
 
 -- the audit has room for so many entries, in memory too
 pub record HasAuditRoom (audit : KeptAudit) (more : ℕ) : Type 0 where
-  pub room : length audit.standing.entries + more ≤ audit.limit
+  pub room : audit.standing.waiting + more ≤ audit.limit
   pub reserved : more ≤ audit.spare
-  pub count : audit.standing.drained + length audit.standing.entries + more < 2 ^ 64
+  pub count : audit.standing.drained + audit.standing.waiting + more < 2 ^ 64
 
 -- policy, clock, counts, sessions and limits stay
-pub record KeepsRest (old new : Engine) : Type 0 where
+pub record KeepsRest {Q : Type 0} (old new : Engine Q) : Type 0 where
   pub in_force : new.in_force ≡ old.in_force
   pub edits : new.edits ≡ old.edits
   pub opened : new.opened ≡ old.opened
@@ -27,19 +27,19 @@ pub record KeepsRest (old new : Engine) : Type 0 where
   pub drained : new.audit.standing.drained ≡ old.audit.standing.drained
 
 -- one subscription more is cut, and the audit has an entry more
-pub record IsCutOnce (number : ℕ) (old new : Engine) : Type 0 where
+pub record IsCutOnce {Q : Type 0} (number : ℕ) (old new : Engine Q) : Type 0 where
   pub rest : KeepsRest old new
   pub table : (q : ℕ) → at new.subscriptions q ≡ (if q == number then option_map cut_off (at old.subscriptions q) else at old.subscriptions q)
   pub groups : (q : ℕ) → held_at new.groups q ≡ (if q == number then nothing_held else held_at old.groups q)
   pub places : keys_of new.groups ≡ keys_of old.groups
-  pub entries : length new.audit.standing.entries ≡ length old.audit.standing.entries + 1
+  pub entries : new.audit.standing.waiting ≡ old.audit.standing.waiting + 1
   pub spare : new.audit.spare + 1 ≡ old.audit.spare
 
 -- these are cut
-pub record CutsInARow (numbers : List ℕ) (old new : Engine) : Type 0 where
+pub record CutsInARow {Q : Type 0} (numbers : List ℕ) (old new : Engine Q) : Type 0 where
   pub rest : KeepsRest old new
   pub table : (q : ℕ) → at new.subscriptions q ≡ (if is_in q numbers then option_map cut_off (at old.subscriptions q) else at old.subscriptions q)
   pub groups : (q : ℕ) → held_at new.groups q ≡ (if is_in q numbers then nothing_held else held_at old.groups q)
   pub places : keys_of new.groups ≡ keys_of old.groups
-  pub entries : length new.audit.standing.entries ≡ length old.audit.standing.entries + length numbers
+  pub entries : new.audit.standing.waiting ≡ old.audit.standing.waiting + length numbers
   pub spare : new.audit.spare + length numbers ≡ old.audit.spare

@@ -6,6 +6,7 @@ ghost use Rattle.mediator_tables.specs.SubscriptionTable.{shown};
 
 use crate::engine::Engine;
 use crate::plan::shares_for_proof;
+use disclosure_audit::AuditQueue;
 use mediator_tables::{Served, Share, SubId};
 use std::alloc::{AllocError, Global};
 
@@ -18,7 +19,7 @@ pub(crate) struct Closing {
     pub(crate) shares: Vec<Share>,
 }
 
-impl Engine {
+impl<Q: AuditQueue + Drop> Engine<Q> {
     ghost use Rattle.mediator_tables.specs.SubscriptionTable.{told};
     ghost use Rattle.mediator_state.specs.Standing.{Stands};
     ghost use Rattle.mediator_state.specs.Planning.{IsJudged};

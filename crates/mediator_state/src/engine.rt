@@ -4,8 +4,9 @@ ghost use Rattle.std.specs.List.{AllByRecursion};
 ghost use Rattle.policy_text.specs.Parsing.{policy_of};
 ghost use Rattle.mediator_shares.specs.InForce.{in_force_with};
 ghost use Rattle.policy_text.specs.Naming.{is_name};
-ghost use Rattle.disclosure_audit.specs.Queue.{stamp};
-ghost use Rattle.disclosure_audit.specs.declared.audit.TheConstants.{MOST_ENTRIES as MOST_AUDITED};
+ghost use Rattle.disclosure_audit.specs.Noting.{kept_notes};
+ghost use Rattle.disclosure_audit.specs.Queue.{stamp, most_notes, StandsIn};
+ghost use Rattle.disclosure_audit.specs.declared.entry.Note.{Note};
 ghost use Rattle.event_journal.specs.declared.limits.TheConstants.{MOST_ENTRIES};
 ghost use Rattle.event_journal.specs.declared.entry.Entry.{Entry};
 ghost use Rattle.event_journal.specs.declared.entry.Entry.TheVariants.{Open, Close, Message, Edit, Subscribe, Unsubscribe, Cut};
@@ -17,7 +18,7 @@ use crate::closing::Closing;
 use crate::fault::Fault;
 use crate::plan::MessagePlan;
 use crate::receipt::Receipt;
-use disclosure_audit::{Audit, AuditEntry, Note, What};
+use disclosure_audit::{Audit, AuditEntry, AuditQueue, Notes, What};
 use hash_keys::HashKeys;
 use ipfix_session::Reading;
 use mediator_shares::{InForce, Terms};
@@ -29,8 +30,8 @@ use std::sync::Arc;
 use subscriber_stream::{Stream, StreamLimits};
 
 /// What a mediator keeps beside its history. Contracts say by `Stands` for which histories it stands. Its calls change
-/// it by one entry, or by none.
-pub(crate) struct Engine {
+/// it by one entry, or by none. It is generic over what keeps the entries of the audit, or counts them.
+pub(crate) struct Engine<Q: AuditQueue> {
     pub(crate) alloc: Global,
     /// By what tables are hashed whose entries exporters choose.
     keys: HashKeys,
@@ -51,12 +52,12 @@ pub(crate) struct Engine {
     /// How many subscriptions began.
     begun: u64,
     /// The entries of the audit that wait to be handed out.
-    pub(crate) audit: Audit,
+    pub(crate) audit: Audit<Q>,
     /// What decided when a snapshot was taken last, for the next one. It decides nothing here.
     terms: Option<Arc<Terms>>,
 }
 
-impl Drop for Engine {
+impl<Q: AuditQueue + Drop> Drop for Engine<Q> {
     // Written out: a derived one is proved anew in each crate that drops such a value.
     fn drop(self) {
         let Engine {
@@ -76,7 +77,7 @@ impl Drop for Engine {
     }
 }
 
-impl Engine {
+impl<Q: AuditQueue + Drop> Engine<Q> {
     ghost use Rattle.mediator_tables.specs.SubscriptionTable.{at};
     ghost use Rattle.mediator_state.specs.Standing.{Stands, GoesOnWith, StandsSomewhere, HasHistory, AreEngineLimits};
     ghost use Rattle.mediator_state.specs.Seen.{IsSameEngine, IsUntouched, handed_place};
@@ -84,20 +85,22 @@ impl Engine {
     ghost use Rattle.std.specs.Prelude.{IfErr};
 
     /// What is kept before any entry: no session and no subscription, a policy without rules, and the clock at 0. The
-    /// stream of each subscription may hold what `limits` say, and at most `audit` audit entries may wait. All of it is
-    /// in memory from `alloc`.
+    /// stream of each subscription may hold what `limits` say, and `audit` was given nothing yet. All else is in memory
+    /// from `alloc`.
     ///
     /// # Errors
     /// Want of memory.
-    pub(crate) fn new(alloc: Global, limits: StreamLimits, audit: u32) -> Result<Engine, AllocError>
+    pub(crate) fn new(
+        alloc: Global,
+        limits: StreamLimits,
+        audit: Audit<Q>,
+    ) -> Result<Engine<Q>, AllocError>
         requires range { AreEngineLimits limits }
-        requires least { 1 ≤ audit }
-        requires most { audit ≤ MOST_AUDITED }
+        requires fresh { StandsIn audit.standing [] }
         // It stands for the history without an entry, within these limits.
         ensures stands { IfOk result (λ e. Stands e []) }
-        ensures drained { IfOk result (λ e. e.audit.standing.drained ≡ 0) }
         ensures limits { IfOk result (λ e. e.limits ≡ limits) }
-        ensures audit_limit { IfOk result (λ e. e.audit.limit ≡ audit) }
+        ensures audit { IfOk result (λ e. e.audit ≡ audit) }
     {
         Ok(Engine {
             alloc,
@@ -110,7 +113,7 @@ impl Engine {
             subscriptions: Subscriptions::new(alloc),
             groups: RunningGroups::new(alloc),
             begun: 0,
-            audit: Audit::new(alloc, audit),
+            audit,
             terms: None,
         })
     }
@@ -181,7 +184,7 @@ impl Engine {
         ensures unchanged { IsSameEngine self.old self.new }
     {
         let served = self.subscriptions.served()?;
-        let most = u64::from(self.audit.limit());
+        let most = u64::from(self.audit.most_notes());
         if let Some(terms) = &self.terms {
             if terms.are(&self.in_force, &served, most) {
                 return terms.clone();
@@ -289,7 +292,7 @@ impl Engine {
     }
 }
 
-impl Engine {
+impl<Q: AuditQueue + Drop> Engine<Q> {
     ghost use Rattle.mediator_state.specs.Standing.{Stands, GoesOnWith};
     ghost use Rattle.mediator_state.specs.Seen.{handed_place};
     ghost use Rattle.mediator_tables.specs.SubscriptionTable.{cut_off};
@@ -318,6 +321,8 @@ impl Engine {
         ensures stands { (h : List Entry) → Stands self.old h → length h ≡ position
             → Stands self.new (h ++ Cut sub.0 ∷ []) }
         ensures once { IsCutOnce sub.0 self.old self.new }
+        // As many notes of a message are to be kept as before.
+        ensures notes { most_notes self.new.audit ≡ most_notes self.old.audit }
     {
         self.subscriptions.cut(sub);
         self.groups.remove(sub);
@@ -337,6 +342,7 @@ impl Engine {
         ensures stands { (h : List Entry) → Stands self.old h → length h ≡ position
             → Stands self.new (after_cuts h numbers.now) }
         ensures row { CutsInARow numbers.now self.old self.new }
+        ensures notes { most_notes self.new.audit ≡ most_notes self.old.audit }
     {
         'cuts: for (place, number) in numbers.iter().enumerate() {
             self.cut(position + place as u64, SubId(*number));
@@ -344,7 +350,7 @@ impl Engine {
     }
 }
 
-impl Engine {
+impl<Q: AuditQueue + Drop> Engine<Q> {
     ghost use Rattle.mediator_state.specs.Standing.{Stands};
     ghost use Rattle.mediator_state.specs.Seen.{IsSameEngine, IsUntouched};
     ghost use Rattle.ipfix_session.specs.Keeping.{at_key};
@@ -434,13 +440,14 @@ impl Engine {
             plan.shares,
             reserved,
             plan.position,
-            plan.notes.into_kept(),
+            plan.notes,
         );
         receipt
     }
 
     /// Takes in the message at `position`, in room that was made for it: `reading` is what it means to the session with
-    /// the number `session`, `shares` what it gives, `reserved` what it counts, and `notes` what the audit names of it.
+    /// the number `session`, `shares` what it gives, `reserved` what it counts, and `notes` what the audit is to keep
+    /// and to count of it.
     fn take(
         &mut self,
         session: SessionId,
@@ -448,18 +455,19 @@ impl Engine {
         shares: Vec<Share>,
         reserved: Vec<Reserved>,
         position: u64,
-        notes: Vec<Note>,
+        notes: Notes,
     )
         requires room { IsReadyToTake self.old session.0 reading (map shown shares.items)
-            (map reserved_for reserved.items) (length notes.items) }
+            (map reserved_for reserved.items) notes }
         ensures stands { (h : List Entry) (number : ℕ) (octets : List ℕ)
-            (tallies : List (ℕ × List Count)) → Stands self.old h
+            (tallies : List (ℕ × List Count)) (named : List Note) → Stands self.old h
             → AllReady self.old.groups (map reserved_for reserved.items) tallies
-            → NoneTwice tallies → IsBroughtBy self.old h session.0 number octets (record {
+            → NoneTwice tallies → notes ≡ kept_notes (most_notes self.old.audit) named
+            → IsBroughtBy self.old h session.0 number octets (record {
               reading = reading;
               shares = map shown shares.items;
               tallies = tallies;
-              entries = map (stamp position) notes.items;
+              entries = map (stamp position) named;
             })
             → Stands self.new (h ++ Message session.0 number octets ∷ []) }
         ensures untouched { IsUntouched self.old self.new }
@@ -471,7 +479,7 @@ impl Engine {
     }
 }
 
-impl Engine {
+impl<Q: AuditQueue + Drop> Engine<Q> {
     ghost use Rattle.std.specs.Prelude.{map, IfErr};
     ghost use Rattle.mediator_state.specs.Standing.{Stands};
     ghost use Rattle.mediator_state.specs.Seen.{IsSameEngine, IsUntouched};

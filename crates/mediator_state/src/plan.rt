@@ -9,7 +9,7 @@ ghost use Rattle.event_journal.specs.declared.entry.Entry.{Entry};
 ghost use Rattle.mediator_tables.specs.SubscriptionTable.{shown};
 ghost use Rattle.mediator_tables.specs.Adding.{tallied};
 ghost use Rattle.mediator_shares.specs.Sharing.{shares_of, tallies_of, notes_of};
-ghost use Rattle.mediator_shares.specs.Noting.{kept_notes};
+ghost use Rattle.disclosure_audit.specs.Noting.{kept_notes};
 ghost use Rattle.mediator_shares.specs.Judgements.{IsJudgementOf};
 ghost use Rattle.std.specs.List.{AllByRecursion};
 ghost use Rattle.mediator_state.specs.Planning.{AreStreamed};
@@ -17,9 +17,10 @@ ghost use Rattle.mediator_state.specs.Planning.{AreStreamed};
 use crate::engine::Engine;
 use crate::fault::Fault;
 use bytes::Bytes;
+use disclosure_audit::{AuditQueue, Notes};
 use ipfix_records::Records;
 use ipfix_session::Reading;
-use mediator_shares::{InForce, Judgement, Notes, Shares};
+use mediator_shares::{InForce, Judgement, Shares};
 use mediator_tables::{OpenSession, Served, SessionId, Share, Subscriptions, Tally};
 use prepared_message::Prepared;
 use std::alloc::{AllocError, Global};
@@ -40,11 +41,11 @@ pub(crate) struct MessagePlan {
     pub(crate) tallies: Vec<Tally>,
     /// The position in the history that it would have, behind the cuts.
     pub(crate) position: u64,
-    /// What the audit names of it, as much of it as the audit may hold.
+    /// What the audit names of it, as much of it as the audit is to keep.
     pub(crate) notes: Notes,
 }
 
-impl Engine {
+impl<Q: AuditQueue + Drop> Engine<Q> {
     ghost use Rattle.mediator_state.specs.Standing.{Stands};
     ghost use Rattle.mediator_state.specs.Planning.{IsPlan, IsNextReading, RefusesMessage, RefusesPrepared, IsInTurn, RefusesTurn, IsJudgedFor};
 
@@ -178,7 +179,7 @@ impl Engine {
         let domain = reading.header().domain;
         let records = reading.records();
         let served = self.subscriptions.served()?;
-        let most = u64::from(self.audit.limit());
+        let most = u64::from(self.audit.most_notes());
         let in_force = &mut self.in_force;
         let all = shares_of_all(
             self.alloc, in_force, domain, records, judgement, &served, most,

@@ -1,5 +1,5 @@
 //! The state of a mediator and its calls, over what keeps its history.
-ghost use Rattle.std.specs.Prelude.{◌≡◌, ◌≤◌, ◌<◌, ◌+◌, ◌^◌, ◌++◌, ◌∷◌, ◌↔◌, [], ◌≢◌, ℕ, List, length, map, take, drop, true, false, IsOk, IfOk, IfErr, IfSome, IfNone, OnOk, OnErr};
+ghost use Rattle.std.specs.Prelude.{◌≡◌, ◌≤◌, ◌<◌, ◌+◌, ◌-◌, ◌^◌, ◌++◌, ◌∷◌, ◌↔◌, [], ◌≢◌, ℕ, List, length, map, take, drop, true, false, IsOk, IfOk, IfErr, IfSome, IfNone, OnOk, OnErr};
 ghost use Rattle.event_journal.specs.declared.limits.TheConstants.{MOST_ENTRIES};
 ghost use Rattle.event_journal.specs.declared.entry.Entry.{Entry};
 ghost use Rattle.event_journal.specs.declared.entry.Entry.TheVariants.{Open, Close, Message, Edit, Subscribe, Unsubscribe, Advance, Cut};
@@ -13,7 +13,7 @@ use crate::fault::Fault;
 use crate::plan::octets_for_proof;
 use crate::receipt::{Receipt, Status};
 use bytes::Bytes;
-use disclosure_audit::AuditEntry;
+use disclosure_audit::{Audit, AuditEntry, AuditQueue};
 use event_journal::{Chronicle, Entry, PolicyText};
 use hash_keys::HashKeys;
 use ipfix_session::Reading;
@@ -31,38 +31,43 @@ pub const DEFAULT_QUEUE: u32 = 65_536;
 /// How many entries may wait in the audit where nobody sets a limit: 131,072.
 pub const DEFAULT_AUDIT: u32 = 131_072;
 
-/// A mediator's state: what keeps its history, and what it keeps beside that. Contracts say by `StateStandsFor`
-/// for which histories it stands. A call that is refused changes none of it.
+/// A mediator's state: what keeps its history, and what it keeps beside that, where `Q` is what keeps the entries of the
+/// audit, or counts them. Contracts say by `StateStandsFor` for which histories it stands. A call that is refused changes
+/// none of it.
 #[derive(Drop)]
-pub struct State<C> {
+pub struct State<C, Q: AuditQueue> {
     pub(crate) chronicle: C,
-    pub(crate) engine: Engine,
+    pub(crate) engine: Engine<Q>,
 }
 
-impl<C: Chronicle + Drop> State<C> {
-    ghost use Rattle.mediator_state.specs.Calls.{StateStandsFor, StandsForSome, ForEachHistory, Proceeds, StaysSame, AreStateLimits, LacksRoom, OpensAfter, RefusesOpenAfter, ClosesAfter, RefusesClose};
+impl<C: Chronicle + Drop, Q: AuditQueue + Drop> State<C, Q> {
+    ghost use Rattle.mediator_state.specs.Standing.{AreEngineLimits};
+    ghost use Rattle.disclosure_audit.specs.Queue.{StandsIn};
+    ghost use Rattle.mediator_state.specs.Calls.{StateStandsFor, StandsForSome, ForEachHistory, Proceeds, StaysSame, LacksRoom, OpensAfter, RefusesOpenAfter, ClosesAfter, RefusesClose};
 
     /// A state before any entry: no session is open, nobody is subscribed, and the policy has no rules. The stream of
-    /// each subscription may hold what `streams` say, at most 1,000,000 records and 65,280 templates, and at most
-    /// `audit` audit entries may wait, 1 to 10,000,000. The history is kept by `chronicle`, which has no entry. All of
-    /// it is in memory from `alloc`.
+    /// each subscription may hold what `streams` say, at most 1,000,000 records and 65,280 templates. The history is
+    /// kept by `chronicle`, which has no entry, and what is kept back waits in `audit`, which was given nothing yet. All
+    /// else is in memory from `alloc`.
     ///
     /// # Errors
     /// Want of memory.
     pub fn new(
         alloc: Global,
         streams: StreamLimits,
-        audit: u32,
+        audit: Audit<Q>,
         chronicle: C,
-    ) -> Result<State<C>, AllocError>
-        requires range { AreStateLimits streams audit }
+    ) -> Result<State<C, Q>, AllocError>
+        requires range { AreEngineLimits streams }
+        requires fresh { StandsIn audit.standing [] }
         // It stands for the history without an entry, which the chronicle keeps.
         ensures stands { IfOk result (λ s. C.tells chronicle [] → StateStandsFor C.tells s []) }
         ensures kept { IfOk result (λ s. s.chronicle ≡ chronicle) }
-        // It holds what the limits say, and nothing was drained.
+        // It holds what the limits say, and what the audit says, and nothing more was drained.
         ensures limits { IfOk result (λ s. s.engine.limits ≡ streams) }
-        ensures audit_limit { IfOk result (λ s. s.engine.audit.limit ≡ audit) }
-        ensures drained { IfOk result (λ s. s.engine.audit.standing.drained ≡ 0) }
+        ensures audit_limit { IfOk result (λ s. s.engine.audit.limit ≡ audit.limit) }
+        ensures drained { IfOk result (λ s.
+            s.engine.audit.standing.drained ≡ audit.standing.drained) }
     {
         let engine = Engine::new(alloc, streams, audit)?;
         Ok(State { chronicle, engine })
@@ -167,7 +172,7 @@ impl<C: Chronicle + Drop> State<C> {
     }
 }
 
-impl<C: Chronicle + Drop> State<C> {
+impl<C: Chronicle + Drop, Q: AuditQueue + Drop> State<C, Q> {
     ghost use Rattle.mediator_state.specs.Calls.{StandsForSome, ForEachHistory, GoesOnBy, Proceeds, StaysSame, ReceivesAfter, RefusesReceiveAfter, RefusesReceivePreparedAfter, IsSnapshot, RefusesSnapshot, EditsAfter, RefusesEdit, SubscribesAfter, RefusesSubscribe, UnsubscribesAfter, RefusesUnsubscribe, AdvancesAfter, RefusesAdvanceAfter};
     ghost use Rattle.mediator_state.specs.Seen.{handed_place};
     ghost use Rattle.mediator_state.specs.Planning.{IsNextReading};
@@ -498,10 +503,12 @@ impl<C: Chronicle + Drop> State<C> {
     }
 }
 
-impl<C: Chronicle + Drop> State<C> {
+impl<C: Chronicle + Drop, Q: AuditQueue + Drop> State<C, Q> {
     ghost use Rattle.mediator_state.specs.Calls.{StateStandsFor, ForEachHistory, KeepsHistories, StaysSame, PullsAfter, RefusesPull, IsStatus};
     ghost use Rattle.mediator_state.specs.Seen.{handed_place};
-    ghost use Rattle.disclosure_audit.specs.Queue.{DrainsOldest};
+    ghost use Rattle.std.specs.Prelude.{min, is_some};
+    ghost use Rattle.disclosure_audit.specs.Queue.{oldest};
+    ghost use Rattle.subscriber_stream.specs.Calls.{message_if};
 
     /// Builds the next message of the live subscription with the number `sub`, out of what waits for it; or answers
     /// `None` where nothing waits. `now` is its Export Time, in seconds since 1970 (RFC 7011, section 3.1), and
@@ -533,6 +540,48 @@ impl<C: Chronicle + Drop> State<C> {
         }
         match self.engine.subscriptions.pull(sub, now, target) {
             Ok(message) => Ok(message),
+            Err(AllocError) => Err(Fault::OutOfMemory),
+        }
+    }
+
+    /// Builds the next message of the live subscription with the number `sub` as [`pull`](State::pull) does with `now`
+    /// and `target`, and puts its octets in place of those that stand in `message`: so one list serves many messages.
+    /// The answer is whether there is one; where nothing waits, `message` stays.
+    ///
+    /// # Errors
+    /// [`Fault::UnknownSub`] where the subscription isn't live; or [`Fault::OutOfMemory`], and then `message` may have
+    /// changed. Nothing of the state has.
+    pub fn pull_to(
+        &mut self,
+        sub: SubId,
+        now: u32,
+        target: u16,
+        message: &mut Vec<u8>,
+    ) -> Result<bool, Fault>
+        // The limits stay.
+        ensures limits { self.new.engine.limits ≡ self.old.engine.limits }
+        ensures audit_limit { self.new.engine.audit.limit ≡ self.old.engine.audit.limit }
+        // The message is that at the place of the subscription, which moves past it. No other place moves.
+        ensures ok { IfOk result (λ is_there. ForEachHistory C.tells self.old
+            (PullsAfter self.old.engine self.new.engine sub.0 now target
+            (message_if is_there message.new.items))) }
+        ensures others { (q : ℕ) → q ≢ sub.0
+            → handed_place self.new.engine q ≡ handed_place self.old.engine q }
+        ensures drained { self.new.engine.audit.standing.drained
+            ≡ self.old.engine.audit.standing.drained }
+        // The history stays in any case, and so do the limits of the journal.
+        ensures keeps { KeepsHistories C.tells self.old self.new }
+        ensures journaled { C.limits self.new.chronicle ≡ C.limits self.old.chronicle }
+        // A refused call changes nothing, and names the first cause.
+        ensures unchanged { OnErr result (StaysSame C.tells C.limits self.old self.new) }
+        ensures err { IfErr result (λ e. ForEachHistory C.tells self.old
+            (λ h. RefusesPull e h sub.0)) }
+    {
+        if !self.engine.is_live(sub) {
+            return Err(Fault::UnknownSub);
+        }
+        match self.engine.subscriptions.pull_to(sub, now, target, message) {
+            Ok(is_there) => Ok(is_there),
             Err(AllocError) => Err(Fault::OutOfMemory),
         }
     }
@@ -588,7 +637,8 @@ impl<C: Chronicle + Drop> State<C> {
         audit.limit().saturating_sub(audit.room())
     }
 
-    /// Hands out the oldest `most` of the audit's entries that wait, or all where there are fewer, in their order.
+    /// Hands out the oldest `most` of the audit's entries that wait, or all where there are fewer, in their order. Where
+    /// they are counted alone they wait no more either, and none is handed out.
     ///
     /// # Errors
     /// Want of memory, and then nothing has changed. Where no entry is handed out, there is no error.
@@ -596,18 +646,23 @@ impl<C: Chronicle + Drop> State<C> {
         // The limits stay.
         ensures limits { self.new.engine.limits ≡ self.old.engine.limits }
         ensures audit_limit { self.new.engine.audit.limit ≡ self.old.engine.audit.limit }
-        // The oldest entries are handed out, and count as drained. No place moves.
-        ensures ok { IfOk result (λ out. ForEachHistory C.tells self.old (λ h.
-            (out.items ≡ take most (drop self.old.engine.audit.standing.drained (audit_list h)))
+        // The oldest entries are handed out where entries are kept, and count as drained. No place moves.
+        ensures ok { IfOk result (λ out. ForEachHistory C.tells self.old (λ h. (Q.KEEPS ≡ true
+            → out.items ≡ take most (drop self.old.engine.audit.standing.drained (audit_list h)))
             × StateStandsFor C.tells self.new h)) }
         ensures places { (q : ℕ) → handed_place self.new.engine q ≡ handed_place self.old.engine q }
-        ensures drained { IfOk result (λ out. self.new.engine.audit.standing.drained
-            ≡ self.old.engine.audit.standing.drained + length out.items) }
+        ensures drained { IfOk result (λ _. self.new.engine.audit.standing.drained
+            ≡ self.old.engine.audit.standing.drained
+            + min most self.old.engine.audit.standing.waiting) }
+        ensures waiting { OnOk result (self.new.engine.audit.standing.waiting
+            ≡ self.old.engine.audit.standing.waiting - most) }
         ensures journaled { C.limits self.new.chronicle ≡ C.limits self.old.chronicle }
         // Want of memory changes nothing.
         ensures err { OnErr result (self.new ≡ self.old) }
         // Nothing to hand out takes no memory.
-        ensures none { take most self.old.engine.audit.standing.entries ≡ [] → IsOk result }
+        ensures none { oldest most self.old.engine.audit.standing ≡ [] → IsOk result }
+        // Whether entries are kept is said by the type of what keeps or counts them.
+        ensures keeps { is_some self.old.engine.audit.standing.entries ≡ Q.KEEPS }
     {
         self.engine.audit.drain(most)
     }

@@ -3,6 +3,7 @@ ghost use Rattle.std.specs.Prelude.{◌≡◌, ◌≢◌, ◌≤◌, ◌++◌, �
 ghost use Rattle.std.specs.Option.{option_map, option_copied};
 ghost use Rattle.std.specs.List.{AllByRecursion};
 ghost use Rattle.policy_text.specs.Naming.{is_name};
+ghost use Rattle.subscriber_stream.specs.Calls.{message_if};
 ghost use Rattle.mediator_tables.specs.SubscriptionTable.{shown};
 ghost use Rattle.mediator_tables.specs.SubscriptionTable.{at, SameTable, HasName, Related, AreReady, TakesGiven, PullsOne, given_to, lacks_room_at, told, told_in, cut_off};
 
@@ -226,6 +227,35 @@ impl Subscriptions {
     {
         match self.by_number.get_mut(&sub.0) {
             Some(kept) => kept.stream.pull(now, target),
+            None => unreachable!(),
+        }
+    }
+
+    /// Builds the next message of the live subscription with the number `sub` as [`pull`](Subscriptions::pull) does
+    /// with `now` and `target`, and puts its octets in place of those that stand in `message`. The answer is whether
+    /// there is one.
+    ///
+    /// # Errors
+    /// Want of memory for the octets. No subscription has changed then, and `message` may have.
+    pub fn pull_to(
+        &mut self,
+        sub: SubId,
+        now: u32,
+        target: u16,
+        message: &mut Vec<u8>,
+    ) -> Result<bool, AllocError>
+        requires known { IsSome (at self.old sub.0) }
+        // No other subscription changes, nor who is served.
+        ensures others { (q : ℕ) → q ≢ sub.0 → at self.new q ≡ at self.old q }
+        ensures served { self.new.served ≡ self.old.served }
+        // The message is what the stream gives; want of memory changes nothing.
+        ensures ok { IfOk result (λ is_there.
+            Related (PullsOne now target (message_if is_there message.new.items))
+            (at self.old sub.0) (at self.new sub.0)) }
+        ensures err { OnErr result (SameTable self.old self.new) }
+    {
+        match self.by_number.get_mut(&sub.0) {
+            Some(kept) => kept.stream.pull_to(now, target, message),
             None => unreachable!(),
         }
     }

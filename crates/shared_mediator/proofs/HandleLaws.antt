@@ -1,7 +1,8 @@
 -- What handles keep, as they keep more.
-use Rattle.std.proofs.Common.{◌≡◌, ℕ, ◌+◌, ◌<◌, List, [], ◌∷◌, ◌++◌, length, take, get_or, refl, sym, ap, ◌∙◌, subst, arith, append-nil}
+use Rattle.std.proofs.Common.{◌≡◌, ℕ, ◌+◌, ◌<◌, List, [], ◌∷◌, ◌++◌, length, take, drop, get_or, refl, sym, ap, ◌∙◌, subst, arith, append-nil}
 use Rattle.std.specs.List.{AllByRecursion}
 use Rattle.std.proofs.lemmas.List.{length-append, take_more}
+use Rattle.std.proofs.Math.Seq.{drop-append_seam}
 use Rattle.sequences.proofs.ListLaws.{AllByRecursion-append}
 use Rattle.event_journal.specs.declared.entry.Entry.{Entry}
 use Rattle.event_journal.specs.declared.entry.Entry.TheVariants.{Message}
@@ -58,6 +59,16 @@ pub record KeepsMany (old : List Handed) (now target count : ℕ) (new : List Ha
 
 pub keeps_none : (kept : List Handed) (now target : ℕ) → KeepsMany kept now target 0 kept
 keeps_none kept now target = record { messages = []; some = record { built = tt; kept = sym (append-nil kept) }; counted = refl }
+
+-- they are those that stand behind what was kept before
+since_are : (old new messages : List Handed) → new ≡ old ++ messages → drop (length old) new ≡ messages
+since_are old new messages is = ap (drop (length old)) is ∙ drop-append_seam old messages
+
+pub some_since : (old : List Handed) (now target count : ℕ) (new : List Handed) → KeepsMany old now target count new → KeepsSome old now target (drop (length old) new) new
+some_since old now target count new k = subst (λ ms. KeepsSome old now target ms new) (sym (since_are old new k.messages k.some.kept)) k.some
+
+pub few_since : (old : List Handed) (now target count : ℕ) (new : List Handed) → KeepsMany old now target count new → length (drop (length old) new) ≡ count
+few_since old now target count new k = ap length (since_are old new k.messages k.some.kept) ∙ sym k.counted
 
 -- ---- why an offer or a pull is refused
 

@@ -1,5 +1,5 @@
 -- What handles keep.
-use Rattle.std.specs.Prelude.{◌≡◌, ℕ, ◌+◌, true, List, [], ◌∷◌, ◌++◌, length, take, drop, sum_by, Option, Some, None}
+use Rattle.std.specs.Prelude.{◌≡◌, ℕ, ◌+◌, ◌≤◌, Bool, true, false, List, [], ◌∷◌, ◌++◌, length, take, drop, sum_by, Option, Some, None}
 use Rattle.std.specs.List.{AllByRecursion}
 use Rattle.ipfix_template.specs.DataRecord.{DataRecord}
 use Rattle.subscriber_stream.specs.Parts.{parts, records_of_parts}
@@ -11,6 +11,7 @@ use Rattle.mediator_state.specs.declared.fault.Fault.{Fault as MediatorFault}
 use Rattle.mediator_state.specs.declared.fault.Fault.TheVariants as fault
 use Rattle.shared_mediator.specs.declared.kept.KeptEntry.{KeptEntry}
 use Rattle.shared_mediator.specs.declared.handed.Handed.{Handed}
+use Rattle.shared_mediator.specs.Locked.{Delivering}
 use Rattle.shared_mediator.specs.Counted.{has_receipt}
 
 -- ---- entries
@@ -94,3 +95,16 @@ KeepsHanded old now target (Some h) new = IsBuilt now target h × (new ≡ old +
 pub record KeepsSome (old : List Handed) (now target : ℕ) (messages new : List Handed) : Type 0 where
   pub built : AllByRecursion (IsBuilt now target) messages
   pub kept : new ≡ old ++ messages
+
+-- messages are kept behind the others, at most so many, each built for the target and for one Export Time, which the clock may show
+pub record KeepsQueued (Shows : ℕ → Type 0) (target most : ℕ) (old new : Delivering) : Type 0 where
+  pub sub : new.sub ≡ old.sub
+  pub now : ℕ
+  pub shown : Shows now
+  pub kept : KeepsSome old.kept now target (drop (length old.kept) new.kept) new.kept
+  pub few : length (drop (length old.kept) new.kept) ≤ most
+
+-- so it is where something was queued; where nothing will be, nothing has changed
+abbrev pub PullsQueued : (ℕ → Type 0) → ℕ → ℕ → Bool → Delivering → Delivering → Type 0
+PullsQueued Shows target most true old new = KeepsQueued Shows target most old new
+PullsQueued Shows target most false old new = new ≡ old

@@ -134,7 +134,7 @@ impl<E: EntryLedger> AdminHandle<E> {
     {
         self.kept.reserve(1)?;
         let position = shared.mediator.lock(rt).unsubscribe(&mut self.share, sub)?;
-        shared.moved.notify_all();
+        shared.wake(rt);
         self.kept.push_reserved(KeptEntry {
             position,
             entry: Entry::Unsubscribe { sub: sub.0 },
@@ -158,7 +158,7 @@ impl<E: EntryLedger> AdminHandle<E> {
     {
         self.kept.reserve(1)?;
         let position = shared.mediator.lock(rt).advance(&mut self.share, t)?;
-        shared.moved.notify_all();
+        shared.wake(rt);
         self.kept.push_reserved(KeptEntry {
             position,
             entry: Entry::Advance { t },
@@ -202,7 +202,7 @@ impl<E: EntryLedger> AdminHandle<E> {
     /// for the lock by `rt`.
     pub fn stop<H: RecordLedger>(&self, rt: &impl Wait, shared: &SharedMediator<E, H>) {
         shared.mediator.lock(rt).stop();
-        shared.moved.notify_all();
+        shared.wake(rt);
     }
 
     /// Its share of the ledger, which counts as many entries as it keeps receipts.

@@ -1,11 +1,12 @@
 //! A delivery's handle on a shared mediator.
-ghost use Rattle.std.specs.Prelude.{◌≡◌, ◌≤◌, [], length, IfOk, IfErr};
+ghost use Rattle.std.specs.Prelude.{◌≡◌, ◌≤◌, [], length, drop, IfOk, IfErr, OnOk, OnErr};
 ghost use Rattle.std.specs.Borrow.{sem};
 ghost use Rattle.shared_mediator.specs.contracts.delivery.DeliveryHandle.{the_row};
 ghost use Rattle.shared_mediator.specs.Locked.{delivering_as};
-ghost use Rattle.shared_mediator.specs.Handles.{MayRefusePull, records_kept};
+ghost use Rattle.shared_mediator.specs.Handles.{MayRefusePull, KeepsSome, PullsQueued, records_kept};
 ghost use Rattle.shared_mediator.specs.Lending.{Leaves, LendsHanded, LendsSome};
 
+use crate::clock::Clock;
 use crate::handed::Handed;
 use crate::ledgers::{EntryLedger, RecordLedger};
 use crate::locked::LockedMediator;
@@ -14,8 +15,8 @@ use mediator_calls::SubId;
 use mediator_state::Fault as MediatorFault;
 use std::alloc::Global;
 use std::marker::Model;
-use std::sync::Wait;
 use std::sync::ledger::Share;
+use std::sync::{MutexGuard, Wait};
 
 /// What ended the wait of a delivery.
 #[derive(Clone, Copy, Debug, PartialEq, Eq)]
@@ -129,17 +130,73 @@ impl<H: RecordLedger> DeliveryHandle<H> {
             self.entry (LendsSome now target self.old result)) }
         ensures refuses { IfErr result MayRefusePull }
     {
-        let mut locked = shared.locked(rt);
         let before = self.kept.len();
+        self.pull_most(&mut shared.locked(rt), now, target, most)?;
+        Ok(&self.kept[before..])
+    }
+
+    /// Waits until something is queued for the subscription in the mediator `shared`, or nothing will be, as
+    /// [`wait`](DeliveryHandle::wait) does by `rt`; and where something is, pulls the next messages, at most `most` of
+    /// them, while it still holds the lock. Each is built for the Export Time that `clock` shows then, and for
+    /// `target`. It keeps them. The answer is whether to go on: not where nothing will be queued, and then nothing was
+    /// pulled.
+    ///
+    /// # Errors
+    /// Those of [`pull`](DeliveryHandle::pull) for the first message, and nothing has changed then; so it is refused
+    /// where the subscription isn't live, but where it ends meanwhile, nothing will be queued. A later error only ends
+    /// the row.
+    pub fn pull_queued<E: EntryLedger, C: Clock>(
+        &mut self,
+        rt: &impl Wait,
+        shared: &SharedMediator<E, H>,
+        clock: &C,
+        target: u16,
+        most: u64,
+    ) -> Result<bool, MediatorFault>
+        ensures pulls { IfOk result (λ goes_on.
+            PullsQueued (C.shows clock.now) target most goes_on self.old self.new) }
+        ensures unchanged { OnErr result (self.new ≡ self.old) }
+        ensures refuses { IfErr result MayRefusePull }
+    {
+        let locked = shared.locked(rt);
+        locked.status(self.sub)?;
+        let Ok(mut locked) = self.queued(rt, shared, locked) else {
+            return Ok(false);
+        };
+        self.pull_most(&mut locked, clock.now(), target, most)?;
+        Ok(true)
+    }
+
+    /// Pulls the subscription's next messages from what lies under the lock, `locked`, at most `most` of them, each as
+    /// [`pull`](DeliveryHandle::pull) does with `now` and `target`; and keeps them.
+    ///
+    /// # Errors
+    /// Those of [`pull`](DeliveryHandle::pull) for the first message, and nothing has changed then. A later error only
+    /// ends the row.
+    fn pull_most<E: EntryLedger>(
+        &mut self,
+        locked: &mut LockedMediator<E, H>,
+        now: u32,
+        target: u16,
+        most: u64,
+    ) -> Result<(), MediatorFault>
+        ensures kept { OnOk result (KeepsSome self.old.kept now target
+            (drop (length self.old.kept) self.new.kept) self.new.kept) }
+        ensures few { OnOk result
+            (length (drop (length self.old.kept) self.new.kept) ≤ most) }
+        ensures sub { self.new.sub ≡ self.old.sub }
+        ensures unchanged { OnErr result (self.new ≡ self.old) }
+        ensures refuses { IfErr result MayRefusePull }
+    {
         let mut count = 0;
         'pulls: while count < most {
-            match self.pull_next(&mut locked, now, target) {
+            match self.pull_next(locked, now, target) {
                 Ok(Some(_)) => count += 1,
                 Err(fault) if count == 0 => return Err(fault),
                 Ok(None) | Err(_) => break,
             }
         }
-        Ok(&self.kept[before..])
+        Ok(())
     }
 
     /// Pulls the subscription's next message from what lies under the lock, `locked`, as [`pull`](DeliveryHandle::pull)
@@ -173,12 +230,29 @@ impl<H: RecordLedger> DeliveryHandle<H> {
     /// it was cut, or all is to stop. `rt` is what it waits by. The answer says which: where several are so, that it
     /// has ended, else that something is queued, else that it was cut.
     pub fn wait<E: EntryLedger>(&self, rt: &impl Wait, shared: &SharedMediator<E, H>) -> Waited {
-        let mut locked = shared.locked(rt);
+        match self.queued(rt, shared, shared.locked(rt)) {
+            Ok(_) => Waited::Queued,
+            Err(waited) => waited,
+        }
+    }
+
+    /// Waits as [`wait`](DeliveryHandle::wait) does, while it holds the lock where it does not wait. `locked` is what
+    /// lies under that, and what it answers where something is queued.
+    ///
+    /// # Errors
+    /// What else the wait ended with.
+    fn queued<'m, E: EntryLedger>(
+        &self,
+        rt: &impl Wait,
+        shared: &'m SharedMediator<E, H>,
+        mut locked: MutexGuard<'m, LockedMediator<E, H>>,
+    ) -> Result<MutexGuard<'m, LockedMediator<E, H>>, Waited> {
         for _ in rt.forever() {
-            if let Some(waited) = locked.waited(self.sub) {
-                return waited;
+            match locked.waited(self.sub) {
+                Some(Waited::Queued) => return Ok(locked),
+                Some(waited) => return Err(waited),
+                None => locked = shared.rest(rt, locked, self.sub),
             }
-            locked = shared.moved.wait(rt, locked);
         }
         unreachable!()
     }

@@ -85,7 +85,7 @@ impl<E: EntryLedger> ExporterHandle<E> {
 
     /// Offers `message` to the mediator `shared` as the session's next one, and keeps its receipt: the message, with
     /// the position in the journal that the mediator answered. It waits for the lock by `rt`, and wakes the deliveries
-    /// that wait.
+    /// for which something is queued.
     ///
     /// # Errors
     /// Those of `Mediator::receive`, and [`MediatorFault::OutOfMemory`] for the receipt. Nothing has changed then.
@@ -105,7 +105,7 @@ impl<E: EntryLedger> ExporterHandle<E> {
         ensures refuses { IfErr result MayRefuseOffer }
     {
         let receipt = self.offer_silently(rt, shared, message)?;
-        shared.wake();
+        shared.wake(rt);
         Ok(receipt)
     }
 
@@ -211,7 +211,7 @@ impl<E: EntryLedger> ExporterHandle<E> {
         ensures refuses { IfErr result (λ e. MayRefuseOffer e.0) }
     {
         let receipt = self.offer_prepared_silently(rt, shared, prepared)?;
-        shared.wake();
+        shared.wake(rt);
         Ok(receipt)
     }
 

@@ -11,6 +11,7 @@
 //!   receipts. `handed`: [`Handed`], a message that was handed out, with its number of records.
 //! - `fault`: [`Fault`]; the other refusals are [`mediator_state::Fault`]. `fill`: [`Fill`], how full the journal and the
 //!   audit are.
+//! - `clock`: [`Clock`], which tells the Export Times. `waits`: where deliveries wait.
 //! - `laws`: that a full count is told.
 //!
 //! Proved: whenever the lock is taken, its mediator's state stands for its journal (`mediator_calls`), one book's total is the
@@ -31,7 +32,8 @@
 //! of the receipt that it answers; an administrator's edit, subscribe, unsubscribe and advance keep the entry of their own
 //! argument with a position. A refusal keeps nothing more (`unchanged`); that of an offer or a pull is one that such a call may
 //! have (`refuses`). `pull` keeps a message that is built for its Export Time and target at some place of some list, and lends
-//! it; its share rises by the records in that. `pull_some` keeps several, and lends just those (`leaves`).
+//! it; its share rises by the records in that. `pull_some` keeps several, and lends just those (`leaves`); so does
+//! `pull_queued`, which lends none, for an Export Time that the clock shows (`pulls`).
 //!
 //! `close` answers Ok only where each receipt stands in the journal at its position, none from before `new`, no two at one
 //! position, each handle's own in their order, and where each entry since `new` that is to have a receipt has one
@@ -47,10 +49,11 @@
 //!
 //! No clause can say what lies under a lock at the moment at which a public call takes it, so what a call through a handle
 //! answers beyond that is shown by tests. Nothing promises that a thread gets on or that a wait ends. `offer` wakes the
-//! deliveries that wait; `offer_silently` leaves that to `wake`.
+//! deliveries for which something is queued; `offer_silently` leaves that to `wake`.
 #![tactic(auto)]
 
 mod admin;
+mod clock;
 mod closing;
 mod counted;
 mod delivery;
@@ -64,8 +67,10 @@ mod ledgers;
 mod locked;
 mod marks;
 mod shared;
+mod waits;
 
 pub use admin::AdminHandle;
+pub use clock::Clock;
 pub use closing::Closed;
 pub use counted::CountedMediator;
 pub use delivery::{DeliveryHandle, Waited};

@@ -9,12 +9,13 @@ use crate::exporter::ExporterHandle;
 use crate::fill::Fill;
 use crate::ledgers::{EntryLedger, RecordLedger};
 use crate::locked::LockedMediator;
+use crate::waits::{PLACES, Waits};
 use mediator_calls::{Mediator, SubId};
 use mediator_state::{Fault as MediatorFault, Status};
 use mediator_tables::Share;
 use std::alloc::Global;
 use std::sync::ledger::Blank;
-use std::sync::{Condvar, Mutex, MutexGuard, Wait};
+use std::sync::{Mutex, MutexGuard, Wait};
 use std::thread::yield_now;
 
 /// How often a thread looks for the lock before it sleeps.
@@ -56,8 +57,8 @@ const LOOKS: u32 = 200;
 pub struct SharedMediator<E: EntryLedger, H: RecordLedger> {
     pub(crate) alloc: Global,
     pub(crate) mediator: Mutex<LockedMediator<E, H>>,
-    /// Signalled when something was queued, a subscription ended or was cut, or all is to stop.
-    pub(crate) moved: Condvar,
+    /// Where deliveries wait until something was queued, a subscription ended or was cut, or all is to stop.
+    waits: Waits,
 }
 
 impl<E: EntryLedger, H: RecordLedger> SharedMediator<E, H> {
@@ -84,7 +85,7 @@ impl<E: EntryLedger, H: RecordLedger> SharedMediator<E, H> {
         SharedMediator {
             alloc,
             mediator: Mutex::new(LockedMediator::new(mediator, handles, entries, handed)),
-            moved: Condvar::new(),
+            waits: Waits::new(),
         }
     }
 
@@ -124,9 +125,46 @@ impl<E: EntryLedger, H: RecordLedger> SharedMediator<E, H> {
         self.mediator.lock(rt)
     }
 
-    /// Wakes the deliveries that wait, so that each looks whether something is queued for it.
-    pub fn wake(&self) {
-        self.moved.notify_all();
+    /// Wakes the deliveries that wait and need wait no more: something is queued for them, or nothing will be. It waits
+    /// for the lock by `rt`, and holds it no longer when it wakes them.
+    pub fn wake(&self, rt: &impl Wait) {
+        let due = self.due(rt);
+        for place in 0..PLACES {
+            if due[place] {
+                self.waits.signal(place).notify_all();
+            }
+        }
+        self.waits.crowd().notify_all();
+    }
+
+    /// At which places the deliveries need wait no more.
+    fn due(&self, rt: &impl Wait) -> [bool; PLACES] {
+        let locked = self.locked(rt);
+        let mut due = [false; PLACES];
+        for place in 0..PLACES {
+            if let Some(sub) = self.waits.sub_at(place) {
+                due[place] = locked.waited(sub).is_some();
+            }
+        }
+        due
+    }
+
+    /// Lets go of the lock, which is `locked`, until the delivery of the subscription with the number `sub` is woken, or
+    /// for a moment; and takes it again. It waits by `rt`.
+    pub(crate) fn rest<'m>(
+        &'m self,
+        rt: &impl Wait,
+        locked: MutexGuard<'m, LockedMediator<E, H>>,
+        sub: SubId,
+    ) -> MutexGuard<'m, LockedMediator<E, H>> {
+        match self.waits.take(sub) {
+            Some(place) => {
+                let locked = self.waits.signal(place).wait(rt, locked);
+                self.waits.leave(place);
+                locked
+            }
+            None => self.waits.crowd().wait(rt, locked),
+        }
     }
 
     /// Whether one of `shares`, which a message would give, has no room in its subscription's queue until some of what

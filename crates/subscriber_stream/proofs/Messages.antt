@@ -69,3 +69,7 @@ run_length-waiting shapes target ws kept =
     let len : length (stream_parts shapes ws) ≡ length ws = length-map ws (part_of shapes) in
     let tests : (k : ℕ) → is_within target (take k (stream_parts shapes ws)) ≡ nat_le (16 + total None (take k ws)) target = λ k. ap (λ (t : List Part). is_within target t) (take-map (part_of shapes) k ws) ∙ ap (λ (n : ℕ). nat_le n target) (length-waiting shapes (take k ws) (kept_take shapes k ws kept)) in
     ap (max 1) (last_passing-same _ _ (length (stream_parts shapes ws)) tests ∙ ap (last_passing (λ n. nat_le (16 + total None (take n ws)) target)) len ∙ sym (fits-last_passing target None 16 ws))
+
+-- what stands behind nothing
+pub behind_none : (out before more : List ℕ) → before ≡ [] → out ≡ before ++ more → out ≡ more
+behind_none out before more none is = is ∙ ap (λ (t : List ℕ). t ++ more) none

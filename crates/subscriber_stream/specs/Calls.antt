@@ -1,5 +1,5 @@
 -- What a subscriber gets.
-use Rattle.std.specs.Prelude.{◌≡◌, ℕ, List, [], ◌∷◌, ◌++◌, Option}
+use Rattle.std.specs.Prelude.{◌≡◌, ℕ, Bool, List, [], ◌∷◌, ◌++◌, Option, Some, None, if◌then◌else◌}
 use Rattle.ipfix_template.specs.DataRecord.{DataRecord}
 use Rattle.subscriber_stream.specs.Message.{built, place_after}
 use Rattle.subscriber_stream.specs.Standing.{StreamStanding, StandsAt}
@@ -35,6 +35,10 @@ pulls_of records (Pulled now target ∷ calls) = record { now = now; target = ta
 -- what push_reserved says of a stream
 pub record TakesRecords (old : StreamStanding) (more : List DataRecord) (new : StreamStanding) : Type 0 where
   pub stands : (records : List DataRecord) (p : ℕ) → StandsAt old records p → StandsAt new (records ++ more) p
+
+-- the octets as a message, if they are one
+abbrev pub message_if : Bool → List ℕ → Option (List ℕ)
+message_if is_there octets = if is_there then Some octets else None
 
 -- what pull says of a stream where it answers Ok
 pub record GivesNext (old : StreamStanding) (now target : ℕ) (answer : Option (List ℕ)) (new : StreamStanding) : Type 0 where

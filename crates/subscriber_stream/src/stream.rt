@@ -1,5 +1,5 @@
 //! The stream of one subscriber.
-ghost use Rattle.std.specs.Prelude.{◌≡◌, ◌≤◌, ◌<◌, ◌+◌, ◌*◌, ◌^◌, ◌↔◌, ◌++◌, ℕ, List, [], length, IsTrue, IsNone, IsOk, IfOk, OnOk, OnErr};
+ghost use Rattle.std.specs.Prelude.{◌≡◌, ◌≤◌, ◌<◌, ◌+◌, ◌*◌, ◌^◌, ◌↔◌, ◌++◌, ℕ, List, [], length, IsTrue, IsFalse, IsNone, IsOk, IfOk, OnOk, OnErr};
 ghost use Rattle.std.specs.VecDeque.{deque_capacity};
 ghost use Rattle.ipfix_octets.specs.MessageFormat.{least_template_id};
 ghost use Rattle.ipfix_template.specs.DataRecord.{DataRecord};
@@ -15,7 +15,7 @@ use crate::room::has_shape_room;
 use crate::shape_table::ShapeTable;
 use crate::texts::Texts;
 use crate::waiting::{Waiting, keep_rest, put_waiting};
-use crate::writing::message_of;
+use crate::writing::{message_of, put_message};
 use bytes::Bytes;
 use hash_keys::HashKeys;
 use ipfix_octets::message_format::LEAST_TEMPLATE_ID;
@@ -73,7 +73,7 @@ impl Model for Stream {
 
 impl Stream {
     ghost use Rattle.subscriber_stream.specs.Standing.{at_start, StandsAt, HasStreamRoom, FitsLimits, queue_size};
-    ghost use Rattle.subscriber_stream.specs.Calls.{TakesRecords, GivesNext};
+    ghost use Rattle.subscriber_stream.specs.Calls.{TakesRecords, GivesNext, message_if};
     ghost use Rattle.subscriber_stream.specs.Steps.{after_given, handed_parts};
     ghost use Rattle.ipfix_records.specs.Runs.{run_records};
 
@@ -322,5 +322,39 @@ impl Stream {
         let message = message_of(self.alloc, &self.shapes, &self.queue, run, now, self.handed)?;
         self.hand_out(run.parts);
         Ok(Some(message))
+    }
+
+    /// Builds the next message as [`pull`](Stream::pull) does with `now` and `target`, and puts its
+    /// octets in place of those that stand in `message`: so one list serves many messages. The
+    /// answer is whether there is one; at the end `message` stays.
+    ///
+    /// # Errors
+    /// Want of memory for the octets. The stream is as it was then, and `message` may have changed.
+    pub fn pull_to(
+        &mut self,
+        now: u32,
+        target: u16,
+        message: &mut Vec<u8>,
+    ) -> Result<bool, AllocError>
+        // The message is the one that is built at the place where the stream stands, and the stream then
+        // stands after its parts.
+        ensures ok { IfOk result (λ is_there. GivesNext self.old.standing now target
+            (message_if is_there message.new.items) self.new.standing) }
+        ensures end { IfOk result
+            (λ is_there. IsFalse is_there ↔ (queue_size self.old.standing ≡ 0)) }
+        // At the end no memory is taken.
+        ensures no_memory { queue_size self.old.standing ≡ 0 → IsOk result }
+        ensures limits { self.new.limits ≡ self.old.limits }
+        ensures spare { self.new.spare ≡ self.old.spare }
+        ensures err { OnErr result (self.new ≡ self.old) }
+    {
+        if self.queue.is_empty() {
+            return Ok(false);
+        }
+        let run = fitting(&self.queue, target);
+        message.clear();
+        put_message(&self.shapes, &self.queue, run, now, self.handed, message)?;
+        self.hand_out(run.parts);
+        Ok(true)
     }
 }

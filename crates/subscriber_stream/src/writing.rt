@@ -39,9 +39,35 @@ pub(crate) fn message_of(
         (stream_parts shapes.now.shapes (take whole.parts (items_in queue.now.items)))) }
 {
     let mut out = Vec::with_capacity(alloc, whole.octets)?;
-    put_header(whole.octets, now, (handed % (1 << 32)) as u32, &mut out)?;
-    put_parts(shapes, queue, whole.parts, &mut out)?;
+    put_message(shapes, queue, whole, now, handed, &mut out)?;
     Ok(Bytes::from_vec(out)?)
+}
+
+/// Appends the message of a run of parts, of which the first stand at the front of the queue.
+///
+/// # Errors
+/// Want of memory, and then some of the message may be appended.
+pub(crate) fn put_message(
+    shapes: &ShapeTable,
+    queue: &VecDeque<Waiting>,
+    whole: Front,
+    now: u32,
+    handed: u64,
+    out: &mut Vec<u8>,
+) -> Result<(), AllocError>
+    requires filled { AreFilled queue.now.items }
+    requires kept { AreItemsKept shapes.now.shapes (items_in queue.now.items) }
+    // It is known how long the message of these parts is, and a message can be that long.
+    requires octets { whole.octets
+        ≡ header_octets + total None (take whole.parts (items_in queue.now.items)) }
+    requires fits { whole.octets ≤ longest_message }
+    ensures { OnOk result (out.new.items ≡ out.old.items ++ message now handed
+        (stream_parts shapes.now.shapes (take whole.parts (items_in queue.now.items)))) }
+{
+    out.reserve(whole.octets)?;
+    put_header(whole.octets, now, (handed % (1 << 32)) as u32, out)?;
+    put_parts(shapes, queue, whole.parts, out)?;
+    Ok(())
 }
 
 /// Appends a message header: version, length, Export Time, Sequence Number and Observation Domain 0

@@ -1,8 +1,9 @@
 //! The worked cases of aggregates, and of the clock that closes them.
 use crate::cases::{Case, HUNDRED, Step, WITHHOLD};
 use crate::octets::{
-    FIRST_CLOSED, LATE_FLOW, LATER_CLOSED, LATER_FLOW, MOST_CLOSED, ONE_CLOSED, ONE_CLOSED_NEXT,
-    ONE_FLOW, PORTS_CLOSED, SECOND_CLOSED, SHORT_PORTS, THREE_FLOWS, UNEVEN_FLOWS,
+    FIRST_CLOSED, FIRST_CLOSED_NEXT, LATE_FLOW, LATER_CLOSED, LATER_FLOW, MOST_CLOSED, ONE_CLOSED,
+    ONE_CLOSED_NEXT, ONE_FLOW, ONE_RECORD, ONE_RECORD_OF_EIGHT, PORTS_CLOSED, SECOND_CLOSED,
+    SHORT_PORTS, THREE_FLOWS, UNEVEN_FLOWS, WITHOUT_PORT,
 };
 use mediator_core::{Fault, Limits};
 
@@ -17,6 +18,11 @@ pub(crate) const WEB_AT_ONCE: &str =
 /// What goes to each port in five minutes, closed a minute after their end, where everything is withheld.
 const WEB_WITHHELD: &str =
     "policy 1\naggregate web key destinationTransportPort interval 300 grace 60\nrule for * in * from * to * withhold\n";
+
+/// All is withheld from beta, whom a rule names. To others nothing of domain 8 passes, and what a network sends without its
+/// port; the rest is added up.
+const BETA_NAMED: &str =
+    "policy 1\naggregate web key destinationTransportPort interval 300 grace 60\nrule for beta in * from * to * withhold\nrule for * in 8 from * to * withhold\nrule for * in * from 192.0.2.0/24 to * pass\nrule for * in * from * to * aggregate web\nrule for * in * from * to * element sourceTransportPort remove\nrule for * in * from * to * element * keep\n";
 
 const ONE_RECORD_WAITS: Limits = Limits {
     queue: 1,
@@ -195,6 +201,62 @@ pub(crate) static AGGREGATES: &[Case] = &[
             Step::Advance(FIRST_END, Ok(())),
             Step::Pull(2, 1400, Ok(None)),
             Step::Served(2, 0, 0, 0),
+        ],
+    },
+    // Two that no rule names are given the same, and each has its entries and groups; one that is named isn't.
+    Case {
+        name: "subscribers_alike",
+        limits: HUNDRED,
+        begin: &[
+            Step::Edit(BETA_NAMED, Ok(1)),
+            Step::Subscribe("beta", Ok(1)),
+            Step::Subscribe("acme", Ok(2)),
+            Step::Subscribe("corp", Ok(3)),
+            Step::Open(Ok(1)),
+        ],
+        steps: &[
+            Step::Accept(1, 0, ONE_RECORD, 5, 1),
+            Step::Accept(1, 1, ONE_RECORD_OF_EIGHT, 6, 1),
+            Step::Served(1, 0, 0, 0),
+            Step::Served(2, 1, 0, 1),
+            Step::Served(3, 1, 0, 1),
+            Step::Audit(
+                10,
+                &[
+                    "5 0 1 withheld 1 rule\n",
+                    "5 0 2 removed 1:5\n",
+                    "5 0 3 removed 1:5\n",
+                    "6 0 1 withheld 1 rule\n",
+                    "6 0 2 withheld 2 rule\n",
+                    "6 0 3 withheld 2 rule\n",
+                ],
+            ),
+            Step::Pull(1, 1400, Ok(None)),
+            Step::Pull(2, 1400, Ok(Some(WITHOUT_PORT))),
+            Step::Pull(3, 1400, Ok(Some(WITHOUT_PORT))),
+            Step::Open(Ok(2)),
+            Step::Accept(2, 0, THREE_FLOWS, 8, 3),
+            Step::Audit(
+                10,
+                &[
+                    "8 0 1 withheld 1 rule\n",
+                    "8 0 2 aggregated 4\n",
+                    "8 0 3 aggregated 4\n",
+                    "8 1 1 withheld 1 rule\n",
+                    "8 1 2 aggregated 4\n",
+                    "8 1 3 aggregated 4\n",
+                    "8 2 1 withheld 1 rule\n",
+                    "8 2 2 aggregated 4\n",
+                    "8 2 3 aggregated 4\n",
+                ],
+            ),
+            Step::Advance(FIRST_END, Ok(())),
+            Step::Pull(1, 1400, Ok(None)),
+            Step::Pull(2, 1400, Ok(Some(FIRST_CLOSED_NEXT))),
+            Step::Pull(3, 1400, Ok(Some(FIRST_CLOSED_NEXT))),
+            Step::Served(1, 0, 0, 0),
+            Step::Served(2, 0, 2, 2),
+            Step::Served(3, 0, 2, 2),
         ],
     },
     // The clock stays where it was: an earlier advance, which closes one record, has room.

@@ -3,7 +3,7 @@
 ghost use Rattle.mediator_state.specs.Calls.{StandsForSome};
 
 use bytes::Bytes;
-use disclosure_audit::AuditEntry;
+use disclosure_audit::{AuditEntry, AuditQueue};
 use event_journal::Chronicle;
 use mediator_calls::{SessionId, SubId};
 use mediator_state::{Fault, Receipt, State};
@@ -12,7 +12,9 @@ use std::alloc::{AllocError, Global};
 /// The Export Time of what is pulled.
 pub(crate) const NOW: u32 = 0x6553_f13c;
 
-pub(crate) fn open<C: Chronicle + Drop>(state: &mut State<C>) -> Result<SessionId, Fault>
+pub(crate) fn open<C: Chronicle + Drop, Q: AuditQueue + Drop>(
+    state: &mut State<C, Q>,
+) -> Result<SessionId, Fault>
     requires stands { StandsForSome C.tells state.old }
     ensures stands { StandsForSome C.tells state.new }
 {
@@ -22,8 +24,8 @@ pub(crate) fn open<C: Chronicle + Drop>(state: &mut State<C>) -> Result<SessionI
     }
 }
 
-pub(crate) fn close<C: Chronicle + Drop>(
-    state: &mut State<C>,
+pub(crate) fn close<C: Chronicle + Drop, Q: AuditQueue + Drop>(
+    state: &mut State<C, Q>,
     session: SessionId,
 ) -> Result<(), Fault>
     requires stands { StandsForSome C.tells state.old }
@@ -36,9 +38,9 @@ pub(crate) fn close<C: Chronicle + Drop>(
 }
 
 /// Each time the octets are copied, as they would be handed in from a socket.
-pub(crate) fn receive<C: Chronicle + Drop>(
+pub(crate) fn receive<C: Chronicle + Drop, Q: AuditQueue + Drop>(
     alloc: Global,
-    state: &mut State<C>,
+    state: &mut State<C, Q>,
     session: SessionId,
     number: u64,
     octets: &[u8],
@@ -46,10 +48,22 @@ pub(crate) fn receive<C: Chronicle + Drop>(
     requires stands { StandsForSome C.tells state.old }
     ensures stands { StandsForSome C.tells state.new }
 {
-    match state.receive(session, number, copy(alloc, octets)?) {
-        Err(Fault::OutOfMemory) => state.receive(session, number, copy(alloc, octets)?),
+    match receive_once(state, session, number, copy(alloc, octets)?) {
+        Err(Fault::OutOfMemory) => receive_once(state, session, number, copy(alloc, octets)?),
         answer => answer,
     }
+}
+
+fn receive_once<C: Chronicle + Drop, Q: AuditQueue + Drop>(
+    state: &mut State<C, Q>,
+    session: SessionId,
+    number: u64,
+    message: Bytes,
+) -> Result<Receipt, Fault>
+    requires stands { StandsForSome C.tells state.old }
+    ensures stands { StandsForSome C.tells state.new }
+{
+    state.receive(session, number, message)
 }
 
 pub(crate) fn copy(alloc: Global, octets: &[u8]) -> Result<Bytes, AllocError> {
@@ -59,7 +73,10 @@ pub(crate) fn copy(alloc: Global, octets: &[u8]) -> Result<Bytes, AllocError> {
     }
 }
 
-pub(crate) fn edit<C: Chronicle + Drop>(state: &mut State<C>, text: &str) -> Result<u64, Fault>
+pub(crate) fn edit<C: Chronicle + Drop, Q: AuditQueue + Drop>(
+    state: &mut State<C, Q>,
+    text: &str,
+) -> Result<u64, Fault>
     requires stands { StandsForSome C.tells state.old }
     ensures stands { StandsForSome C.tells state.new }
 {
@@ -69,21 +86,31 @@ pub(crate) fn edit<C: Chronicle + Drop>(state: &mut State<C>, text: &str) -> Res
     }
 }
 
-pub(crate) fn subscribe<C: Chronicle + Drop>(
-    state: &mut State<C>,
+pub(crate) fn subscribe<C: Chronicle + Drop, Q: AuditQueue + Drop>(
+    state: &mut State<C, Q>,
     name: &str,
 ) -> Result<SubId, Fault>
     requires stands { StandsForSome C.tells state.old }
     ensures stands { StandsForSome C.tells state.new }
 {
-    match state.subscribe(name) {
-        Err(Fault::OutOfMemory) => state.subscribe(name),
+    match subscribe_once(state, name) {
+        Err(Fault::OutOfMemory) => subscribe_once(state, name),
         answer => answer,
     }
 }
 
-pub(crate) fn unsubscribe<C: Chronicle + Drop>(
-    state: &mut State<C>,
+fn subscribe_once<C: Chronicle + Drop, Q: AuditQueue + Drop>(
+    state: &mut State<C, Q>,
+    name: &str,
+) -> Result<SubId, Fault>
+    requires stands { StandsForSome C.tells state.old }
+    ensures stands { StandsForSome C.tells state.new }
+{
+    state.subscribe(name)
+}
+
+pub(crate) fn unsubscribe<C: Chronicle + Drop, Q: AuditQueue + Drop>(
+    state: &mut State<C, Q>,
     sub: SubId,
 ) -> Result<(), Fault>
     requires stands { StandsForSome C.tells state.old }
@@ -95,18 +122,31 @@ pub(crate) fn unsubscribe<C: Chronicle + Drop>(
     }
 }
 
-pub(crate) fn advance<C: Chronicle + Drop>(state: &mut State<C>, t: u64) -> Result<(), Fault>
+pub(crate) fn advance<C: Chronicle + Drop, Q: AuditQueue + Drop>(
+    state: &mut State<C, Q>,
+    t: u64,
+) -> Result<(), Fault>
     requires stands { StandsForSome C.tells state.old }
     ensures stands { StandsForSome C.tells state.new }
 {
-    match state.advance(t) {
-        Err(Fault::OutOfMemory) => state.advance(t),
+    match advance_once(state, t) {
+        Err(Fault::OutOfMemory) => advance_once(state, t),
         answer => answer,
     }
 }
 
-pub(crate) fn pull<C: Chronicle + Drop>(
-    state: &mut State<C>,
+fn advance_once<C: Chronicle + Drop, Q: AuditQueue + Drop>(
+    state: &mut State<C, Q>,
+    t: u64,
+) -> Result<(), Fault>
+    requires stands { StandsForSome C.tells state.old }
+    ensures stands { StandsForSome C.tells state.new }
+{
+    state.advance(t)
+}
+
+pub(crate) fn pull<C: Chronicle + Drop, Q: AuditQueue + Drop>(
+    state: &mut State<C, Q>,
     sub: SubId,
     target: u16,
 ) -> Result<Option<Bytes>, Fault>
@@ -119,8 +159,8 @@ pub(crate) fn pull<C: Chronicle + Drop>(
     }
 }
 
-pub(crate) fn drain_audit<C: Chronicle + Drop>(
-    state: &mut State<C>,
+pub(crate) fn drain_audit<C: Chronicle + Drop, Q: AuditQueue + Drop>(
+    state: &mut State<C, Q>,
     most: u32,
 ) -> Result<Vec<AuditEntry>, AllocError>
     requires stands { StandsForSome C.tells state.old }

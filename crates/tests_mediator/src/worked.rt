@@ -1,12 +1,13 @@
-//! The worked cases, carried out over a journal and over its sizes alone: each call answers the same over both.
-ghost use Rattle.std.specs.Prelude.{[], IfOk};
+//! The worked cases, carried out over a journal and over its sizes alone, and with an audit whose entries are kept or
+//! counted: each call answers the same over all of them, but for the entries that are kept nowhere.
+ghost use Rattle.std.specs.Prelude.{◌≡◌, [], IfOk};
 ghost use Rattle.mediator_state.specs.Calls.{StandsForSome};
 
 use crate::aggregates::AGGREGATES;
 use crate::calls;
 use crate::cases::{CASES, Case, Step};
 use bytes::Bytes;
-use disclosure_audit::{AuditEntry, line};
+use disclosure_audit::{Audit, AuditEntry, AuditQueue, CountedQueue, KeptQueue, line};
 use event_journal::{Chronicle, Journal, JournalSizes, MOST_ENTRIES, MOST_OCTETS};
 use ipfix_session::Skips;
 use mediator_calls::{SessionId, SubId};
@@ -17,14 +18,16 @@ use std::process::Abort;
 use std::test::Fail;
 use subscriber_stream::StreamLimits;
 
-/// A state over a chronicle of no entry.
-fn begin<C: Chronicle + Drop>(
+/// A state over a chronicle of no entry, and over a queue of none.
+fn begin<C: Chronicle + Drop, Q: AuditQueue + Drop>(
     rt: &impl Abort,
     alloc: Global,
     limits: Limits,
     chronicle: C,
-) -> Result<State<C>, AllocError>
+    queue: Q,
+) -> Result<State<C, Q>, AllocError>
     requires empty { C.tells chronicle [] }
+    requires none { (Q.seen queue).count ≡ 0 }
     ensures stands { IfOk result (λ s. StandsForSome C.tells s) }
 {
     assert!(rt; limits.queue <= 1_000_000);
@@ -35,7 +38,7 @@ fn begin<C: Chronicle + Drop>(
         queue: limits.queue,
         shapes: limits.shapes,
     };
-    State::new(alloc, streams, limits.audit, chronicle)
+    State::new(alloc, streams, Audit::new(queue, limits.audit), chronicle)
 }
 
 /// Whether a message is the one that is wanted, or both are none.
@@ -117,10 +120,31 @@ fn is_subscribed(answer: Result<SubId, Fault>, due: &Result<u64, Fault>) -> bool
     }
 }
 
-/// Whether a call answers what is wanted.
-fn answers<C: Chronicle + Drop>(
+/// Whether as many entries of the audit wait no more as are wanted, and those are handed out, where they are kept.
+fn is_drained<C: Chronicle + Drop, Q: AuditQueue + Drop>(
     alloc: Global,
-    state: &mut State<C>,
+    state: &mut State<C, Q>,
+    most: u32,
+    due: &[&str],
+) -> Result<bool, AllocError>
+    requires stands { StandsForSome C.tells state.old }
+    ensures stands { StandsForSome C.tells state.new }
+{
+    let before = state.audit_waiting();
+    let entries = calls::drain_audit(state, most)?;
+    let fewer = before.saturating_sub(state.audit_waiting()) as usize;
+    let is_told = if Q::KEEPS {
+        are_lines(alloc, &entries, due)?
+    } else {
+        entries.is_empty()
+    };
+    Ok(fewer == due.len() && is_told)
+}
+
+/// Whether a call answers what is wanted.
+fn answers<C: Chronicle + Drop, Q: AuditQueue + Drop>(
+    alloc: Global,
+    state: &mut State<C, Q>,
     step: &Step,
 ) -> Result<bool, AllocError>
     requires stands { StandsForSome C.tells state.old }
@@ -148,16 +172,16 @@ fn answers<C: Chronicle + Drop>(
             Ok(state.status(SubId(*sub)) == status(*queued, *handed, *shapes, true))
         }
         Step::Gone(sub) => Ok(state.status(SubId(*sub)).is_none()),
-        Step::Audit(most, due) => are_lines(alloc, &calls::drain_audit(state, *most)?, due),
+        Step::Audit(most, due) => is_drained(alloc, state, *most, due),
     }
 }
 
 /// That each call answers what is wanted.
-fn expect_steps<C: Chronicle + Drop>(
+fn expect_steps<C: Chronicle + Drop, Q: AuditQueue + Drop>(
     rt: &impl Abort,
     alloc: Global,
     name: &str,
-    state: &mut State<C>,
+    state: &mut State<C, Q>,
     steps: &[Step],
 ) -> Result<(), AllocError>
     requires stands { StandsForSome C.tells state.old }
@@ -170,28 +194,33 @@ fn expect_steps<C: Chronicle + Drop>(
     Ok(())
 }
 
-/// That a case's calls answer what is wanted over a chronicle of no entry. There are two of them, since a state that is
-/// refused memory keeps neither.
-fn expect_case<C: Chronicle + Drop>(
+/// That a case's calls answer what is wanted over a chronicle and a queue of no entry. There are two of them, since a
+/// state that is refused memory keeps neither.
+fn expect_case<C: Chronicle + Drop, Q: AuditQueue + Drop>(
     rt: &impl Abort,
     alloc: Global,
     case: &Case,
     first: C,
     second: C,
+    first_queue: Q,
+    second_queue: Q,
 ) -> Result<(), AllocError>
     requires first { C.tells first [] }
     requires second { C.tells second [] }
+    requires first_none { (Q.seen first_queue).count ≡ 0 }
+    requires second_none { (Q.seen second_queue).count ≡ 0 }
 {
-    let mut state = match begin(rt, alloc, case.limits, first) {
+    let mut state = match begin(rt, alloc, case.limits, first, first_queue) {
         Ok(state) => state,
-        Err(_) => begin(rt, alloc, case.limits, second)?,
+        Err(_) => begin(rt, alloc, case.limits, second, second_queue)?,
     };
     expect_steps(rt, alloc, case.name, &mut state, case.begin)?;
     expect_steps(rt, alloc, case.name, &mut state, case.steps)
 }
 
-/// That a case's calls answer what is wanted over a journal, and over its sizes alone.
-fn expect_both(rt: &impl Abort, alloc: Global, case: &Case) -> Result<(), AllocError> {
+/// That a case's calls answer what is wanted over a journal, and over its sizes alone; and with an audit whose entries
+/// are counted alone.
+fn expect_each(rt: &impl Abort, alloc: Global, case: &Case) -> Result<(), AllocError> {
     let (entries, octets) = (case.limits.entries, case.limits.octets);
     assert!(rt; 1 <= entries);
     assert!(rt; entries <= MOST_ENTRIES);
@@ -203,6 +232,8 @@ fn expect_both(rt: &impl Abort, alloc: Global, case: &Case) -> Result<(), AllocE
         case,
         Journal::new(alloc, entries, octets),
         Journal::new(alloc, entries, octets),
+        KeptQueue::new(alloc),
+        KeptQueue::new(alloc),
     )?;
     expect_case(
         rt,
@@ -210,13 +241,24 @@ fn expect_both(rt: &impl Abort, alloc: Global, case: &Case) -> Result<(), AllocE
         case,
         JournalSizes::new(entries, octets),
         JournalSizes::new(entries, octets),
+        KeptQueue::new(alloc),
+        KeptQueue::new(alloc),
+    )?;
+    expect_case(
+        rt,
+        alloc,
+        case,
+        JournalSizes::new(entries, octets),
+        JournalSizes::new(entries, octets),
+        CountedQueue::new(alloc),
+        CountedQueue::new(alloc),
     )
 }
 
 #[test]
 fn worked_cases(rt: HostRuntime) -> Result<(), Fail> {
     for case in CASES {
-        expect_both(&rt, rt.alloc(), case)?;
+        expect_each(&rt, rt.alloc(), case)?;
     }
     Ok(())
 }
@@ -224,7 +266,7 @@ fn worked_cases(rt: HostRuntime) -> Result<(), Fail> {
 #[test]
 fn worked_cases_of_aggregates(rt: HostRuntime) -> Result<(), Fail> {
     for case in AGGREGATES {
-        expect_both(&rt, rt.alloc(), case)?;
+        expect_each(&rt, rt.alloc(), case)?;
     }
     Ok(())
 }

@@ -1,6 +1,7 @@
 //! Streams that are filtered with a bound on reads, and on devices of which each call fails; and the names of faults. A run that is
 //! refused memory has written a front of what is due.
 use ipfix_reader::FramingFault;
+use ipfix_session::Fault as SessionFault;
 use mediator_offline::{Device, Fault as OfflineFault, OfflineJob, OfflineReport, offline};
 use mediator_state::Fault;
 use policy_text::{Fault as PolicyFault, FaultKind};
@@ -269,6 +270,85 @@ fn each_call_fails(rt: HostRuntime) -> Result<(), Fail> {
     }
     for (place, message) in MESSAGES.iter().enumerate() {
         expect_message(&rt, rt.alloc(), place, *message)?;
+    }
+    Ok(())
+}
+
+/// What stands behind the two messages: the begin of one of another version; or one that is refused, since its record goes past its
+/// set.
+const FAULTY: &[u8] = b"\x00\x09\x00\x10";
+
+const REFUSED: &[u8] = b"\x00\x0a\x00\x22\x65\x53\xf1\x00\x00\x00\x00\x02\x00\x00\x00\x07\
+\x00\x02\x00\x0c\x01\x01\x00\x01\x00\x52\xff\xff\
+\x01\x01\x00\x06\x05\x41";
+
+/// A run without an audit that reads the two messages, and these octets behind them, at once.
+fn run_at_once(
+    alloc: Global,
+    behind: &[u8],
+    (takes, writes): (usize, usize),
+) -> Result<Ran, AllocError> {
+    let mut input = Vec::from_slice(alloc, TWO_MESSAGES)?;
+    input.extend_from_slice(behind)?;
+    let mut reader = Device::new(input.as_slice());
+    let mut writer = Device::new(Narrow::new(alloc, ENOUGH, takes, writes, BrokenPipe)?);
+    let mut audit = Device::new(Vec::new(alloc));
+    let answer = offline(
+        alloc,
+        &job(1000, false),
+        &mut reader,
+        &mut writer,
+        &mut audit,
+    );
+    Ok(Ran {
+        answer,
+        written: writer.into_inner().octets,
+        audit: audit.into_inner(),
+    })
+}
+
+/// That such a run answers `due`, and leaves `written` octets of what is due, and no audit. Where it is refused memory, it leaves a
+/// front of them, and is made again.
+fn expect_at_once(
+    rt: &impl Abort,
+    alloc: Global,
+    behind: &[u8],
+    writer: (usize, usize),
+    due: Result<OfflineReport, OfflineFault>,
+    written: usize,
+) -> Result<(), AllocError> {
+    let mut ran = run_at_once(alloc, behind, writer)?;
+    if ran.answer == Err(OfflineFault::Mediator(Fault::OutOfMemory)) {
+        assert!(rt; BOTH_WITHOUT_OCTETS.starts_with(ran.written.as_slice()));
+        ran = run_at_once(alloc, behind, writer)?;
+    }
+    let answer = ran.answer;
+    assert!(rt; answer == due, "{answer:?}");
+    assert!(rt; Some(ran.written.as_slice()) == BOTH_WITHOUT_OCTETS.get(..written));
+    assert!(rt; ran.audit.is_empty());
+    Ok(())
+}
+
+/// What stands behind the two messages, and what such a run answers.
+const ENDS: &[(&[u8], Result<OfflineReport, OfflineFault>)] = &[
+    (b"", Ok(BOTH_DONE)),
+    (FAULTY, Err(OfflineFault::Framing(FramingFault::BadVersion))),
+    (
+        REFUSED,
+        Err(OfflineFault::Mediator(Fault::Malformed(SessionFault::RecordOverrun))),
+    ),
+];
+
+/// What is due for both is written by one write, also before a fault; and where the writer fails inside it, that is said.
+#[test]
+fn one_read_is_one_write(rt: HostRuntime) -> Result<(), Fail> {
+    let alloc = rt.alloc();
+    for (behind, due) in ENDS {
+        expect_at_once(&rt, alloc, behind, (ENOUGH, 1), *due, 68)?;
+        for sent in 0..68 {
+            let due = Err(OfflineFault::Write { sent: sent as u64 });
+            expect_at_once(&rt, alloc, behind, (1, sent), due, sent)?;
+        }
     }
     Ok(())
 }

@@ -232,7 +232,7 @@ fn offer_and_wake<E: EntryLedger, H: RecordLedger, R: Wait + Abort>(
     let message = Bytes::copy_from_slice(alloc, ONE_RECORD).expect(rt, "memory");
     let answer = exporter.offer_silently(rt, shared, message);
     assert!(rt; answer.is_ok());
-    shared.wake();
+    shared.wake(rt);
 }
 
 #[test]

@@ -1,16 +1,6 @@
-use Rattle.std.proofs.Common.{◌≡◌, ℕ, List, [], ◌++◌, take, sym, ap, ◌∙◌}
-use Rattle.subscriber_stream.specs.Waiting.{items_in}
-use Rattle.subscriber_stream.proofs.Pieces.{kept_take}
-use Rattle.subscriber_stream.proofs.Messages.{message_pieces}
+use Rattle.std.proofs.Common.{◌∙◌}
+use Rattle.subscriber_stream.proofs.Messages.{behind_none}
 use Rattle.subscriber_stream.proofs.writing.message_of.Goals as goal
 
-put_together : (out first second head rest whole : List ℕ) → out ≡ second ++ rest → second ≡ first ++ head → first ≡ [] → whole ≡ head ++ rest → out ≡ whole
-put_together out first second head rest whole a b e w =
-    a ∙ ap (λ (t : List ℕ). t ++ rest) (b ∙ ap (λ (t : List ℕ). t ++ head) e) ∙ sym w
-
 pub returns : goal.returns
-returns c =
-    let ws = take c.args.whole.parts (items_in c.args.queue.now.items) in
-    let kept = kept_take c.args.shapes.now.shapes c.args.whole.parts (items_in c.args.queue.now.items) c.requires.kept in
-    let written = message_pieces c.args.shapes.now.shapes ws c.args.now c.args.handed c.args.whole.octets kept c.requires.octets in
-    put_together _ _ _ _ _ _ (c.in_ok-from_vec.ensures.ok ∙ c.in_ok-put_parts.ensures) c.in_ok-put_header.ensures c.in_ok-out.ensures.items written
+returns c = c.in_ok-from_vec.ensures.ok ∙ behind_none _ _ _ c.in_ok-out.ensures.items c.in_ok-put_message.ensures

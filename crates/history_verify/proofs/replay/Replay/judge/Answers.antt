@@ -1,6 +1,6 @@
 use Rattle.std.proofs.Common.{map, ap, ◌∙◌}
 use Rattle.std.specs.Prelude.{not}
-use Rattle.mediator_shares.specs.Noting.{kept_notes}
+use Rattle.disclosure_audit.specs.Noting.{kept_notes}
 use Rattle.mediator_shares.specs.Sharing.{shares_of, tallies_of, notes_of}
 use Rattle.disclosure_audit.specs.Queue.{stamp}
 use Rattle.history_verify.proofs.UnborneLaws.{not_empty_where}

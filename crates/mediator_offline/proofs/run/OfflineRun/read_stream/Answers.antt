@@ -1,6 +1,7 @@
 use Rattle.std.proofs.Common.{false, refl, sym, ap, ◌∙◌, subst, arith}
 use Rattle.std.specs.Prelude.{MatchOption}
 use Rattle.ipfix_reader.specs.Intake.{Ends, Yields, reader_after as intake_reader}
+use Rattle.mediator_offline.specs.declared.job.OfflineJob.{OfflineJob}
 use Rattle.mediator_offline.specs.Failing.{FailsOnly}
 use Rattle.mediator_offline.specs.Ports.{holding, with_left}
 use Rattle.mediator_offline.specs.Filtering.{StopsSomewhere}
@@ -11,7 +12,7 @@ use Rattle.mediator_offline.proofs.Ends.{reading_starts, runs_after, reads_on, m
 use Rattle.mediator_offline.proofs.run.OfflineRun.read_stream.Goals as goal
 
 pub reads-init : goal.reads-init
-reads-init g c = (reading_starts c.args.self.now c.args.intake.now c.args.self.now.job _ c.requires.opened c.requires.intake, c.requires.reader, refl, refl)
+reads-init g c = (reading_starts c.args.self.now c.args.intake.now c.args.self.now.job _ c.requires.opened c.requires.intake, c.requires.reader, refl, refl, c.new-gathered.ensures.items)
 
 pub returns-in_err-messages-clause-err : goal.returns-in_err-messages-clause-err
 returns-in_err-messages-clause-err g c =
@@ -46,8 +47,14 @@ returns-in_default-clause-stays g c = c.reads.invariant.2
 pub returns-in_default-clause-audit_stays : goal.returns-in_default-clause-audit_stays
 returns-in_default-clause-audit_stays g c = c.reads.invariant.3
 
-pub handle_all-requires : goal.handle_all-requires
-handle_all-requires g c = record { running = runs_after c.reads.self c.reads.intake c.args.self.now.job _ _ c.reads.invariant.0 }
+pub handle_all-requires-clause-running : goal.handle_all-requires-clause-running
+handle_all-requires-clause-running g c = runs_after c.reads.self c.reads.intake c.args.self.now.job _ _ c.reads.invariant.0
+
+pub handle_all-requires-clause-none : goal.handle_all-requires-clause-none
+handle_all-requires-clause-none g c = c.reads.invariant.4
+
+pub handle_all-requires-clause-asked : goal.handle_all-requires-clause-asked
+handle_all-requires-clause-asked g c = ap (λ (j : OfflineJob). j.audit) c.reads.invariant.0.running.job_is ∙ c.requires.asked
 
 pub returns-in_err-handle_all-clause-err : goal.returns-in_err-handle_all-clause-err
 returns-in_err-handle_all-clause-err g c =
@@ -76,4 +83,5 @@ reads-preserved g c = (
   c.in_ok-messages.ensures.sound ∙ c.reads.invariant.1,
   c.in_ok-handle_all.ensures.stays ∙ c.reads.invariant.2,
   c.in_ok-handle_all.ensures.audit_stays ∙ c.reads.invariant.3,
+  c.handle_all.ensures.none,
 )

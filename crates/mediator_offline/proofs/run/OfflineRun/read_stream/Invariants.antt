@@ -1,4 +1,4 @@
-use Rattle.std.proofs.Common.{◌≡◌, false}
+use Rattle.std.proofs.Common.{◌≡◌, false, []}
 use Rattle.mediator_offline.specs.Ports.{holding, with_left}
 use Rattle.mediator_offline.specs.Reaching.{IsAfter}
 use Rattle.mediator_offline.proofs.run.OfflineRun.read_stream.Given as goal
@@ -10,7 +10,7 @@ invariant-reads g l =
     (holding (g.W.Sink.contents l.fn.writer) (g.A.Sink.contents l.fn.audit_writer) (g.W.Sink.has_failed l.fn.writer) (g.A.Sink.has_failed l.fn.audit_writer)))
     (with_left (g.R.Source.remaining l.reader) (g.R.Source.has_failed l.reader)
     (holding (g.W.Sink.contents l.writer) (g.A.Sink.contents l.audit_writer) (g.W.Sink.has_failed l.writer) (g.A.Sink.has_failed l.audit_writer)))
-    × (g.R.Source.has_failed l.reader ≡ false) × (g.W.Sink.has_failed l.writer ≡ g.W.Sink.has_failed l.fn.writer) × (g.A.Sink.has_failed l.audit_writer ≡ g.A.Sink.has_failed l.fn.audit_writer)
+    × (g.R.Source.has_failed l.reader ≡ false) × (g.W.Sink.has_failed l.writer ≡ g.W.Sink.has_failed l.fn.writer) × (g.A.Sink.has_failed l.audit_writer ≡ g.A.Sink.has_failed l.fn.audit_writer) × (l.gathered.items ≡ [])
 
 abbrev pub decreases-reads : goal.decreases-reads
 decreases-reads g l = l.intake.turns

@@ -4,15 +4,15 @@ use Rattle.mediator_offline.proofs.Receiving.{err_gives, refused, received, reco
 use Rattle.mediator_offline.proofs.run.OfflineRun.receive.Goals as goal
 
 pub returns-in_err-receipt-clause-err : goal.returns-in_err-receipt-clause-err
-returns-in_err-receipt-clause-err c =
+returns-in_err-receipt-clause-err g c =
     err_gives c.from_residual.result c.from_residual.ensures
     (λ e is. subst (λ x. RunRefuses x c.args.self.now c.args.message) (sym is) (refused c.in_err-receipt.field-0.0 c.args.self.now c.args.message c.requires.delivered c.in_err-receipt.ensures.err))
 
 pub overflow_add-self-2 : goal.overflow_add-self-2
-overflow_add-self-2 c = omega (arith, records_fit c.args.self.now (record { alloc = c.args.self.now.alloc; job = c.args.self.now.job; state = c.receive.new.self; messages = 0; records = 0; sent = 0 }) c.args.message c.in_ok-receipt.receipt c.requires.delivered c.in_ok-receipt.ensures.ok.goes_on)
+overflow_add-self-2 g c = omega (arith, records_fit c.args.self.now (record { alloc = c.args.self.now.alloc; job = c.args.self.now.job; state = c.receive.new.self; messages = 0; records = 0; sent = 0; message = c.args.self.now.message }) c.args.message c.in_ok-receipt.receipt c.requires.delivered c.in_ok-receipt.ensures.ok.goes_on)
 
 pub returns-clause-few : goal.returns-clause-few
-returns-clause-few c = few_noted c.args.self.now (record { alloc = c.args.self.now.alloc; job = c.args.self.now.job; state = c.receive.new.self; messages = c.args.self.now.messages + 1; records = c.args.self.now.records + c.in_ok-receipt.receipt.records; sent = c.args.self.now.sent }) c.args.message c.in_ok-receipt.receipt c.requires.delivered (record {
+returns-clause-few g c = few_noted c.args.self.now (record { alloc = c.args.self.now.alloc; job = c.args.self.now.job; state = c.receive.new.self; messages = c.args.self.now.messages + 1; records = c.args.self.now.records + c.in_ok-receipt.receipt.records; sent = c.args.self.now.sent; message = c.args.self.now.message }) c.args.message c.in_ok-receipt.receipt c.requires.delivered (record {
   job = refl;
   messages = refl;
   records = refl;
@@ -22,7 +22,7 @@ returns-clause-few c = few_noted c.args.self.now (record { alloc = c.args.self.n
 })
 
 pub returns-clause-ok : goal.returns-clause-ok
-returns-clause-ok c = received c.args.self.now (record { alloc = c.args.self.now.alloc; job = c.args.self.now.job; state = c.receive.new.self; messages = c.args.self.now.messages + 1; records = c.args.self.now.records + c.in_ok-receipt.receipt.records; sent = c.args.self.now.sent }) c.args.message c.in_ok-receipt.receipt (record {
+returns-clause-ok g c = received c.args.self.now (record { alloc = c.args.self.now.alloc; job = c.args.self.now.job; state = c.receive.new.self; messages = c.args.self.now.messages + 1; records = c.args.self.now.records + c.in_ok-receipt.receipt.records; sent = c.args.self.now.sent; message = c.args.self.now.message }) c.args.message c.in_ok-receipt.receipt (record {
   job = refl;
   messages = refl;
   records = refl;

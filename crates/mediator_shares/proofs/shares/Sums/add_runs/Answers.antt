@@ -16,7 +16,7 @@ overflow_add-before c =
 
 pub runs-preserved : goal.runs-preserved
 runs-preserved c = (
-  shares_step c.runs.judges.shares c.add_run.new.judges.shares c.runs.self.tallies.items c.add_run.new.self.tallies.items c.args.self.now.notes c.runs.self.notes c.add_run.new.self.notes c.args.domain c.args.in_force.now c.args.runs.now c.args.served.now c.runs.run-index c.runs.before c.len-before.result
+  shares_step c.runs.judges.shares c.add_run.new.judges.shares c.runs.self.tallies.items c.add_run.new.self.tallies.items c.args.self.now.notes c.runs.self.notes c.add_run.new.self.notes c.args.domain c.args.in_force.now c.args.runs.now c.args.leaders.now c.args.served.now c.runs.run-index c.runs.before c.len-before.result
       c.run-item.result _ c.runs.invariant.0 (omega (arith, c.runs-test.true)) c.run-item.is c.len-before.ensures.value
       (record { shares = c.in_ok-add_run.ensures.shares; tallies = c.in_ok-add_run.ensures.tallies; noting = c.in_ok-add_run.ensures.notes }) c.in_ok-add_run.ensures.stay c.in_ok-add_run.ensures.stay_tallies,
   c.in_ok-add_run.ensures.judges,

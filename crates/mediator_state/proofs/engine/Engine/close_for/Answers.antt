@@ -8,7 +8,7 @@ use Rattle.mediator_state.proofs.engine.Engine.close_for.Goals as goal
 use Rattle.mediator_state.proofs.engine.Engine.close_for.Goals.{then-lacks_room+in_ok-push, else-lacks_room+in_ok-push-2}
 
 pub served-preserved : goal.served-preserved
-served-preserved c = elim c.if-lacks_room.branch [
+served-preserved g c = elim c.if-lacks_room.branch [
   | then-lacks_room+in_ok-push w ↦
       rw (w.cuts-is, w.shares-is) (parting_cut c.args.self.now c.args.t c.args.served.now c.served.cuts.items w.push.new.self.items c.served.shares.items c.served.who-index _ _ (record { sub = _; given = c.in_ok-given.given })
       c.served.invariant (omega (arith, c.served-test.true)) refl (record { sub = refl; closes = c.in_ok-given.ensures }) (sym c.lacks_room.ensures ∙ w.if-lacks_room.true) w.in_ok-push.ensures.items)
@@ -18,4 +18,4 @@ served-preserved c = elim c.if-lacks_room.branch [
 ]
 
 pub returns : goal.returns
-returns c = λ h so. subst (λ l. AreParted c.args.self.now.subscriptions (map (closing_share h c.args.t) (map told l)) c.served.cuts.items (map shown c.served.shares.items)) (take_all c.served.who-index c.args.served.now (omega (arith, c.served-test.false))) (c.served.invariant h so)
+returns g c = λ h so. subst (λ l. AreParted c.args.self.now.subscriptions (map (closing_share h c.args.t) (map told l)) c.served.cuts.items (map shown c.served.shares.items)) (take_all c.served.who-index c.args.served.now (omega (arith, c.served-test.false))) (c.served.invariant h so)

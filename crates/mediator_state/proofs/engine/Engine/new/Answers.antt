@@ -4,4 +4,4 @@ use Rattle.mediator_state.proofs.EntrySteps.{stands-new}
 use Rattle.mediator_state.proofs.engine.Engine.new.Goals as goal
 
 pub returns-clause-stands : goal.returns-clause-stands
-returns-clause-stands c = stands-new _ c.in_ok-nothing.ensures (λ q. ap (λ (x : HeldGroups). x.groups) (c.new-3.ensures q)) refl refl refl c.new.ensures c.new-2.ensures c.new-4.ensures.stands c.requires.range
+returns-clause-stands g c = stands-new _ c.in_ok-nothing.ensures (λ q. ap (λ (x : HeldGroups). x.groups) (c.new-3.ensures q)) refl refl refl c.new.ensures c.new-2.ensures c.requires.fresh c.requires.range

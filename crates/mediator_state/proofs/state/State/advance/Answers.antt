@@ -68,7 +68,7 @@ advance-requires-clause-planned g c =
     let s = c.requires.stands.stands in
     let counts = g.met.C.Chronicle.counted c.args.self.now.chronicle h s.told in
     let counted = sym (c.len-position.ensures.value ∙ counts.entries) in
-    subst (λ (e : Engine). IsClosingFor e c.len-position.result c.args.t c.in_ok-closing.closing) (sym c.append.ensures.engine)
+    subst (λ (e : Engine _). IsClosingFor e c.len-position.result c.args.t c.in_ok-closing.closing) (sym c.append.ensures.engine)
     (closing_for c.args.self.now.engine c.make_room_to_close.new.self h c.args.t c.len-position.result c.in_ok-closing.closing c.make_room_to_close.ensures.unchanged s.stands counted
     (omega (arith, c.len-position.ensures.within, c.len-position.ensures.limits.most_entries)) (c.in_ok-closing.ensures h s.stands))
 
@@ -79,12 +79,12 @@ returns-clause-ok g c = record {
       s (g.met.C.Chronicle.counted c.args.self.now.chronicle h s.told) c.len-position.ensures.value
       (closing_found c.args.self.now.engine h c.args.t c.in_ok-closing.closing c.in_ok-entries.entries.items c.deref.result.now (ahead_of c.args.self.now.engine h c.args.t c.clock-last.result s.stands c.clock-last.ensures (omega (arith, c.if-t-last.false))) (c.in_ok-closing.ensures h s.stands) c.in_ok-entries.ensures c.deref.ensures.value)
       (room_where c.room.result (g.C.Chronicle.limits c.args.self.now.chronicle) (g.C.Chronicle.count c.args.self.now.chronicle) (g.C.Chronicle.octets c.args.self.now.chronicle) c.deref-2.result.now c.in_ok-entries.entries.items c.room.ensures c.deref-2.ensures.value c.if-not-room.false)
-      (subst (λ (e : Engine). IsSameEngine c.args.self.now.engine e) (sym c.append.ensures.engine) c.make_room_to_close.ensures.unchanged)
+      (subst (λ (e : Engine _). IsSameEngine c.args.self.now.engine e) (sym c.append.ensures.engine) c.make_room_to_close.ensures.unchanged)
       (closing_held c.args.self.now.engine c.make_room_to_close.new.self h c.args.t c.in_ok-closing.closing c.in_ok-entries.entries.items c.make_room_to_close.ensures.unchanged s.stands
       (closing_found c.args.self.now.engine h c.args.t c.in_ok-closing.closing c.in_ok-entries.entries.items c.deref.result.now (ahead_of c.args.self.now.engine h c.args.t c.clock-last.result s.stands c.clock-last.ensures (omega (arith, c.if-t-last.false))) (c.in_ok-closing.ensures h s.stands) c.in_ok-entries.ensures c.deref.ensures.value)
       c.in_ok-make_room_to_close.ensures.ok)
       (c.append.ensures.tells h (c.reserve.ensures.tells h s.told)) c.advance.ensures.stands;
   untouched = untouched_after c.args.self.now.engine c.append.new.self.engine c.advance.new.self
-      (untouched_same c.args.self.now.engine c.append.new.self.engine (subst (λ (e : Engine). IsSameEngine c.args.self.now.engine e) (sym c.append.ensures.engine) c.make_room_to_close.ensures.unchanged)) c.advance.ensures.untouched;
+      (untouched_same c.args.self.now.engine c.append.new.self.engine (subst (λ (e : Engine _). IsSameEngine c.args.self.now.engine e) (sym c.append.ensures.engine) c.make_room_to_close.ensures.unchanged)) c.advance.ensures.untouched;
   journaled = c.append.ensures.limits ∙ c.reserve.ensures.limits;
 }

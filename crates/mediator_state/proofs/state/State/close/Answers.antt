@@ -19,6 +19,6 @@ returns-clause-ok g c = record {
         s (g.met.C.Chronicle.counted c.args.self.now.chronicle h s.told) c.make_room.ensures.limits c.make_room.ensures.count c.make_room.ensures.octets c.in_ok-make_room.ensures.room
         refl c.make_room.ensures.tells c.push_reserved.ensures.tells c.make_room.ensures.engine c.close.ensures.stands;
   };
-  untouched = subst (λ (e : Engine). IsUntouched e c.close.new.self) c.make_room.ensures.engine c.close.ensures.untouched;
+  untouched = subst (λ (e : Engine _). IsUntouched e c.close.new.self) c.make_room.ensures.engine c.close.ensures.untouched;
   journaled = c.push_reserved.ensures.limits ∙ c.make_room.ensures.limits;
 }

@@ -43,11 +43,11 @@ returns-clause-ok g c =
             (ap (λ (n : List ℕ). Edit n) c.in_ok-text.ensures)
             c.make_room.ensures.tells c.push_reserved.ensures.tells c.make_room.ensures.engine (λ f st. c.put_in_force-revision.ensures.stands f c.args.text.now st spelled);
       };
-      untouched = subst (λ (e : Engine). IsUntouched e c.put_in_force-revision.new.self) c.make_room.ensures.engine c.put_in_force-revision.ensures.untouched;
+      untouched = subst (λ (e : Engine _). IsUntouched e c.put_in_force-revision.new.self) c.make_room.ensures.engine c.put_in_force-revision.ensures.untouched;
       journaled = c.push_reserved.ensures.limits ∙ c.make_room.ensures.limits;
     }
 
 pub put_in_force-revision-requires-clause-somewhere : goal.put_in_force-revision-requires-clause-somewhere
 put_in_force-revision-requires-clause-somewhere g c =
-    subst (λ (e : Engine). StandsSomewhere e c.len-position.result) (sym c.make_room.ensures.engine)
+    subst (λ (e : Engine _). StandsSomewhere e c.len-position.result) (sym c.make_room.ensures.engine)
     (somewhere g.C.Chronicle.tells c.args.self.now (g.C.Chronicle.count c.args.self.now.chronicle) (g.C.Chronicle.octets c.args.self.now.chronicle) c.len-position.result (g.met.C.Chronicle.counted c.args.self.now.chronicle) c.len-position.ensures.value c.requires.stands)

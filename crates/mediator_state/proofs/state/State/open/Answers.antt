@@ -12,7 +12,7 @@ pub returns-in_err-open-clause-unchanged : goal.returns-in_err-open-clause-uncha
 returns-in_err-open-clause-unchanged g c =
     on_err c.from_residual-in_err-open.result
     (same_roomed g.C.Chronicle.tells g.C.Chronicle.limits c.args.self.now c.make_room.new.self.chronicle c.open.new.self c.make_room.ensures.tells
-    (subst (λ (e : Engine). IsSameEngine e c.open.new.self) c.make_room.ensures.engine c.in_err-open.ensures.err) c.make_room.ensures.limits)
+    (subst (λ (e : Engine _). IsSameEngine e c.open.new.self) c.make_room.ensures.engine c.in_err-open.ensures.err) c.make_room.ensures.limits)
 
 pub returns-clause-ok : goal.returns-clause-ok
 returns-clause-ok g c = record {
@@ -22,6 +22,6 @@ returns-clause-ok g c = record {
         s (g.met.C.Chronicle.counted c.args.self.now.chronicle h s.told) c.make_room.ensures.limits c.make_room.ensures.count c.make_room.ensures.octets c.in_ok-make_room.ensures.room
         refl c.make_room.ensures.tells c.push_reserved.ensures.tells c.make_room.ensures.engine c.in_ok-open.ensures.ok;
   };
-  untouched = subst (λ (e : Engine). IsUntouched e c.open.new.self) c.make_room.ensures.engine c.open.ensures.untouched;
+  untouched = subst (λ (e : Engine _). IsUntouched e c.open.new.self) c.make_room.ensures.engine c.open.ensures.untouched;
   journaled = c.push_reserved.ensures.limits ∙ c.make_room.ensures.limits;
 }

@@ -47,7 +47,7 @@ returns-clause-ok g c = record {
         (ap (λ (n : List ℕ). Subscribe c.next_subscription-sub.result.0 n) (c.in_ok-copy.ensures ∙ c.as_bytes.ensures.value))
         c.make_room.ensures.tells c.push_reserved.ensures.tells c.make_room.ensures.engine c.in_ok-subscribe.ensures.ok;
   };
-  untouched = subst (λ (e : Engine). IsUntouched e c.subscribe.new.self) c.make_room.ensures.engine c.subscribe.ensures.untouched;
+  untouched = subst (λ (e : Engine _). IsUntouched e c.subscribe.new.self) c.make_room.ensures.engine c.subscribe.ensures.untouched;
   journaled = c.push_reserved.ensures.limits ∙ c.make_room.ensures.limits;
 }
 
@@ -55,4 +55,4 @@ pub returns-in_err-subscribe-clause-unchanged : goal.returns-in_err-subscribe-cl
 returns-in_err-subscribe-clause-unchanged g c =
     on_err c.from_residual-in_err-subscribe.result
     (same_roomed g.C.Chronicle.tells g.C.Chronicle.limits c.args.self.now c.make_room.new.self.chronicle c.subscribe.new.self c.make_room.ensures.tells
-    (subst (λ (e : Engine). IsSameEngine e c.subscribe.new.self) c.make_room.ensures.engine c.in_err-subscribe.ensures.err) c.make_room.ensures.limits)
+    (subst (λ (e : Engine _). IsSameEngine e c.subscribe.new.self) c.make_room.ensures.engine c.in_err-subscribe.ensures.err) c.make_room.ensures.limits)

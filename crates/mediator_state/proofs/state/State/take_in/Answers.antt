@@ -36,7 +36,7 @@ returns-in_err-entries-clause-err g c =
     (c.in_ok-plan.ensures.ok h c.args.number c.args.message s.stands (sym (c.len-position.ensures.value ∙ (g.met.C.Chronicle.counted c.args.self.now.chronicle h s.told).entries)) (c.requires.read h s))))
 
 pub returns-in_err-reserved-clause-unchanged : goal.returns-in_err-reserved-clause-unchanged
-returns-in_err-reserved-clause-unchanged g c = on_err c.from_residual-in_err-reserved.result (same_roomed g.C.Chronicle.tells g.C.Chronicle.limits c.args.self.now c.args.self.now.chronicle c.make_room.new.self (λ h told. told) (subst (λ (e : Engine). IsSameEngine e c.make_room.new.self) c.plan.ensures.unchanged c.make_room.ensures.unchanged) refl)
+returns-in_err-reserved-clause-unchanged g c = on_err c.from_residual-in_err-reserved.result (same_roomed g.C.Chronicle.tells g.C.Chronicle.limits c.args.self.now c.args.self.now.chronicle c.make_room.new.self (λ h told. told) (subst (λ (e : Engine _). IsSameEngine e c.make_room.new.self) c.plan.ensures.unchanged c.make_room.ensures.unchanged) refl)
 
 pub returns-in_err-reserved-clause-err : goal.returns-in_err-reserved-clause-err
 returns-in_err-reserved-clause-err g c =
@@ -47,10 +47,10 @@ returns-in_err-reserved-clause-err g c =
     (refused_audit c.in_err-reserved.field-0.0 (g.C.Chronicle.limits c.args.self.now.chronicle) (g.C.Chronicle.count c.args.self.now.chronicle) (g.C.Chronicle.octets c.args.self.now.chronicle) c.args.self.now.engine h c.args.session.0 c.args.number c.args.message c.in_ok-plan.plan c.in_ok-entries.entries.items counts
     (found c.args.self.now.engine h c.args.session.0 c.args.number c.args.message c.in_ok-plan.plan c.in_ok-entries.entries.items c.deref-2.result.now (c.in_ok-plan.ensures.ok h c.args.number c.args.message s.stands (sym (c.len-position.ensures.value ∙ counts.entries)) (c.requires.read h s)) c.in_ok-plan.ensures.session c.in_ok-entries.ensures c.deref-2.ensures.value)
     (room_where c.room.result (g.C.Chronicle.limits c.args.self.now.chronicle) (g.C.Chronicle.count c.args.self.now.chronicle) (g.C.Chronicle.octets c.args.self.now.chronicle) c.deref-3.result.now c.in_ok-entries.entries.items c.room.ensures c.deref-3.ensures.value c.if-not-room.false)
-    (subst (λ (e : Engine). LacksAudit c.in_err-reserved.field-0.0 e.audit (length c.in_ok-plan.plan.cuts.items + c.in_ok-plan.plan.notes.count)) c.plan.ensures.unchanged c.in_err-reserved.ensures.err)))
+    (subst (λ (e : Engine _). LacksAudit c.in_err-reserved.field-0.0 e.audit (length c.in_ok-plan.plan.cuts.items + c.in_ok-plan.plan.notes.count)) c.plan.ensures.unchanged c.in_err-reserved.ensures.err)))
 
 pub returns-in_err-reserve-clause-unchanged : goal.returns-in_err-reserve-clause-unchanged
-returns-in_err-reserve-clause-unchanged g c = on_err c.from_residual-in_err-reserve.result (same_roomed g.C.Chronicle.tells g.C.Chronicle.limits c.args.self.now c.reserve.new.self c.make_room.new.self c.reserve.ensures.tells (subst (λ (e : Engine). IsSameEngine e c.make_room.new.self) c.plan.ensures.unchanged c.make_room.ensures.unchanged) c.reserve.ensures.limits)
+returns-in_err-reserve-clause-unchanged g c = on_err c.from_residual-in_err-reserve.result (same_roomed g.C.Chronicle.tells g.C.Chronicle.limits c.args.self.now c.reserve.new.self c.make_room.new.self c.reserve.ensures.tells (subst (λ (e : Engine _). IsSameEngine e c.make_room.new.self) c.plan.ensures.unchanged c.make_room.ensures.unchanged) c.reserve.ensures.limits)
 
 pub returns-in_err-reserve-clause-err : goal.returns-in_err-reserve-clause-err
 returns-in_err-reserve-clause-err g c =
@@ -78,8 +78,8 @@ accept-requires-clause-planned g c =
     let s = c.requires.stands.stands in
     let counts = g.met.C.Chronicle.counted c.args.self.now.chronicle h s.told in
     let counted = sym (c.len-position.ensures.value ∙ counts.entries) in
-    subst (λ (e : Engine). IsPlannedFor e c.len-position.result c.in_ok-plan.plan) (sym c.append.ensures.engine)
-    (planned_for c.args.self.now.engine c.make_room.new.self h c.args.number c.args.message c.len-position.result c.in_ok-plan.plan (subst (λ (e : Engine). IsSameEngine e c.make_room.new.self) c.plan.ensures.unchanged c.make_room.ensures.unchanged) s.stands counted
+    subst (λ (e : Engine _). IsPlannedFor e c.len-position.result c.in_ok-plan.plan) (sym c.append.ensures.engine)
+    (planned_for c.args.self.now.engine c.make_room.new.self h c.args.number c.args.message c.len-position.result c.in_ok-plan.plan (subst (λ (e : Engine _). IsSameEngine e c.make_room.new.self) c.plan.ensures.unchanged c.make_room.ensures.unchanged) s.stands counted
     (omega (arith, c.len-position.ensures.within, c.len-position.ensures.limits.most_entries)) (c.in_ok-plan.ensures.ok h c.args.number c.args.message s.stands counted (c.requires.read h s)))
 
 pub returns-clause-ok : goal.returns-clause-ok
@@ -90,12 +90,12 @@ returns-clause-ok g c = record {
       s counts c.len-position.ensures.value
       (found c.args.self.now.engine h c.args.session.0 c.args.number c.args.message c.in_ok-plan.plan c.in_ok-entries.entries.items c.deref-2.result.now (c.in_ok-plan.ensures.ok h c.args.number c.args.message s.stands (sym (c.len-position.ensures.value ∙ counts.entries)) (c.requires.read h s)) c.in_ok-plan.ensures.session c.in_ok-entries.ensures c.deref-2.ensures.value)
       (room_where c.room.result (g.C.Chronicle.limits c.args.self.now.chronicle) (g.C.Chronicle.count c.args.self.now.chronicle) (g.C.Chronicle.octets c.args.self.now.chronicle) c.deref-3.result.now c.in_ok-entries.entries.items c.room.ensures c.deref-3.ensures.value c.if-not-room.false)
-      (subst (λ (e : Engine). IsSameEngine c.args.self.now.engine e) (sym c.append.ensures.engine) (subst (λ (e : Engine). IsSameEngine e c.make_room.new.self) c.plan.ensures.unchanged c.make_room.ensures.unchanged))
-      (message_held c.args.self.now.engine c.make_room.new.self h c.args.session.0 c.args.number c.args.message c.in_ok-plan.plan c.in_ok-entries.entries.items _ (subst (λ (e : Engine). IsSameEngine e c.make_room.new.self) c.plan.ensures.unchanged c.make_room.ensures.unchanged) s.stands
+      (subst (λ (e : Engine _). IsSameEngine c.args.self.now.engine e) (sym c.append.ensures.engine) (subst (λ (e : Engine _). IsSameEngine e c.make_room.new.self) c.plan.ensures.unchanged c.make_room.ensures.unchanged))
+      (message_held c.args.self.now.engine c.make_room.new.self h c.args.session.0 c.args.number c.args.message c.in_ok-plan.plan c.in_ok-entries.entries.items _ (subst (λ (e : Engine _). IsSameEngine e c.make_room.new.self) c.plan.ensures.unchanged c.make_room.ensures.unchanged) s.stands
       (found c.args.self.now.engine h c.args.session.0 c.args.number c.args.message c.in_ok-plan.plan c.in_ok-entries.entries.items c.deref-2.result.now (c.in_ok-plan.ensures.ok h c.args.number c.args.message s.stands (sym (c.len-position.ensures.value ∙ counts.entries)) (c.requires.read h s)) c.in_ok-plan.ensures.session c.in_ok-entries.ensures c.deref-2.ensures.value)
       c.in_ok-reserved.ensures.ok)
       (c.append.ensures.tells h (c.reserve.ensures.tells h s.told)) c.accept.ensures.stands c.accept.ensures.receipt;
   untouched = untouched_after c.args.self.now.engine c.append.new.self.engine c.accept.new.self
-      (untouched_same c.args.self.now.engine c.append.new.self.engine (subst (λ (e : Engine). IsSameEngine c.args.self.now.engine e) (sym c.append.ensures.engine) (subst (λ (e : Engine). IsSameEngine e c.make_room.new.self) c.plan.ensures.unchanged c.make_room.ensures.unchanged))) c.accept.ensures.untouched;
+      (untouched_same c.args.self.now.engine c.append.new.self.engine (subst (λ (e : Engine _). IsSameEngine c.args.self.now.engine e) (sym c.append.ensures.engine) (subst (λ (e : Engine _). IsSameEngine e c.make_room.new.self) c.plan.ensures.unchanged c.make_room.ensures.unchanged))) c.accept.ensures.untouched;
   journaled = c.append.ensures.limits ∙ c.reserve.ensures.limits;
 }

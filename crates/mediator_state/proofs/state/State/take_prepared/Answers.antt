@@ -1,5 +1,6 @@
-use Rattle.std.proofs.Common.{◌≡◌, ℕ, List, ◌∙◌, subst}
+use Rattle.std.proofs.Common.{◌≡◌, ℕ, List, sym, ◌∙◌, subst}
 use Rattle.mediator_state.specs.Calls.{Proceeds, ReceivesAfter, RefusesReceiveAfter}
+use Rattle.mediator_state.specs.Planning.{IsNextReading}
 use Rattle.mediator_state.proofs.CallLaws.{if_ok_gives, if_err_gives, refused_as_prepared, same_state, on_err}
 use Rattle.mediator_state.proofs.state.State.take_prepared.Goals as goal
 
@@ -21,3 +22,8 @@ returns-clause-err g c = if_err_gives c.take_in.result c.take_in.ensures.err
     let same : c.in_ok-message.message ≡ c.args.prepared.now.message = c.in_ok-message.ensures.cases ∙ c.message.ensures.value in
     refused_as_prepared e (g.C.Chronicle.limits c.args.self.now.chronicle) c.args.self.now.engine h c.args.session.0 c.args.number c.args.prepared.now c.in_ok-reading.reading (c.in_ok-reading.ensures.ok h s.stands)
     (subst (λ (m : List ℕ). RefusesReceiveAfter e (g.C.Chronicle.limits c.args.self.now.chronicle) c.args.self.now.engine h c.args.session.0 c.args.number m) same (refused h s)))
+
+pub take_in-requires-clause-read : goal.take_in-requires-clause-read
+take_in-requires-clause-read g c h s =
+    let same : c.in_ok-message.message ≡ c.args.prepared.now.message = c.in_ok-message.ensures.cases ∙ c.message.ensures.value in
+    subst (λ (m : List ℕ). IsNextReading h c.args.session.0 c.args.number m c.in_ok-reading.reading) (sym same) (c.in_ok-reading.ensures.ok h s.stands)

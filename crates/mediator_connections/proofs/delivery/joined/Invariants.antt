@@ -1,6 +1,0 @@
-use Rattle.std.proofs.Common.{◌≡◌, take}
-use Rattle.mediator_connections.specs.Delivering.{handed_octets}
-use Rattle.mediator_connections.proofs.delivery.joined.Given as goal
-
-abbrev pub invariant-joins : goal.invariant-joins
-invariant-joins l = l.octets.items ≡ handed_octets (take l.handed-index l.messages)

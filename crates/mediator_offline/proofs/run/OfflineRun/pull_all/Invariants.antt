@@ -1,9 +1,0 @@
-use Rattle.std.proofs.Common.{length, Some, []}
-use Rattle.mediator_offline.proofs.Delivering.{IsPulling, parts_waiting}
-use Rattle.mediator_offline.proofs.run.OfflineRun.pull_all.Given as goal
-
-abbrev pub invariant-pulls : goal.invariant-pulls
-invariant-pulls l = IsPulling l.fn.self l.self (Some []) (Some l.text.items)
-
-abbrev pub decreases-pulls : goal.decreases-pulls
-decreases-pulls l = length (parts_waiting l.self)

@@ -1,0 +1,38 @@
+-- What one record more adds, where records are judged for some and that serves each that is served. All of this is this project's own rule.
+use Rattle.std.specs.Prelude.{◌≡◌, ℕ, List, [], ◌∷◌, ◌++◌, map, length, Some}
+use Rattle.ipfix_template.specs.DataRecord.{DataRecord}
+use Rattle.disclosure_audit.specs.Noting.{KeptNotes, and_more}
+use Rattle.mediator_tables.specs.declared.served.Served.{Served}
+use Rattle.mediator_tables.specs.declared.tally.Tally.{Tally}
+use Rattle.mediator_tables.specs.Adding.{tallied}
+use Rattle.mediator_shares.specs.InForce.{InForce}
+use Rattle.mediator_shares.specs.Judges.{Judges, JudgeFor}
+use Rattle.mediator_shares.specs.Sharing.{shares_of, tallies_of, noted_of_each}
+
+-- how far a message's records were judged: by the judges, with what each was given; what counts for each that is served; and what was noted
+pub record Progress : Type 0 where
+  pub judges : Judges
+  pub tallies : List Tally
+  pub notes : KeptNotes
+
+abbrev pub progress_of : Judges → List Tally → KeptNotes → Progress
+progress_of judges tallies notes = record { judges = judges; tallies = tallies; notes = notes }
+
+-- by what the records of an observation domain are judged, for which leaders, and whom these serve
+pub record Audience : Type 0 where
+  pub domain : ℕ
+  pub in_force : InForce
+  pub leaders : List Served
+  pub served : List Served
+
+abbrev pub audience_of : ℕ → InForce → List Served → List Served → Audience
+audience_of domain f leaders served = record { domain = domain; in_force = f; leaders = leaders; served = served }
+
+-- the record with this index stands behind those that were done: among what each leader was given, among what counts for each that is served, and among the notes; and the judges are fit for the next one
+pub record HasAdded (old new : Progress) (index : ℕ) (r : DataRecord) (to : Audience) : Type 0 where
+  pub shares : (done : List DataRecord) → old.judges.shares ≡ shares_of to.domain to.in_force done to.leaders → new.judges.shares ≡ shares_of to.domain to.in_force (done ++ r ∷ []) to.leaders
+  pub tallies : (done : List DataRecord) → map tallied old.tallies ≡ tallies_of to.domain to.in_force done to.served → map tallied new.tallies ≡ tallies_of to.domain to.in_force (done ++ r ∷ []) to.served
+  pub noting : new.notes ≡ and_more old.notes (noted_of_each to.domain to.in_force to.served (index, r))
+  pub judges : JudgeFor new.judges to.in_force to.domain (Some r.template) to.leaders
+  pub stay : length new.judges.shares ≡ length to.leaders
+  pub stay_tallies : length new.tallies ≡ length to.served
