@@ -82,8 +82,9 @@ impl Output {
             (self.new ≡ record { given = self.old.given; writing = Some (arc_value template) }) }
     {
         self.close()?;
-        self.text.reserve(self.last.octets)?;
-        self.ends.reserve(self.last.records)?;
+        // Room for some records more than the last run had: one is copied whole before it is closed up.
+        self.text.reserve(with_more(self.last.octets))?;
+        self.ends.reserve(with_more(self.last.records))?;
         self.template = Some(template);
         Ok(())
     }
@@ -199,6 +200,11 @@ impl Output {
         self.text = Vec::new(self.alloc);
         self.ends = Vec::new(self.alloc);
     }
+}
+
+/// An eighth more than `count`.
+fn with_more(count: usize) -> usize {
+    count.saturating_add(count / 8)
 }
 
 ghost use Rattle.flow_anonymize.specs.Outcome.{passed_text};

@@ -77,7 +77,7 @@ pulled Shows now target old new messages shown below k same = record {
 }
 
 -- the messages that were pulled stand behind those that the handle had
-pub pulled_queued : (Shows : ℕ → Type 0) (target : ℕ) (old new : Delivering) (messages : List Handed) → KeepsQueued Shows target 32 old new → target < 2 ^ 16 → messages ≡ drop (length old.kept) new.kept → Pulled Shows target old new messages
+pub pulled_queued : (Shows : ℕ → Type 0) (target : ℕ) (old new : Delivering) (messages : List Handed) → KeepsQueued Shows target 46 old new → target < 2 ^ 16 → messages ≡ drop (length old.kept) new.kept → Pulled Shows target old new messages
 pulled_queued Shows target old new messages k below is = pulled Shows k.now target old new messages k.shown below (subst (λ ms. KeepsSome old.kept k.now target ms new.kept) (sym is) k.kept) k.sub
 
 -- ---- messages one after another
@@ -141,7 +141,7 @@ front_behind before due front held holds writes failed so stops = record {
 
 -- inside the messages that were pulled at once
 pub sends_inside : (f : Fault) (Shows : ℕ → Type 0) (target sent : ℕ) (old d e : Delivering) (more : List Handed) (held holds writes : Option (List ℕ)) (failed : Bool) → DeliversSome Shows target sent old d (writer_of held holds) → Pulled Shows target d e more
-    → length more ≤ 32 → StopsSending f (handed_octets more) sent holds writes failed → FailsToDeliver f Shows target old e (writer_of held writes) failed
+    → length more ≤ 46 → StopsSending f (handed_octets more) sent holds writes failed → FailsToDeliver f Shows target old e (writer_of held writes) failed
 sends_inside f Shows target sent old d e more held holds writes failed so p few stops = rw stops.is inside
   where
     place : sent + stops.front ≡ length (handed_octets so.messages) + stops.front

@@ -18,8 +18,8 @@ use std::sync::Wait;
 /// The most octets of a message.
 const LONGEST_MESSAGE: u64 = ipfix_octets::message_format::LONGEST_MESSAGE as u64;
 
-/// How many messages are pulled at once at most.
-const MOST_AT_ONCE: u64 = 32;
+/// How many messages are pulled at once at most: those of 1,400 octets are up to 64 KiB together, which are written at once.
+const MOST_AT_ONCE: u64 = 46;
 
 /// Delivers the subscription of `handle`, and answers how many octets were sent. It pulls the subscription's messages from the
 /// mediator of `shared`, several at once, and writes them to `writer`, until nothing is queued and nothing will be. A message has

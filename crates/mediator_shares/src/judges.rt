@@ -15,6 +15,7 @@ use mediator_tables::{Served, Share};
 use rule_table::{AddressClasses, AddressPlaces, RecentClasses, RuleTable};
 use std::alloc::{AllocError, Global};
 use std::marker::Model;
+use std::mem;
 use std::sync::Arc;
 
 /// What a policy discloses to one subscription, and what that was given since it was last taken.
@@ -36,6 +37,8 @@ pub(crate) struct Judges {
     /// Where the addresses stand in the records that come.
     places: Option<AddressPlaces>,
     judges: Vec<Judge>,
+    /// Room for what is decided of a record for each subscription. It is empty.
+    decided: Vec<Disclosure<()>>,
 }
 
 impl Model for Judges {
@@ -77,6 +80,7 @@ impl Judges {
             domain,
             places: None,
             judges: Vec::new(alloc),
+            decided: Vec::new(alloc),
         }
     }
 
@@ -179,6 +183,21 @@ impl Judges {
             .disclose(alloc, classes, flow_record)
     }
 
+    /// Lends the room for what is decided of a record for each subscription.
+    pub(crate) fn lend_decided(&mut self, alloc: Global) -> Vec<Disclosure<()>>
+        ensures { self.new ≡ self.old }
+    {
+        mem::replace(&mut self.decided, Vec::new(alloc))
+    }
+
+    /// Keeps the room of `decided` for what is decided later.
+    pub(crate) fn keep_decided(&mut self, mut decided: Vec<Disclosure<()>>)
+        ensures { self.new ≡ self.old }
+    {
+        decided.clear();
+        self.decided = decided;
+    }
+
     /// For how many subscriptions they judge.
     pub(crate) fn len(&self) -> usize {
         self.judges.len()
@@ -261,7 +280,7 @@ fn take_shares(alloc: Global, judges: &mut Vec<Judge>) -> Result<Vec<Share>, All
     ensures taken { OnOk result (map share_of_judge judges.new.items
         ≡ map without_records (map share_of_judge judges.old.items)) }
 {
-    let mut shares = Vec::new(alloc);
+    let mut shares = Vec::with_capacity(alloc, judges.len())?;
     'judges: for place in 0..judges.len() {
         let share = judges[place].take_share()?;
         shares.push(share)?;

@@ -70,7 +70,7 @@ impl Shares {
         let (leaders, places) = (groups.leaders.as_slice(), groups.places.as_slice());
         let runs = records.runs();
         let mut judges = in_force.judges(alloc, domain, runs, leaders)?;
-        let mut sums = Sums::of_none(alloc, served, most)?;
+        let mut sums = Sums::of_none(alloc, served, most, judges.lend_decided(alloc))?;
         sums.add_runs(
             alloc,
             in_force,
@@ -82,13 +82,18 @@ impl Shares {
             served,
         )?;
         let given = judges.take_shares(alloc)?;
-        in_force.keep(judges);
-        let shares = spread(alloc, &given, places, served)?;
         let Sums {
             tallies,
             notes,
-            decided: _,
+            decided,
         } = sums;
+        judges.keep_decided(decided);
+        in_force.keep(judges);
+        let shares = if groups.has_led {
+            spread(alloc, &given, places, served)?
+        } else {
+            given
+        };
         Ok(Shares {
             shares,
             tallies,
@@ -102,21 +107,27 @@ impl Shares {
 pub(crate) struct Sums {
     tallies: Vec<Tally>,
     notes: Notes,
-    /// What was decided of a record for each leader. The list is kept from one record to the next.
+    /// What was decided of a record for each leader. The list is kept from one record to the next, and by the judges
+    /// from one message to the next.
     decided: Vec<Disclosure<()>>,
 }
 
 impl Sums {
     /// That of no record, for each of the subscriptions `served`, with at most `most` notes to be kept, in memory from
-    /// `alloc`.
+    /// `alloc`. What is decided of a record is put in the room of `decided`.
     ///
     /// # Errors
     /// Want of memory.
-    fn of_none(alloc: Global, served: &[Served<'_>], most: u64) -> Result<Sums, AllocError>
+    fn of_none(
+        alloc: Global,
+        served: &[Served<'_>],
+        most: u64,
+        decided: Vec<Disclosure<()>>,
+    ) -> Result<Sums, AllocError>
         ensures tallies { IfOk result (λ s. map tallied s.tallies.items ≡ map blank served.now) }
         ensures notes { IfOk result (λ s. s.notes ≡ kept_notes most []) }
     {
-        let mut tallies = Vec::new(alloc);
+        let mut tallies = Vec::with_capacity(alloc, served.len())?;
         'served: for who in served {
             tallies.push(Tally {
                 sub: who.sub,
@@ -126,7 +137,7 @@ impl Sums {
         Ok(Sums {
             tallies,
             notes: Notes::new(alloc, most),
-            decided: Vec::new(alloc),
+            decided,
         })
     }
 

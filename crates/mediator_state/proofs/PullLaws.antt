@@ -1,11 +1,12 @@
 -- What a pull leaves of the histories for which an engine stands.
-use Rattle.std.proofs.Common.{◌≡◌, ℕ, Bool, true, false, List, Option, Some, None, refl, sym, ◌∙◌, subst}
+use Rattle.std.proofs.Common.{◌≡◌, ℕ, Bool, true, false, List, [], Option, Some, None, is_some, refl, sym, ◌∙◌, subst}
 use Rattle.std.specs.Prelude.{◌≢◌, ◌==◌}
 use Rattle.std.proofs.lemmas.Bool.{eqb-true, eq-eqb}
 use Rattle.subscriber_stream.specs.declared.limits.StreamLimits.{StreamLimits}
 use Rattle.subscriber_stream.specs.Standing.{StandsAt}
 use Rattle.subscriber_stream.specs.Message.{built, place_after}
-use Rattle.disclosure_audit.specs.Queue.{KeptAudit, StandsIn}
+use Rattle.disclosure_audit.specs.Queue.{KeptAudit, StandsIn, oldest_in}
+use Rattle.disclosure_audit.specs.declared.entry.AuditEntry.{AuditEntry}
 use Rattle.event_journal.specs.declared.entry.Entry.{Entry}
 use Rattle.mediator_history.specs.Subscriptions.{is_live}
 use Rattle.mediator_history.specs.Disclosed.{disclosed}
@@ -98,6 +99,11 @@ pub pull_fails : {C Q : Type 0} (tells : C → List Entry → Type 0) (old : Sta
 pull_fails tells old t h same s = record { told = s.told; stands = stands_same old.engine (record old.engine { subscriptions = t }) h (same_table old.engine t same) s.stands }
 
 -- ---- drains
+
+-- where entries are counted alone, none is the oldest
+pub counted_none : (most : ℕ) (entries : Option (List AuditEntry)) → is_some entries ≡ false → oldest_in most entries ≡ []
+counted_none most None none = refl
+counted_none most (Some es) none = absurd cc
 
 -- another audit, which stands in the same list
 pub drain_stands : {Q : Type 0} (d : Engine Q) (a : KeptAudit) (h : List Entry) → Stands d h → StandsIn a.standing (audit_list h) → Stands (record d { audit = a }) h

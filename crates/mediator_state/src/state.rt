@@ -650,6 +650,8 @@ impl<C: Chronicle + Drop, Q: AuditQueue + Drop> State<C, Q> {
         ensures ok { IfOk result (λ out. ForEachHistory C.tells self.old (λ h. (Q.KEEPS ≡ true
             → out.items ≡ take most (drop self.old.engine.audit.standing.drained (audit_list h)))
             × StateStandsFor C.tells self.new h)) }
+        // Where they are counted alone, none is handed out.
+        ensures counted { IfOk result (λ out. Q.KEEPS ≡ false → out.items ≡ []) }
         ensures places { (q : ℕ) → handed_place self.new.engine q ≡ handed_place self.old.engine q }
         ensures drained { IfOk result (λ _. self.new.engine.audit.standing.drained
             ≡ self.old.engine.audit.standing.drained

@@ -125,9 +125,12 @@ impl<E: EntryLedger, H: RecordLedger> SharedMediator<E, H> {
         self.mediator.lock(rt)
     }
 
-    /// Wakes the deliveries that wait and need wait no more: something is queued for them, or nothing will be. It waits
-    /// for the lock by `rt`, and holds it no longer when it wakes them.
+    /// Wakes the deliveries that wait and need wait no more: something is queued for them, or nothing will be. Where none
+    /// waits, it does nothing. Else it waits for the lock by `rt`, and holds it no longer when it wakes them.
     pub fn wake(&self, rt: &impl Wait) {
+        if self.waits.are_empty() {
+            return;
+        }
         let due = self.due(rt);
         for place in 0..PLACES {
             if due[place] {
@@ -163,7 +166,12 @@ impl<E: EntryLedger, H: RecordLedger> SharedMediator<E, H> {
                 self.waits.leave(place);
                 locked
             }
-            None => self.waits.crowd().wait(rt, locked),
+            None => {
+                self.waits.join_crowd();
+                let locked = self.waits.crowd().wait(rt, locked);
+                self.waits.leave_crowd();
+                locked
+            }
         }
     }
 

@@ -11,14 +11,16 @@ use std::sync::atomic::{AtomicU64, Ordering};
 pub(crate) const PLACES: usize = 64;
 
 /// The places at which deliveries wait, so that one can be woken that has something, and others are left alone. A place
-/// is taken and left, and looked at, while the mediator's lock is held.
+/// is taken and left while the mediator's lock is held.
 #[derive(Drop)]
 pub(crate) struct Waits {
     /// Whose delivery waits at a place: the number of its subscription; 0, which no subscription has, where none waits.
     subs: [AtomicU64; PLACES],
     /// Each is signalled for the delivery at its place.
     signals: [Condvar; PLACES],
-    /// Signalled whenever any is, for deliveries that found no place.
+    /// How many deliveries found no place, and wait together.
+    crowded: AtomicU64,
+    /// Signalled whenever any is, for these.
     crowd: Condvar,
 }
 
@@ -28,8 +30,21 @@ impl Waits {
         Waits {
             subs: array::from_fn(|_| AtomicU64::new(0)),
             signals: array::from_fn(|_| Condvar::new()),
+            crowded: AtomicU64::new(0),
             crowd: Condvar::new(),
         }
+    }
+
+    /// Whether no delivery waits. This may be asked without the mediator's lock, by who held it before: a delivery comes
+    /// here while it holds the lock, once it has seen that nothing is queued for it. So one that isn't here yet sees
+    /// what was queued before it comes.
+    pub(crate) fn are_empty(&self) -> bool {
+        for place in 0..PLACES {
+            if self.subs[place].load(Ordering::SeqCst) != 0 {
+                return false;
+            }
+        }
+        self.crowded.load(Ordering::SeqCst) == 0
     }
 
     /// Takes a place for the delivery of the subscription with the number `sub`; `None` where all are taken.
@@ -67,6 +82,16 @@ impl Waits {
         requires { place < PLACES }
     {
         &self.signals[place]
+    }
+
+    /// Joins those that found no place.
+    pub(crate) fn join_crowd(&self) {
+        self.crowded.fetch_add(1, Ordering::SeqCst);
+    }
+
+    /// Leaves them again.
+    pub(crate) fn leave_crowd(&self) {
+        self.crowded.fetch_sub(1, Ordering::SeqCst);
     }
 
     /// What is signalled for those that found no place.

@@ -229,28 +229,28 @@ fn failing_writers(rt: HostRuntime) -> Result<(), Fail> {
     Ok(())
 }
 
-/// Forty records with their template: 41 messages, of which 32 are pulled at once.
-const FORTY: &[&[u8]] = &[TWO_RECORDS; 20];
+/// Sixty records with their template: 61 messages, of which 46 are pulled at once.
+const SIXTY: &[&[u8]] = &[TWO_RECORDS; 30];
 
 /// The second message has no room where two records may wait.
 const CUT: &[&[u8]] = &[ONE_RECORD, TWO_RECORDS];
 
-const FIRST_WRITE: Answer = Err((ServeFault::Write { sent: 966 }, 0));
+const FIRST_WRITE: Answer = Err((ServeFault::Write { sent: 1386 }, 0));
 
-/// The first pull had the template and 31 of the records: nine wait.
-const NOTHING_SENT: Answer = Err((ServeFault::Write { sent: 0 }, 9));
+/// The first pull had the template and 45 of the records: fifteen wait.
+const NOTHING_SENT: Answer = Err((ServeFault::Write { sent: 0 }, 15));
 
 const UNKNOWN: Answer = Err((ServeFault::Mediator(Fault::UnknownSub), 0));
 
 /// What is offered, the bounds, and what is done then; how many writes of any length come before one that fails; what is answered,
-/// and what is left. The template has 36 octets, and each record 30; the first write has 32 of these messages.
+/// and what is left. The template has 36 octets, and each record 30; the first write has 46 of these messages.
 const ENDS: &[(&[&[u8]], Bounds, Act, usize, Answer, Option<(u32, u64)>)] = &[
     // What isn't pulled at once is pulled then.
-    (FORTY, ROOMY, Act::Stop, 2, Ok(1236), Some((0, 40))),
-    (FORTY, ROOMY, Act::Stop, 1, FIRST_WRITE, None),
-    (FORTY, ROOMY, Act::Stop, 0, NOTHING_SENT, None),
+    (SIXTY, ROOMY, Act::Stop, 2, Ok(1836), Some((0, 60))),
+    (SIXTY, ROOMY, Act::Stop, 1, FIRST_WRITE, None),
+    (SIXTY, ROOMY, Act::Stop, 0, NOTHING_SENT, None),
     // A pull is refused.
-    (FORTY, ROOMY, Act::End, ENOUGH, UNKNOWN, None),
+    (SIXTY, ROOMY, Act::End, ENOUGH, UNKNOWN, None),
     // A subscription that was cut has what waits for it, and then it ends without a stop.
     (
         CUT,

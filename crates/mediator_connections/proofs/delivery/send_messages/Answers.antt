@@ -10,14 +10,14 @@ use Rattle.mediator_connections.proofs.delivery.send_messages.Goals as goal
 pub send_all-requires : goal.send_all-requires
 send_all-requires g c =
     let since : c.kept_since.result.now ≡ drop (length c.pulls.handle.kept) c.pull_queued.new.self.kept = c.kept_since.ensures ∙ ap (λ (l : List Handed). drop (length l) c.pull_queued.new.self.kept) c.kept-before.ensures in
-    let k : KeepsQueued (g.C.Clock.shows c.args.clock.now) c.args.target 32 c.pulls.handle c.pull_queued.new.self = subst (λ b. PullsQueued (g.C.Clock.shows c.args.clock.now) c.args.target 32 b c.pulls.handle c.pull_queued.new.self) c.if-not-goes_on.false c.in_ok-goes_on.ensures.pulls in
+    let k : KeepsQueued (g.C.Clock.shows c.args.clock.now) c.args.target 46 c.pulls.handle c.pull_queued.new.self = subst (λ b. PullsQueued (g.C.Clock.shows c.args.clock.now) c.args.target 46 b c.pulls.handle c.pull_queued.new.self) c.if-not-goes_on.false c.in_ok-goes_on.ensures.pulls in
     let p = pulled_queued (g.C.Clock.shows c.args.clock.now) c.args.target c.pulls.handle c.pull_queued.new.self c.kept_since.result.now k c.ranges.target.fits since in
     record { fits = omega (arith, c.if-sent.false, p.short, k.few, ap (λ (l : List Handed). length l) since) }
 
 pub returns-in_err-sent-clause-stops : goal.returns-in_err-sent-clause-stops
 returns-in_err-sent-clause-stops g c =
     let since : c.kept_since.result.now ≡ drop (length c.pulls.handle.kept) c.pull_queued.new.self.kept = c.kept_since.ensures ∙ ap (λ (l : List Handed). drop (length l) c.pull_queued.new.self.kept) c.kept-before.ensures in
-    let k : KeepsQueued (g.C.Clock.shows c.args.clock.now) c.args.target 32 c.pulls.handle c.pull_queued.new.self = subst (λ b. PullsQueued (g.C.Clock.shows c.args.clock.now) c.args.target 32 b c.pulls.handle c.pull_queued.new.self) c.if-not-goes_on.false c.in_ok-goes_on.ensures.pulls in
+    let k : KeepsQueued (g.C.Clock.shows c.args.clock.now) c.args.target 46 c.pulls.handle c.pull_queued.new.self = subst (λ b. PullsQueued (g.C.Clock.shows c.args.clock.now) c.args.target 46 b c.pulls.handle c.pull_queued.new.self) c.if-not-goes_on.false c.in_ok-goes_on.ensures.pulls in
     let messages = c.kept_since.result.now in
     let p = pulled_queued (g.C.Clock.shows c.args.clock.now) c.args.target c.pulls.handle c.pull_queued.new.self messages k c.ranges.target.fits since in
     let holds = g.W.Sink.contents c.pulls.writer in
@@ -31,7 +31,7 @@ returns-in_err-sent-clause-stops g c =
 pub pulls-preserved : goal.pulls-preserved
 pulls-preserved g c =
     let since : c.kept_since.result.now ≡ drop (length c.pulls.handle.kept) c.pull_queued.new.self.kept = c.kept_since.ensures ∙ ap (λ (l : List Handed). drop (length l) c.pull_queued.new.self.kept) c.kept-before.ensures in
-    let k : KeepsQueued (g.C.Clock.shows c.args.clock.now) c.args.target 32 c.pulls.handle c.pull_queued.new.self = subst (λ b. PullsQueued (g.C.Clock.shows c.args.clock.now) c.args.target 32 b c.pulls.handle c.pull_queued.new.self) c.if-not-goes_on.false c.in_ok-goes_on.ensures.pulls in
+    let k : KeepsQueued (g.C.Clock.shows c.args.clock.now) c.args.target 46 c.pulls.handle c.pull_queued.new.self = subst (λ b. PullsQueued (g.C.Clock.shows c.args.clock.now) c.args.target 46 b c.pulls.handle c.pull_queued.new.self) c.if-not-goes_on.false c.in_ok-goes_on.ensures.pulls in
     let messages = c.kept_since.result.now in
     let p = pulled_queued (g.C.Clock.shows c.args.clock.now) c.args.target c.pulls.handle c.pull_queued.new.self messages k c.ranges.target.fits since in
     let holds = g.W.Sink.contents c.pulls.writer in
@@ -44,10 +44,10 @@ pulls-preserved g c =
 
 pub kept_since-requires : goal.kept_since-requires
 kept_since-requires g c =
-    let k : KeepsQueued (g.C.Clock.shows c.args.clock.now) c.args.target 32 c.pulls.handle c.pull_queued.new.self = subst (λ b. PullsQueued (g.C.Clock.shows c.args.clock.now) c.args.target 32 b c.pulls.handle c.pull_queued.new.self) c.if-not-goes_on.false c.in_ok-goes_on.ensures.pulls in
+    let k : KeepsQueued (g.C.Clock.shows c.args.clock.now) c.args.target 46 c.pulls.handle c.pull_queued.new.self = subst (λ b. PullsQueued (g.C.Clock.shows c.args.clock.now) c.args.target 46 b c.pulls.handle c.pull_queued.new.self) c.if-not-goes_on.false c.in_ok-goes_on.ensures.pulls in
     omega (arith, ap (λ (l : List Handed). length l) c.kept-before.ensures, ap (λ (l : List Handed). length l) k.kept.kept, length-append c.pulls.handle.kept (drop (length c.pulls.handle.kept) c.pull_queued.new.self.kept))
 
 pub returns-then-not-goes_on-clause-delivers : goal.returns-then-not-goes_on-clause-delivers
 returns-then-not-goes_on-clause-delivers g c =
-    let same : c.pull_queued.new.self ≡ c.pulls.handle = subst (λ b. PullsQueued (g.C.Clock.shows c.args.clock.now) c.args.target 32 b c.pulls.handle c.pull_queued.new.self) c.if-not-goes_on.true c.in_ok-goes_on.ensures.pulls in
+    let same : c.pull_queued.new.self ≡ c.pulls.handle = subst (λ b. PullsQueued (g.C.Clock.shows c.args.clock.now) c.args.target 46 b c.pulls.handle c.pull_queued.new.self) c.if-not-goes_on.true c.in_ok-goes_on.ensures.pulls in
     subst (λ d. DeliversSome (g.C.Clock.shows c.args.clock.now) c.args.target c.pulls.sent c.args.handle.now d (writer_of (g.W.Sink.contents c.args.writer.now) (g.W.Sink.contents c.pulls.writer))) (sym same) c.pulls.invariant.2
