@@ -1,5 +1,5 @@
 -- A plan is that of each record which is alike in template and classes.
-use Rattle.std.proofs.Common.{◌≡◌, ℕ, zero, suc, ◌+◌, ◌≤◌, ◌<◌, Bool, true, false, List, [], ◌∷◌, ◌++◌, length, get_or, Option, Some, None, IfSome, cond, not, refl, sym, ap, ◌∙◌, subst, arith, length-append, slice_get, nat_lt, ◌==◌}
+use Rattle.std.proofs.Common.{◌≡◌, ℕ, zero, suc, ◌+◌, ◌≤◌, ◌<◌, Bool, true, false, List, [], ◌∷◌, ◌++◌, length, get_or, Option, Some, None, IfSome, Result, Ok, Err, IfOk, cond, not, refl, sym, ap, ◌∙◌, subst, arith, length-append, slice_get, nat_lt, ◌==◌}
 use mathlib.Core.Logic.{inl, inr}
 use Rattle.std.proofs.Math.ListN.{set}
 use Rattle.std.specs.List.{All, AllByRecursion, flat_map, position, position_or_len}
@@ -34,7 +34,8 @@ use Rattle.flow_anonymize.specs.Disclosed.{disclosure_of}
 use Rattle.flow_anonymize.specs.Secrecy.{AreInsideAlike, AreCoveredAlike}
 use Rattle.flow_anonymize.specs.Classes.{both, classes_of}
 use Rattle.flow_anonymize.specs.Planning.{Plan, planned, IsShowable, IsPlanFrom}
-use Rattle.flow_anonymize.specs.Plans.{PlansFor, has_classes, Discloses, IsSlot, ArePlansKept}
+use Rattle.flow_anonymize.specs.Outcome.{Decision, decision_of}
+use Rattle.flow_anonymize.specs.Plans.{PlansFor, has_classes, Discloses, IsSlot, DecidesAlike, ArePlansKept}
 use Rattle.flow_anonymize.specs.PlanCache.{IsPut}
 use Rattle.flow_anonymize.proofs.Bounds.{verdicts_are_judged}
 use Rattle.flow_anonymize.proofs.SecrecyLaws.{record_alike, verdicts_alike}
@@ -192,6 +193,18 @@ planned_slot for value slots r slot same kept are template classes is =
     let keys : Some slot.classes ≡ classes_of for.cuts r = classes ∙ ap (λ (f : PlansFor). classes_of f.cuts r) (sym same) in
     let own : for.template ≡ Some r.template = ap (λ (f : PlansFor). f.template) same ∙ template in
     subst P same (slot_is for are.version are.aggregates r slot kept.cut kept.few are.spelled own keys is)
+
+-- what is decided by a plan is decided of each record that it is for
+pub decides_alike : {E : Type 0} (for : PlansFor) (slot : Slot) (classes : RecordClasses) (result : Result Decision E) → ((r : DataRecord) → IsSound r → for.template ≡ Some r.template → classes_of for.cuts r ≡ Some classes → Discloses for r slot)
+    → ((values : List (List ℕ)) → IfOk result (λ d. d ≡ decision_of (planned slot.plan values))) → IfOk result (DecidesAlike for classes)
+decides_alike for slot classes (Ok d) each all = λ r sound template keys. all r.values ∙ ap decision_of (each r sound template keys).exact
+decides_alike for slot classes (Err e) each all = tt
+
+-- where the record has no classes, nothing is said of others
+pub alike_none : {E : Type 0} (for : PlansFor) (classes : Option RecordClasses) (result : Result Decision E) → classes ≡ None → IfOk result (λ d. IfSome classes (λ c. DecidesAlike for c d))
+alike_none for None (Ok d) none = tt
+alike_none for None (Err e) none = tt
+alike_none for (Some c) result none = absurd cc
 
 -- there is a plan at a place
 pub there_is : {T : Type 0} (slots : List Slot) (k : ℕ) → k < length slots → ((slot : Slot) → slice_get slots k ≡ Some slot → T) → T

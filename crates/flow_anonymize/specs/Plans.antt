@@ -7,7 +7,7 @@ use Rattle.policy_text.specs.declared.rule.Rule.{Rule}
 use Rattle.rule_table.specs.Cuts.{HaveCuts, most_cuts}
 use Rattle.flow_anonymize.specs.declared.record_classes.RecordClasses.{RecordClasses}
 use Rattle.flow_anonymize.specs.declared.slot.Slot.{Slot}
-use Rattle.flow_anonymize.specs.Outcome.{Outcome}
+use Rattle.flow_anonymize.specs.Outcome.{Outcome, Decision, decision_of}
 use Rattle.flow_anonymize.specs.Disclosed.{disclosure_of}
 use Rattle.flow_anonymize.specs.Planning.{planned, IsShowable}
 use Rattle.flow_anonymize.specs.Classes.{classes_of}
@@ -42,6 +42,10 @@ pub record Discloses (for : PlansFor) (r : DataRecord) (slot : Slot) : Type 0 wh
 -- of each record that it is for
 abbrev pub IsSlot : PlansFor → Slot → Type 0
 IsSlot for slot = (r : DataRecord) → IsSound r → for.template ≡ Some r.template → classes_of for.cuts r ≡ Some slot.classes → Discloses for r slot
+
+-- this is decided of each sound record that they are for whose addresses have these classes
+abbrev pub DecidesAlike : PlansFor → RecordClasses → Decision → Type 0
+DecidesAlike for classes d = (r : DataRecord) → IsSound r → for.template ≡ Some r.template → classes_of for.cuts r ≡ Some classes → d ≡ decision_of (outcome_for for r)
 
 pub record ArePlansKept (for : PlansFor) (slots : List Slot) : Type 0 where
   pub cut : HaveCuts for.cuts for.rules

@@ -1,5 +1,5 @@
 //! Plans that are kept, and what passes by them.
-ghost use Rattle.std.specs.Prelude.{◌≡◌, ◌<◌, ◌++◌, ◌∷◌, [], Some, length, slice_get, position, IfOk, IfSome, OnOk, OnErr};
+ghost use Rattle.std.specs.Prelude.{◌≡◌, ◌<◌, ◌++◌, ◌∷◌, [], ℕ, List, Some, length, slice_get, position, IfOk, IfSome, OnOk, OnErr};
 ghost use Rattle.flow_anonymize.specs.Outcome.{passed, decision_of};
 ghost use Rattle.flow_anonymize.specs.Planning.{planned, IsShowable};
 ghost use Rattle.flow_anonymize.specs.Plans.{has_classes};
@@ -87,7 +87,8 @@ impl PlanCache {
         Ok(place)
     }
 
-    /// Gives what passes of a record by the plan at a place, and says what became of it.
+    /// Gives what passes of a record by the plan at a place, and says what became of it, which is the same for each
+    /// record of that plan.
     ///
     /// # Errors
     /// Want of memory.
@@ -104,8 +105,31 @@ impl PlanCache {
         ensures given { (slot : Slot) → slice_get self.old.slots place ≡ Some slot
             → OnOk result
             (self.new.given ≡ self.old.given ++ passed (planned slot.plan flow_record.now.values)) }
-        ensures decision { (slot : Slot) → slice_get self.old.slots place ≡ Some slot
-            → IfOk result (λ d. d ≡ decision_of (planned slot.plan flow_record.now.values)) }
+        ensures decision { (slot : Slot) (values : List (List ℕ))
+            → slice_get self.old.slots place ≡ Some slot
+            → IfOk result (λ d. d ≡ decision_of (planned slot.plan values)) }
+    {
+        self.give_again(place, flow_record)?;
+        self.slots[place].plan.decision()
+    }
+
+    /// Gives what passes of a record by the plan at a place, and says nothing of it.
+    ///
+    /// # Errors
+    /// Want of memory.
+    pub(crate) fn give_again(
+        &mut self,
+        place: usize,
+        flow_record: &RecordView<'_>,
+    ) -> Result<(), AllocError>
+        requires there { place < length self.old.slots }
+        requires showable { (slot : Slot) → slice_get self.old.slots place ≡ Some slot
+            → IsShowable slot.plan flow_record.now }
+        ensures slots { self.new.slots ≡ self.old.slots }
+        // What passes comes behind the other records.
+        ensures given { (slot : Slot) → slice_get self.old.slots place ≡ Some slot
+            → OnOk result
+            (self.new.given ≡ self.old.given ++ passed (planned slot.plan flow_record.now.values)) }
     {
         let is_open = self.open_place == Some(place);
         let open_before = self.open_place.take();
@@ -115,7 +139,7 @@ impl PlanCache {
             Some(_) => Some(place),
             None => open_before,
         };
-        plan.decision()
+        Ok(())
     }
 
     /// Gives a record that passes by no plan that is kept.

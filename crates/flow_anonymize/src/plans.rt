@@ -1,10 +1,10 @@
 //! Plans that are kept for records that come again.
-ghost use Rattle.std.specs.Prelude.{◌≡◌, ◌++◌, [], Some, None, true, IfOk, OnOk, OnErr};
+ghost use Rattle.std.specs.Prelude.{◌≡◌, ◌++◌, [], Some, None, true, IfOk, IfSome, OnOk, OnErr};
 ghost use Rattle.std.specs.Arc.{arc_value};
 ghost use Rattle.rule_table.specs.Cuts.{HaveCuts};
 ghost use Rattle.flow_anonymize.specs.Outcome.{passed, decision_of};
 ghost use Rattle.flow_anonymize.specs.Classes.{classes_of};
-ghost use Rattle.flow_anonymize.specs.Plans.{outcome_for, IsSlot};
+ghost use Rattle.flow_anonymize.specs.Plans.{outcome_for, IsSlot, DecidesAlike};
 
 use crate::by_table::{disclose_by, plan_by};
 use crate::disclosure::Disclosure;
@@ -172,6 +172,8 @@ impl Plans {
             (self.new.given ≡ self.old.given ++ passed (outcome_for self.old.for flow_record.now)) }
         ensures decision { IfOk result
             (λ d. d ≡ decision_of (outcome_for self.old.for flow_record.now)) }
+        // Where it has classes, the same is decided of each record of the template that has these.
+        ensures alike { IfOk result (λ d. IfSome classes (λ c. DecidesAlike self.old.for c d)) }
         // The plans are still for that subscriber, by those rules.
         ensures same { self.new.for ≡ self.old.for }
         ensures dropped { OnErr result (self.new.given ≡ []) }
@@ -181,6 +183,60 @@ impl Plans {
             self.cache.drop_records();
         }
         decision
+    }
+
+    /// Gives what is disclosed of the record `flow_record` as [`disclose`](Plans::disclose) does, and doesn't say what
+    /// became of it: for a record of which that is known, since another one has these `classes` too.
+    ///
+    /// # Errors
+    /// Those of [`disclose`](Plans::disclose).
+    pub fn disclose_again(
+        &mut self,
+        alloc: Global,
+        classes: RecordClasses,
+        flow_record: &RecordView<'_>,
+    ) -> Result<(), AllocError>
+        requires template { self.old.for.template ≡ Some flow_record.now.template }
+        requires classes { Some classes ≡ classes_of self.old.for.cuts flow_record.now }
+        // What passes comes behind the other records.
+        ensures given { OnOk result
+            (self.new.given ≡ self.old.given ++ passed (outcome_for self.old.for flow_record.now)) }
+        ensures same { self.new.for ≡ self.old.for }
+        ensures dropped { OnErr result (self.new.given ≡ []) }
+    {
+        let given = self.give_again(alloc, classes, flow_record);
+        if given.is_err() {
+            self.cache.drop_records();
+        }
+        given
+    }
+
+    /// Gives what is disclosed of a record as [`disclose_again`](Plans::disclose_again) does.
+    ///
+    /// # Errors
+    /// Want of memory. Then some of what passed before may be left.
+    fn give_again(
+        &mut self,
+        alloc: Global,
+        classes: RecordClasses,
+        flow_record: &RecordView<'_>,
+    ) -> Result<(), AllocError>
+        requires template { self.old.for.template ≡ Some flow_record.now.template }
+        requires classes { Some classes ≡ classes_of self.old.for.cuts flow_record.now }
+        // What passes comes behind the other records.
+        ensures given { OnOk result
+            (self.new.given ≡ self.old.given ++ passed (outcome_for self.old.for flow_record.now)) }
+        ensures same { self.new.for ≡ self.old.for }
+    {
+        // A record keeps that it is sound.
+        let _for_proof = flow_record.template();
+        match self.cache.place_of(classes) {
+            Some(place) => self.cache.give_again(place, flow_record),
+            None => {
+                let _decision = self.disclose_anew(alloc, classes, flow_record)?;
+                Ok(())
+            }
+        }
     }
 
     /// Judges a record as [`disclose`](Plans::disclose) does.
@@ -200,6 +256,7 @@ impl Plans {
             (self.new.given ≡ self.old.given ++ passed (outcome_for self.old.for flow_record.now)) }
         ensures decision { IfOk result
             (λ d. d ≡ decision_of (outcome_for self.old.for flow_record.now)) }
+        ensures alike { IfOk result (λ d. IfSome classes (λ c. DecidesAlike self.old.for c d)) }
         ensures same { self.new.for ≡ self.old.for }
     {
         let Some(classes) = classes else {
@@ -230,6 +287,7 @@ impl Plans {
             (self.new.given ≡ self.old.given ++ passed (outcome_for self.old.for flow_record.now)) }
         ensures decision { IfOk result
             (λ d. d ≡ decision_of (outcome_for self.old.for flow_record.now)) }
+        ensures alike { IfOk result (DecidesAlike self.old.for classes) }
         ensures same { self.new.for ≡ self.old.for }
     {
         // A record keeps that it is sound.

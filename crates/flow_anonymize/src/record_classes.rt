@@ -6,7 +6,7 @@ use ipfix_template::RecordView;
 use rule_table::{AddressPlaces, RecentClasses};
 
 /// The classes of a record's addresses, as one key for its sources and one for its destinations.
-#[derive(Clone, Copy, Debug)]
+#[derive(Clone, Copy, Debug, PartialEq, Eq)]
 pub struct RecordClasses {
     /// The key of the classes of its sources.
     pub sources: u64,

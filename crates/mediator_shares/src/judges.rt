@@ -183,6 +183,19 @@ impl Judges {
             .disclose(alloc, classes, flow_record)
     }
 
+    /// Gives again.
+    pub(crate) fn disclose_again(
+        &mut self,
+        alloc: Global,
+        place: usize,
+        classes: RecordClasses,
+        flow_record: &RecordView<'_>,
+    ) -> Result<(), AllocError> {
+        self.judges[place]
+            .plans
+            .disclose_again(alloc, classes, flow_record)
+    }
+
     /// Lends the room for what is decided of a record for each subscription.
     pub(crate) fn lend_decided(&mut self, alloc: Global) -> Vec<Disclosure<()>>
         ensures { self.new ≡ self.old }

@@ -21,7 +21,7 @@ use crate::in_force::InForce;
 use crate::judges::Judges;
 use disclosure_audit::{Note, Notes, Reason, RemovedFields, What};
 use flow_aggregate::{Count, Timing};
-use flow_anonymize::Disclosure;
+use flow_anonymize::{Disclosure, RecordClasses};
 use ipfix_records::{Records, Run};
 use ipfix_template::RecordView;
 use mediator_tables::{Served, Share, Tally};
@@ -86,6 +86,7 @@ impl Shares {
             tallies,
             notes,
             decided,
+            last: _,
         } = sums;
         judges.keep_decided(decided);
         in_force.keep(judges);
@@ -110,6 +111,7 @@ pub(crate) struct Sums {
     /// What was decided of a record for each leader. The list is kept from one record to the next, and by the judges
     /// from one message to the next.
     decided: Vec<Disclosure<()>>,
+    last: Option<RecordClasses>,
 }
 
 impl Sums {
@@ -138,6 +140,7 @@ impl Sums {
             tallies,
             notes: Notes::new(alloc, most),
             decided,
+            last: None,
         })
     }
 
@@ -223,6 +226,7 @@ impl Sums {
         ensures stay_tallies { OnOk result (length self.new.tallies.items ≡ length served.now) }
     {
         judges.begin(alloc, run.shared_template())?;
+        self.last = None;
         self.notes.reserve(run.len())?;
         'records: for place in 0..run.len() {
             let flow_record = run.view(place);
@@ -271,10 +275,20 @@ impl Sums {
     {
         let classes = judges.classes_of(flow_record);
         let mut decided = mem::replace(&mut self.decided, Vec::new(alloc));
-        decided.clear();
-        'leaders: for place in 0..leaders.len() {
-            let found = judges.disclose(alloc, place, classes, flow_record)?;
-            decided.push(found)?;
+        match classes {
+            Some(same) if self.last == Some(same) => {
+                'again: for place in 0..leaders.len() {
+                    judges.disclose_again(alloc, place, same, flow_record)?;
+                }
+            }
+            _ => {
+                decided.clear();
+                'leaders: for place in 0..leaders.len() {
+                    let found = judges.disclose(alloc, place, classes, flow_record)?;
+                    decided.push(found)?;
+                }
+                self.last = classes;
+            }
         }
         'served: for (place, who) in served.iter().enumerate() {
             let found = &decided[places[place]];

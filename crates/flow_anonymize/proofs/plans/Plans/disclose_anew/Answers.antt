@@ -5,7 +5,7 @@ use Rattle.flow_anonymize.specs.declared.slot.Slot.{Slot}
 use Rattle.flow_anonymize.specs.Outcome.{Outcome, Decision, decision_of}
 use Rattle.flow_anonymize.specs.Classes.{classes_of}
 use Rattle.flow_anonymize.specs.Plans.{PlansOf, PlansFor, IsSlot, ArePlansKept}
-use Rattle.flow_anonymize.proofs.PlanLaws.{kept_put}
+use Rattle.flow_anonymize.proofs.PlanLaws.{kept_put, decides_alike}
 use Rattle.flow_anonymize.proofs.plans.Plans.disclose_anew.Goals as goal
 
 pub invariant_of-self-2 : goal.invariant_of-self-2
@@ -20,4 +20,10 @@ returns-clause-decision c =
     let is = c.in_ok-slot.ensures in
     let keys : classes_of c.args.self.now.for.cuts c.args.flow_record.now ≡ Some c.in_ok-slot.slot.classes = sym c.requires.classes ∙ ap Some (sym is.0) in
     let exact = (is.1 c.args.flow_record.now c.template-for_proof.ensures.sound c.requires.template keys).exact in
-    subst (λ (o : Outcome). IfOk c.give.result (λ (d : Decision). d ≡ decision_of o)) exact (c.give.ensures.decision c.in_ok-slot.slot c.in_ok-place.ensures.put.there)
+    subst (λ (o : Outcome). IfOk c.give.result (λ (d : Decision). d ≡ decision_of o)) exact (c.give.ensures.decision c.in_ok-slot.slot c.args.flow_record.now.values c.in_ok-place.ensures.put.there)
+
+pub returns-clause-alike : goal.returns-clause-alike
+returns-clause-alike c =
+    let is = c.in_ok-slot.ensures in
+    decides_alike c.args.self.now.for c.in_ok-slot.slot c.args.classes c.give.result (λ r sound template keys. is.1 r sound template (keys ∙ ap Some (sym is.0)))
+    (λ values. c.give.ensures.decision c.in_ok-slot.slot values c.in_ok-place.ensures.put.there)
