@@ -5,7 +5,7 @@ ghost use Rattle.ipfix_template.specs.DataRecord.{DataRecord};
 ghost use Rattle.rule_table.specs.Cuts.{HaveCuts};
 ghost use Rattle.flow_anonymize.specs.Outcome.{passed, decision_of};
 ghost use Rattle.flow_anonymize.specs.Classes.{classes_of};
-ghost use Rattle.flow_anonymize.specs.Plans.{PlansFor, outcome_for};
+ghost use Rattle.flow_anonymize.specs.Plans.{PlansFor, outcome_for, DecidesAlike};
 ghost use Rattle.mediator_tables.specs.SubscriptionTable.{shown};
 
 use flow_anonymize::{Disclosure, Plans, RecordClasses};
@@ -167,6 +167,9 @@ impl Judges {
         ensures decision { (p : PlansFor) → slice_get self.old.fors place ≡ Some p
             → IfOk result
             (λ d. d ≡ decision_of (outcome_for p flow_record.now)) }
+        // Where it has classes, the same is decided of each record of the template that has these.
+        ensures alike { (p : PlansFor) → slice_get self.old.fors place ≡ Some p
+            → IfOk result (λ d. IfSome classes (λ k. DecidesAlike p k d)) }
         ensures given { (p : PlansFor) (before after : List (ℕ × List DataRecord))
             (s : ℕ × List DataRecord) → slice_get self.old.fors place ≡ Some p
             → self.old.shares ≡ before ++ s ∷ after
@@ -183,14 +186,37 @@ impl Judges {
             .disclose(alloc, classes, flow_record)
     }
 
-    /// Gives again.
+    /// Gives the subscription at `place`, which there is, what passes of `flow_record`, as
+    /// [`disclose`](Judges::disclose) does, and doesn't say what became of it: for a record of which that is known,
+    /// since another one has these `classes` too.
+    ///
+    /// # Errors
+    /// Want of memory.
     pub(crate) fn disclose_again(
         &mut self,
         alloc: Global,
         place: usize,
         classes: RecordClasses,
         flow_record: &RecordView<'_>,
-    ) -> Result<(), AllocError> {
+    ) -> Result<(), AllocError>
+        requires there { place < length self.old.fors }
+        requires template { (p : PlansFor) → slice_get self.old.fors place ≡ Some p
+            → p.template ≡ Some flow_record.now.template }
+        requires cuts { (p : PlansFor) → slice_get self.old.fors place ≡ Some p
+            → p.cuts ≡ self.old.cuts }
+        requires classes { Some classes ≡ classes_of self.old.cuts flow_record.now }
+        // What passes is given to that subscription alone.
+        ensures given { (p : PlansFor) (before after : List (ℕ × List DataRecord))
+            (s : ℕ × List DataRecord) → slice_get self.old.fors place ≡ Some p
+            → self.old.shares ≡ before ++ s ∷ after
+            → length before ≡ place → OnOk result (self.new.shares
+            ≡ before ++ (s.0, s.1 ++ passed (outcome_for p flow_record.now)) ∷ after) }
+        // What decides stays.
+        ensures fors { self.new.fors ≡ self.old.fors }
+        ensures template { self.new.template ≡ self.old.template }
+        ensures cuts { self.new.cuts ≡ self.old.cuts }
+        ensures stay { length self.new.shares ≡ length self.old.shares }
+    {
         self.judges[place]
             .plans
             .disclose_again(alloc, classes, flow_record)

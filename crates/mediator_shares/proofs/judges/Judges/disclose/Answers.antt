@@ -1,9 +1,9 @@
-use Rattle.std.proofs.Common.{◌≡◌, ◌++◌, ◌∷◌, List, ℕ, Some, IfOk, slice_get, length, sym, ap, ◌∙◌, subst, arith}
+use Rattle.std.proofs.Common.{◌≡◌, ◌++◌, ◌∷◌, List, ℕ, Some, IfSome, IfOk, slice_get, length, sym, ap, ◌∙◌, subst, arith}
 use Rattle.std.proofs.lemmas.Result.{IfOk-weaker}
 use Rattle.std.proofs.lemmas.List.{length-map}
 use Rattle.flow_anonymize.specs.Classes.{classes_of}
 use Rattle.flow_anonymize.specs.Outcome.{Decision, passed, decision_of}
-use Rattle.flow_anonymize.specs.Plans.{PlansFor, outcome_for}
+use Rattle.flow_anonymize.specs.Plans.{PlansFor, outcome_for, DecidesAlike}
 use Rattle.mediator_shares.specs.Judges.{Judges, for_of, share_of_judge}
 use Rattle.mediator_shares.proofs.JudgeLaws.{own_for, which_for, set_same}
 use Rattle.mediator_shares.proofs.SharingLaws.{as_share, grown, share_grows}
@@ -25,6 +25,10 @@ which c p at = which_for c.self.inside.judges.items c.args.self.now.fors c.args.
 pub returns-clause-decision : goal.returns-clause-decision
 returns-clause-decision c = λ p at.
     subst (λ (q : PlansFor). IfOk c.disclose.result (λ (d : Decision). d ≡ decision_of (outcome_for q c.args.flow_record.now))) (sym (which c p at)) c.disclose.ensures.decision
+
+pub returns-clause-alike : goal.returns-clause-alike
+returns-clause-alike c = λ p at.
+    subst (λ (q : PlansFor). IfOk c.disclose.result (λ (d : Decision). IfSome c.args.classes (λ k. DecidesAlike q k d))) (sym (which c p at)) c.disclose.ensures.alike
 
 pub returns-clause-given : goal.returns-clause-given
 returns-clause-given c = λ p before after s at split l.
