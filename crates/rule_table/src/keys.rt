@@ -112,10 +112,13 @@ fn key_at(
     ensures key { result ≡ class_key classes.now (map (value_at flow_record.now) places.now) }
     ensures spans { AreSpans classes.now spans.new }
 {
-    // Most records have one address on a side.
+    // Most records have one address on a side, and most are of IPv4.
     if let [place] = places {
-        let digit = digit_at(classes, spans, place, flow_record);
-        return with_digit(Some(EMPTY_KEY), digit);
+        if let Place::Narrow(from) = place {
+            let address = narrow_number(&flow_record.as_octets()[*from..*from + IPV4_OCTETS]);
+            let digit = narrow_digit(classes, &mut spans.narrow, address);
+            return with_digit(Some(EMPTY_KEY), digit);
+        }
     }
     key_of_several(classes, spans, places, flow_record)
 }
