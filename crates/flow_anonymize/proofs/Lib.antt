@@ -8,6 +8,7 @@ pub mod PermittedLaws
 pub mod Planning
 pub mod PlanLaws
 pub mod CacheLaws
+pub mod PartLaws
 pub mod OutputLaws
 pub mod TextLaws
 pub mod StretchLaws

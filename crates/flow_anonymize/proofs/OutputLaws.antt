@@ -1,8 +1,8 @@
 -- One record more in the run that is being written.
-use Rattle.std.proofs.Common.{◌≡◌, ℕ, List, [], ◌∷◌, ◌++◌, length, map, Option, Some, None, IsSome, refl, sym, ap, ◌∙◌, subst, arith, append_assoc, length-append}
+use Rattle.std.proofs.Common.{◌≡◌, ◌+◌, ◌<◌, ◌≤◌, append-nil, ℕ, List, [], ◌∷◌, ◌++◌, length, map, Option, Some, None, IsSome, refl, sym, ap, ◌∙◌, subst, arith, append_assoc, length-append}
 use Rattle.std.proofs.lemmas.List.{map-append}
 use Rattle.std.specs.Arc.{arc_value}
-use Rattle.std.specs.List.{AllByRecursion}
+use Rattle.std.specs.List.{AllByRecursion, flat_map}
 use Rattle.std.proofs.SliceLists.{all_by_recursion_push}
 use Rattle.ipfix_template.specs.declared.template.Template.{Template}
 use Rattle.ipfix_template.specs.DataRecord.{DataRecord, IsKept, kept_record}
@@ -15,6 +15,10 @@ use Rattle.flow_anonymize.specs.Outcome.{passed, passed_text}
 use Rattle.flow_anonymize.specs.Remaining.{kept_values}
 use Rattle.flow_anonymize.specs.Planning.{Plan, planned, IsShowable, shown_template}
 use Rattle.flow_anonymize.specs.Output.{OutputOf, open_records, IsOutput}
+use Rattle.ipfix_records.specs.Runs.{RunOf}
+use Rattle.flow_anonymize.specs.Parts.{record_at, part_of}
+use Rattle.flow_anonymize.specs.PlanCache.{passed_by}
+use Rattle.flow_anonymize.proofs.PartLaws.{part_pushed, part_nothing}
 
 some_is : (t s : Template) → Some t ≡ Some s → t ≡ s
 some_is t s e = cc
@@ -72,3 +76,25 @@ add_shows p r old middle done template text ends text2 before ends2 end shows so
     ap (λ (l : List DataRecord). as_output (done ++ l) template) here
     ∙ ap (λ (l : List DataRecord). as_output l template) (sym (append_assoc done (open_records template (pieces text 0 ends)) (passed (planned p r.values))))
     ∙ ap (λ (o : OutputOf). as_output (o.given ++ passed (planned p r.values)) o.writing) (view ∙ back)
+
+-- ---- several records
+
+-- one more of a part is added
+pub add_one : (plan : Plan) (old middle new : OutputOf) (run : RunOf) (from i : ℕ) (r : DataRecord) → middle ≡ as_output (old.given ++ flat_map (passed_by plan) (part_of from i run)) old.writing → from ≤ i → i < length run.texts
+    → r ≡ record_at run i → new ≡ as_output (middle.given ++ passed (planned plan r.values)) middle.writing → new ≡ as_output (old.given ++ flat_map (passed_by plan) (part_of from (i + 1) run)) old.writing
+add_one plan old middle new run from i r so low within is grown =
+    let before = flat_map (passed_by plan) (part_of from i run) in
+    grown
+    ∙ ap (λ (o : OutputOf). as_output (o.given ++ passed_by plan r) o.writing) so
+    ∙ ap (λ (l : List DataRecord). as_output l old.writing) (append_assoc old.given before (passed_by plan r)
+    ∙ ap (λ l. old.given ++ l) (ap (λ x. before ++ passed_by plan x) is ∙ sym (part_pushed (passed_by plan) from i run low within)))
+
+shows_nothing : (plan : Plan) (r : DataRecord) → shown_template plan ≡ None → passed_by plan r ≡ []
+shows_nothing (Passed passing removed) r none = absurd cc
+shows_nothing (Aggregated rule definition) r none = refl
+shows_nothing (Withheld rule reason) r none = refl
+
+-- by a plan that shows nothing, nothing is added
+pub nothing_shown : (plan : Plan) (given : List DataRecord) (from to : ℕ) (run : RunOf) → from ≤ to → to ≤ length run.texts → shown_template plan ≡ None → given ≡ given ++ flat_map (passed_by plan) (part_of from to run)
+nothing_shown plan given from to run order within none =
+    sym (ap (λ l. given ++ l) (part_nothing (passed_by plan) from to run order within (λ i low high. shows_nothing plan (record_at run i) none)) ∙ append-nil given)

@@ -27,6 +27,7 @@ pub mod Planning
 pub mod Classes
 pub mod Plans
 pub mod Texts
+pub mod Parts
 pub mod Output
 pub mod PlanCache
 pub use Rattle.ipfix_records.specs.Runs

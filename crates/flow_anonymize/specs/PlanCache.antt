@@ -3,11 +3,16 @@ use Rattle.std.specs.Prelude.{◌≡◌, ℕ, List, [], ◌∷◌, ◌++◌, set
 use Rattle.ipfix_template.specs.declared.template.Template.{Template}
 use Rattle.ipfix_template.specs.DataRecord.{DataRecord}
 use Rattle.flow_anonymize.specs.declared.slot.Slot.{Slot}
-use Rattle.flow_anonymize.specs.Planning.{shown_template}
+use Rattle.flow_anonymize.specs.Outcome.{passed}
+use Rattle.flow_anonymize.specs.Planning.{Plan, planned, shown_template}
 
 pub record CacheOf : Type 0 where
   pub slots : List Slot
   pub given : List DataRecord
+
+-- what passes of a record by a plan
+abbrev pub passed_by : Plan → DataRecord → List DataRecord
+passed_by plan r = passed (planned plan r.values)
 
 -- a plan whose records have the template of the run that is open, where one is named
 abbrev pub IsOpen : List Slot → Option Template → Option ℕ → Type 0

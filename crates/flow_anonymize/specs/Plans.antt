@@ -7,7 +7,7 @@ use Rattle.policy_text.specs.declared.rule.Rule.{Rule}
 use Rattle.rule_table.specs.Cuts.{HaveCuts, most_cuts}
 use Rattle.flow_anonymize.specs.declared.record_classes.RecordClasses.{RecordClasses}
 use Rattle.flow_anonymize.specs.declared.slot.Slot.{Slot}
-use Rattle.flow_anonymize.specs.Outcome.{Outcome}
+use Rattle.flow_anonymize.specs.Outcome.{Outcome, passed}
 use Rattle.flow_anonymize.specs.Disclosed.{disclosure_of}
 use Rattle.flow_anonymize.specs.Planning.{planned, IsShowable}
 use Rattle.flow_anonymize.specs.Classes.{classes_of}
@@ -29,6 +29,10 @@ pub record PlansOf : Type 0 where
 -- what is disclosed of a record
 abbrev pub outcome_for : PlansFor → DataRecord → Outcome
 outcome_for for r = disclosure_of for.name for.domain r for.rules
+
+-- what of it passes
+abbrev pub passed_for : PlansFor → DataRecord → List DataRecord
+passed_for for r = passed (outcome_for for r)
 
 -- a plan for records whose addresses have these classes
 abbrev pub has_classes : RecordClasses → Slot → Bool

@@ -1,9 +1,12 @@
 //! The records that pass.
-ghost use Rattle.std.specs.Prelude.{◌≡◌, ◌≤◌, ◌++◌, ◌∷◌, [], length, Some, None, IsSome, IfOk, OnOk};
+ghost use Rattle.std.specs.Prelude.{◌≡◌, ◌≤◌, ◌<◌, ◌++◌, ◌∷◌, [], ℕ, length, Some, None, IsSome, IfOk, OnOk};
+ghost use Rattle.std.specs.List.{flat_map};
 ghost use Rattle.std.specs.Arc.{arc_value};
 ghost use Rattle.flow_anonymize.specs.Outcome.{passed};
 ghost use Rattle.flow_anonymize.specs.Planning.{planned, IsShowable};
 ghost use Rattle.flow_anonymize.specs.Planning.{shown_template};
+ghost use Rattle.flow_anonymize.specs.Parts.{record_at, part_of};
+ghost use Rattle.flow_anonymize.specs.PlanCache.{passed_by};
 
 use crate::plan::Plan;
 use bytes::Bytes;
@@ -146,6 +149,34 @@ impl Output {
                 Err(refused)
             }
         }
+    }
+
+    /// Adds what passes of the records of `run` from the place `from` on that stand before `to`, as [`add`](Output::add)
+    /// does.
+    ///
+    /// # Errors
+    /// Want of memory.
+    pub(crate) fn add_all(
+        &mut self,
+        plan: &Plan,
+        run: &Run,
+        from: usize,
+        to: usize,
+    ) -> Result<(), AllocError>
+        requires order { from ≤ to }
+        requires within { to ≤ length run.now.texts }
+        requires showable { (i : ℕ) → from ≤ i → i < to → IsShowable plan.now (record_at run.now i) }
+        requires begun { IsSome self.old.writing }
+        requires same { self.old.writing ≡ shown_template plan.now }
+        ensures { OnOk result (self.new ≡ record {
+          given = self.old.given ++ flat_map (passed_by plan.now) (part_of from to run.now);
+          writing = self.old.writing;
+        }) }
+    {
+        'records: for place in from..to {
+            self.add(plan, &run.view(place))?;
+        }
+        Ok(())
     }
 
     /// Begins another run of the same template where this one is long.

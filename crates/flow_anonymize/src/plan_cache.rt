@@ -1,17 +1,19 @@
 //! Plans that are kept, and what passes by them.
-ghost use Rattle.std.specs.Prelude.{◌≡◌, ◌<◌, ◌++◌, ◌∷◌, [], Some, length, slice_get, position, IfOk, IfSome, OnOk, OnErr};
-ghost use Rattle.flow_anonymize.specs.Outcome.{passed, decision_of};
+ghost use Rattle.std.specs.Prelude.{◌≡◌, ◌<◌, ◌≤◌, ◌++◌, ◌∷◌, [], ℕ, List, Some, length, slice_get, position, IfOk, IfSome, OnOk, OnErr};
+ghost use Rattle.std.specs.List.{flat_map};
+ghost use Rattle.flow_anonymize.specs.Outcome.{decision_of};
 ghost use Rattle.flow_anonymize.specs.Planning.{planned, IsShowable};
+ghost use Rattle.flow_anonymize.specs.Parts.{record_at, part_of};
 ghost use Rattle.flow_anonymize.specs.Plans.{has_classes};
-ghost use Rattle.flow_anonymize.specs.PlanCache.{IsPut};
+ghost use Rattle.flow_anonymize.specs.PlanCache.{IsPut, passed_by};
 
 use crate::disclosure::Disclosure;
 use crate::output::Output;
 use crate::plan::Plan;
 use crate::record_classes::RecordClasses;
 use crate::slot::{Slot, is_for};
-use ipfix_records::Records;
-use ipfix_template::{Record, RecordView};
+use ipfix_records::{Records, Run};
+use ipfix_template::Record;
 use std::alloc::{AllocError, Global};
 use std::marker::Model;
 
@@ -87,30 +89,36 @@ impl PlanCache {
         Ok(place)
     }
 
-    /// Gives what passes of a record by the plan at a place, and says what became of it.
+    /// Gives what passes by the plan at a place of the records of `run` from the place `from` on that stand before `to`, and
+    /// says what became of each, which is the same for all records of that plan.
     ///
     /// # Errors
     /// Want of memory.
     pub(crate) fn give(
         &mut self,
         place: usize,
-        flow_record: &RecordView<'_>,
+        run: &Run,
+        from: usize,
+        to: usize,
     ) -> Result<Disclosure<()>, AllocError>
         requires there { place < length self.old.slots }
-        requires showable { (slot : Slot) → slice_get self.old.slots place ≡ Some slot
-            → IsShowable slot.plan flow_record.now }
+        requires order { from ≤ to }
+        requires within { to ≤ length run.now.texts }
+        requires showable { (slot : Slot) (i : ℕ) → slice_get self.old.slots place ≡ Some slot
+            → from ≤ i → i < to → IsShowable slot.plan (record_at run.now i) }
         ensures slots { self.new.slots ≡ self.old.slots }
-        // What passes comes behind the other records, and what is said of the record is so.
+        // What passes comes behind the other records, and what is said of the records is so.
         ensures given { (slot : Slot) → slice_get self.old.slots place ≡ Some slot
-            → OnOk result
-            (self.new.given ≡ self.old.given ++ passed (planned slot.plan flow_record.now.values)) }
-        ensures decision { (slot : Slot) → slice_get self.old.slots place ≡ Some slot
-            → IfOk result (λ d. d ≡ decision_of (planned slot.plan flow_record.now.values)) }
+            → OnOk result (self.new.given
+            ≡ self.old.given ++ flat_map (passed_by slot.plan) (part_of from to run.now)) }
+        ensures decision { (slot : Slot) (values : List (List ℕ))
+            → slice_get self.old.slots place ≡ Some slot
+            → IfOk result (λ d. d ≡ decision_of (planned slot.plan values)) }
     {
         let is_open = self.open_place == Some(place);
         let open_before = self.open_place.take();
         let plan = &self.slots[place].plan;
-        pass(plan, is_open, flow_record, &mut self.output)?;
+        pass(plan, is_open, run, from, to, &mut self.output)?;
         self.open_place = match plan.template() {
             Some(_) => Some(place),
             None => open_before,
@@ -157,20 +165,25 @@ ghost use Rattle.std.specs.Prelude.{true};
 ghost use Rattle.flow_anonymize.specs.Planning.{shown_template};
 ghost use Rattle.flow_anonymize.specs.PlanCache.{WritesForTemplate};
 
-/// Adds what passes of a record by a plan, to the run that is written by this plan already or to a new one.
+/// Adds what passes by a plan of the records of `run` from the place `from` on that stand before `to`, to the run that is
+/// written by this plan already or to a new one.
 ///
 /// # Errors
 /// Want of memory.
 fn pass(
     plan: &Plan,
     is_open: bool,
-    flow_record: &RecordView<'_>,
+    run: &Run,
+    from: usize,
+    to: usize,
     output: &mut Output,
 ) -> Result<(), AllocError>
-    requires showable { IsShowable plan.now flow_record.now }
+    requires order { from ≤ to }
+    requires within { to ≤ length run.now.texts }
+    requires showable { (i : ℕ) → from ≤ i → i < to → IsShowable plan.now (record_at run.now i) }
     requires same { is_open ≡ true → output.old.writing ≡ shown_template plan.now }
-    ensures given { OnOk result
-        (output.new.given ≡ output.old.given ++ passed (planned plan.now flow_record.now.values)) }
+    ensures given { OnOk result (output.new.given
+        ≡ output.old.given ++ flat_map (passed_by plan.now) (part_of from to run.now)) }
     ensures writing { OnOk result
         (WritesForTemplate (shown_template plan.now) output.old.writing output.new.writing) }
 {
@@ -180,5 +193,5 @@ fn pass(
     if !is_open {
         output.begin(template.clone()?)?;
     }
-    output.add(plan, flow_record)
+    output.add_all(plan, run, from, to)
 }

@@ -1,17 +1,19 @@
 //! Plans that are kept for records that come again.
-ghost use Rattle.std.specs.Prelude.{◌≡◌, ◌++◌, [], Some, None, true, IfOk, OnOk, OnErr};
+ghost use Rattle.std.specs.Prelude.{◌≡◌, ◌+◌, ◌<◌, ◌≤◌, ◌++◌, [], ℕ, length, Some, None, true, IfOk, OnOk, OnErr};
+ghost use Rattle.std.specs.List.{flat_map};
 ghost use Rattle.std.specs.Arc.{arc_value};
 ghost use Rattle.rule_table.specs.Cuts.{HaveCuts};
 ghost use Rattle.flow_anonymize.specs.Outcome.{passed, decision_of};
+ghost use Rattle.flow_anonymize.specs.Parts.{record_at, part_of};
 ghost use Rattle.flow_anonymize.specs.Classes.{classes_of};
-ghost use Rattle.flow_anonymize.specs.Plans.{outcome_for, IsSlot};
+ghost use Rattle.flow_anonymize.specs.Plans.{outcome_for, passed_for, IsSlot};
 
 use crate::by_table::{disclose_by, plan_by};
 use crate::disclosure::Disclosure;
 use crate::plan_cache::PlanCache;
 use crate::record_classes::RecordClasses;
 use crate::slot::Slot;
-use ipfix_records::Records;
+use ipfix_records::{Records, Run};
 use ipfix_template::{Record, RecordView, Template};
 use rule_table::{AddressClasses, RuleTable};
 use std::alloc::{AllocError, Global};
@@ -151,10 +153,10 @@ impl Plans {
         }
     }
 
-    /// Judges the record `flow_record`, which has the template that was begun with. It gives what
-    /// [`disclose_by`] discloses of it, and says what became of it. `classes` are the classes of
-    /// its addresses, as [`RecordClasses::at`] answers them. A plan that is made is in memory from
-    /// `alloc`.
+    /// Judges the records of `run` from the place `from` on that stand before `to`, of which there is one at least, and which
+    /// have the template that was begun with. It gives what [`disclose_by`] discloses of each, and says what became of
+    /// them, which is the same for all: `classes` are the classes of the addresses of each, as [`RecordClasses::at`] answers
+    /// them. A record without classes is judged alone. A plan that is made is in memory from `alloc`.
     ///
     /// # Errors
     /// Want of memory. Then nothing is left of what passed before: the caller begins anew, with the
@@ -163,27 +165,33 @@ impl Plans {
         &mut self,
         alloc: Global,
         classes: Option<RecordClasses>,
-        flow_record: &RecordView<'_>,
+        run: &Run,
+        from: usize,
+        to: usize,
     ) -> Result<Disclosure<()>, AllocError>
-        requires template { self.old.for.template ≡ Some flow_record.now.template }
-        requires classes { classes ≡ classes_of self.old.for.cuts flow_record.now }
-        // What passes comes behind the other records, and what is said of the record is so.
-        ensures given { OnOk result
-            (self.new.given ≡ self.old.given ++ passed (outcome_for self.old.for flow_record.now)) }
-        ensures decision { IfOk result
-            (λ d. d ≡ decision_of (outcome_for self.old.for flow_record.now)) }
+        requires template { self.old.for.template ≡ Some run.now.template }
+        requires some { from < to }
+        requires within { to ≤ length run.now.texts }
+        requires classes { (i : ℕ) → from ≤ i → i < to
+            → classes ≡ classes_of self.old.for.cuts (record_at run.now i) }
+        requires alone { classes ≡ None → to ≡ from + 1 }
+        // What passes comes behind the other records, and what is said of the records is so.
+        ensures given { OnOk result (self.new.given
+            ≡ self.old.given ++ flat_map (passed_for self.old.for) (part_of from to run.now)) }
+        ensures decision { (i : ℕ) → from ≤ i → i < to → IfOk result
+            (λ d. d ≡ decision_of (outcome_for self.old.for (record_at run.now i))) }
         // The plans are still for that subscriber, by those rules.
         ensures same { self.new.for ≡ self.old.for }
         ensures dropped { OnErr result (self.new.given ≡ []) }
     {
-        let decision = self.judge(alloc, classes, flow_record);
+        let decision = self.judge(alloc, classes, run, from, to);
         if decision.is_err() {
             self.cache.drop_records();
         }
         decision
     }
 
-    /// Judges a record as [`disclose`](Plans::disclose) does.
+    /// Judges records as [`disclose`](Plans::disclose) does.
     ///
     /// # Errors
     /// Want of memory. Then some of what passed before may be left.
@@ -191,29 +199,35 @@ impl Plans {
         &mut self,
         alloc: Global,
         classes: Option<RecordClasses>,
-        flow_record: &RecordView<'_>,
+        run: &Run,
+        from: usize,
+        to: usize,
     ) -> Result<Disclosure<()>, AllocError>
-        requires template { self.old.for.template ≡ Some flow_record.now.template }
-        requires classes { classes ≡ classes_of self.old.for.cuts flow_record.now }
-        // What passes comes behind the other records, and what is said of the record is so.
-        ensures given { OnOk result
-            (self.new.given ≡ self.old.given ++ passed (outcome_for self.old.for flow_record.now)) }
-        ensures decision { IfOk result
-            (λ d. d ≡ decision_of (outcome_for self.old.for flow_record.now)) }
+        requires template { self.old.for.template ≡ Some run.now.template }
+        requires some { from < to }
+        requires within { to ≤ length run.now.texts }
+        requires classes { (i : ℕ) → from ≤ i → i < to
+            → classes ≡ classes_of self.old.for.cuts (record_at run.now i) }
+        requires alone { classes ≡ None → to ≡ from + 1 }
+        // What passes comes behind the other records, and what is said of the records is so.
+        ensures given { OnOk result (self.new.given
+            ≡ self.old.given ++ flat_map (passed_for self.old.for) (part_of from to run.now)) }
+        ensures decision { (i : ℕ) → from ≤ i → i < to → IfOk result
+            (λ d. d ≡ decision_of (outcome_for self.old.for (record_at run.now i))) }
         ensures same { self.new.for ≡ self.old.for }
     {
         let Some(classes) = classes else {
-            return self.disclose_singly(alloc, &flow_record.to_record()?);
+            return self.disclose_singly(alloc, &run.record(from)?);
         };
-        // A record keeps that it is sound.
-        let _for_proof = flow_record.template();
+        // A run keeps that its records are sound.
+        let _for_proof = run.len();
         match self.cache.place_of(classes) {
-            Some(place) => self.cache.give(place, flow_record),
-            None => self.disclose_anew(alloc, classes, flow_record),
+            Some(place) => self.cache.give(place, run, from, to),
+            None => self.disclose_anew(alloc, classes, run, from, to),
         }
     }
 
-    /// Judges a record for which no plan is kept, and keeps the plan.
+    /// Judges records for which no plan is kept, and keeps the plan.
     ///
     /// # Errors
     /// Want of memory. Then some of what passed before may be left.
@@ -221,22 +235,27 @@ impl Plans {
         &mut self,
         alloc: Global,
         classes: RecordClasses,
-        flow_record: &RecordView<'_>,
+        run: &Run,
+        from: usize,
+        to: usize,
     ) -> Result<Disclosure<()>, AllocError>
-        requires template { self.old.for.template ≡ Some flow_record.now.template }
-        requires classes { Some classes ≡ classes_of self.old.for.cuts flow_record.now }
-        // What passes comes behind the other records, and what is said of the record is so.
-        ensures given { OnOk result
-            (self.new.given ≡ self.old.given ++ passed (outcome_for self.old.for flow_record.now)) }
-        ensures decision { IfOk result
-            (λ d. d ≡ decision_of (outcome_for self.old.for flow_record.now)) }
+        requires template { self.old.for.template ≡ Some run.now.template }
+        requires some { from < to }
+        requires within { to ≤ length run.now.texts }
+        requires classes { (i : ℕ) → from ≤ i → i < to
+            → Some classes ≡ classes_of self.old.for.cuts (record_at run.now i) }
+        // What passes comes behind the other records, and what is said of the records is so.
+        ensures given { OnOk result (self.new.given
+            ≡ self.old.given ++ flat_map (passed_for self.old.for) (part_of from to run.now)) }
+        ensures decision { (i : ℕ) → from ≤ i → i < to → IfOk result
+            (λ d. d ≡ decision_of (outcome_for self.old.for (record_at run.now i))) }
         ensures same { self.new.for ≡ self.old.for }
     {
-        // A record keeps that it is sound.
-        let _for_proof = flow_record.template();
-        let slot = self.planned(alloc, classes, flow_record)?;
+        // A run keeps that its records are sound.
+        let _for_proof = run.len();
+        let slot = self.planned(alloc, classes, &run.view(from))?;
         let place = self.cache.keep(slot)?;
-        self.cache.give(place, flow_record)
+        self.cache.give(place, run, from, to)
     }
 
     /// The plan for a record, to be kept.
