@@ -2,7 +2,6 @@ use Rattle.std.proofs.Common.{◌≡◌, ◌++◌, ◌≤◌}
 use Rattle.std.specs.List.{flat_map}
 use Rattle.flow_anonymize.specs.Parts.{part_of}
 use Rattle.flow_anonymize.specs.PlanCache.{passed_by}
-use Rattle.flow_anonymize.specs.Output.{OutputOf}
 use Rattle.flow_anonymize.proofs.OutputLaws.{as_output}
 use Rattle.flow_anonymize.proofs.output.Output.add_all.Given as goal
 
