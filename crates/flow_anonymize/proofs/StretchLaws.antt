@@ -1,5 +1,5 @@
 -- What stretches show of octets, and how it is left in place of these.
-use Rattle.std.proofs.Common.{◌≡◌, ◌⊎◌, inl, inr, ℕ, ◌+◌, ◌-◌, ◌<◌, ◌≤◌, List, ◌∷◌, ◌++◌, length, take, drop, get_or, refl, sym, ap, subst, ◌∙◌, arith, append_assoc, append-nil, length-append, length-drop}
+use Rattle.std.proofs.Common.{◌≡◌, ◌⊎◌, inl, inr, ℕ, ◌+◌, ◌-◌, ◌<◌, ◌≤◌, List, [], ◌∷◌, ◌++◌, length, take, drop, get_or, refl, sym, ap, subst, ◌∙◌, arith, append_assoc, append-nil, length-append, length-drop}
 use Rattle.std.proofs.Math.Seq.{take-add}
 use Rattle.std.proofs.lemmas.Bool.{cases_lt}
 use Rattle.std.proofs.lemmas.List.{drop-drop, drop_at, drop_more, drop_all, take_at, take_all, take-take, take-append-drop, length-take, length-take-le, length-replicate, replicate-append-replicate}
@@ -188,3 +188,34 @@ closed_at held whole octets stretches i d put count rest after text new low is c
     let more : put + count ≡ put + length (stretch_shown s rest) = ap (λ (n : ℕ). put + n) counted in
     let was : IsClosing held whole octets (s ∷ drop (i + 1) stretches) put rest text = subst (λ (ss : List Stretch). IsClosing held whole octets ss put rest text) (drop_more stretches i d low) is in
     subst (λ (o : List ℕ). IsClosing held whole octets (drop (i + 1) stretches) (put + count) o new) (sym goes) (closed_one held whole octets s (drop (i + 1) stretches) put (put + count) rest text new was more made)
+
+-- ---- one stretch, or two
+
+-- what a text has up to where octets that were put end
+cut_behind : (place count : ℕ) (octets text new : List ℕ) → place + length octets ≤ length text → new ≡ put_in place octets text → count ≡ length octets → take (place + count) new ≡ take place text ++ octets
+cut_behind place count octets text new room made counted = ap (take (place + count)) made ∙ ap (λ (n : ℕ). take (place + n) (put_in place octets text)) counted ∙ (is_put place octets text room).front
+
+pub closed_only : (only : Stretch) (octets text new : List ℕ) (held count : ℕ) → held ≤ length text → drop held text ≡ octets → new ≡ put_in held (stretch_shown only octets) text → count ≡ length (stretch_shown only octets)
+    → take (held + count) new ≡ take held text ++ shown_in (only ∷ []) octets
+closed_only only octets text new held count low there made counted =
+    let shown = stretch_shown only octets in
+    let room : held + length shown ≤ length text = omega (arith, low, ap length there, length-drop held text, shown_within only octets) in
+    cut_behind held count shown text new room made counted ∙ ap (λ (xs : List ℕ). take held text ++ xs) (sym (append-nil shown))
+
+pub closed_two : (first second : Stretch) (octets rest text one two : List ℕ) (held front back : ℕ) → held ≤ length text → drop held text ≡ octets → rest ≡ behind_of first octets → one ≡ put_in held (stretch_shown first octets) text → front ≡ length (stretch_shown first octets)
+    → two ≡ put_in (held + front) (stretch_shown second rest) one → back ≡ length (stretch_shown second rest) → take (held + (front + back)) two ≡ take held text ++ shown_in (first ∷ second ∷ []) octets
+closed_two first second octets rest text one two held front back low there is_rest is_one is_front is_two is_back =
+    let here = stretch_shown first octets in
+    let next = stretch_shown second (behind_of first octets) in
+    let is_next : stretch_shown second rest ≡ next = ap (stretch_shown second) is_rest in
+    let room : held + (length here + length next) ≤ length text =
+    omega (arith, low, ap length there, length-drop held text, shown_within first octets, shown_within second (behind_of first octets)) in
+    let all : two ≡ put_in held (here ++ next) text =
+    is_two
+    ∙ ap (λ (n : ℕ). put_in (held + n) (stretch_shown second rest) one) is_front
+    ∙ ap (λ (xs : List ℕ). put_in (held + length here) xs one) is_next
+    ∙ ap (put_in (held + length here) next) is_one
+    ∙ put_twice held here next text room in
+    let count : front + back ≡ length (here ++ next) = omega (arith, is_front, is_back, ap length is_next, length-append here next) in
+    cut_behind held (front + back) (here ++ next) text two (omega (arith, room, length-append here next)) all count
+    ∙ ap (λ (xs : List ℕ). take held text ++ (here ++ xs)) (sym (append-nil next))

@@ -1,5 +1,5 @@
 //! Octets in a row, and what is shown of them.
-ghost use Rattle.std.specs.Prelude.{◌≡◌, ◌≤◌, ◌+◌, ◌++◌, length, take, drop, true, false, IfSome, OnOk, OnErr};
+ghost use Rattle.std.specs.Prelude.{◌≡◌, ◌≤◌, ◌+◌, ◌++◌, length, take, drop, true, false, [], ◌∷◌, IfSome, OnOk, OnErr};
 ghost use Rattle.flow_anonymize.specs.Stretches.{stretch, zeroed, stretch_shown, behind_of, shown_in, put_in, IsJoined};
 
 use std::alloc::AllocError;
@@ -76,7 +76,12 @@ pub(crate) fn put_stretches(
 {
     let held = text.len();
     text.extend_from_slice(octets)?;
-    let shown = close_up(stretches, octets, held, text);
+    // Most plans have one stretch or two.
+    let shown = match stretches {
+        [only] => close_one(*only, octets, held, text),
+        [first, second] => close_two(*first, *second, octets, held, text),
+        _ => close_up(stretches, octets, held, text),
+    };
     text.truncate(held + shown);
     Ok(())
 }
@@ -93,12 +98,45 @@ fn close_up(stretches: &[Stretch], octets: &[u8], held: usize, text: &mut Vec<u8
     let mut put = 0;
     let mut rest = octets;
     for stretch in stretches {
+        // It is read once, before the text is written.
+        let stretch = *stretch;
+        let left = behind(stretch, rest);
         // What stands before the first octets that are left out is where it is due.
         let moved = put + rest.len() < octets.len();
-        put += put_stretch(*stretch, rest, moved, held + put, text);
-        rest = behind(*stretch, rest);
+        put += put_stretch(stretch, rest, moved, held + put, text);
+        rest = left;
     }
     put
+}
+
+/// [`close_up`] of a single stretch, without a loop.
+fn close_one(only: Stretch, octets: &[u8], held: usize, text: &mut Vec<u8>) -> usize
+    requires within { held ≤ length text.old.items }
+    requires there { drop held text.old.items ≡ octets.now }
+    ensures shown { take (held + result) text.new.items
+        ≡ take held text.old.items ++ shown_in (only ∷ []) octets.now }
+    ensures within { held + result ≤ length text.new.items }
+{
+    put_stretch(only, octets, false, held, text)
+}
+
+/// [`close_up`] of two stretches, without a loop.
+fn close_two(
+    first: Stretch,
+    second: Stretch,
+    octets: &[u8],
+    held: usize,
+    text: &mut Vec<u8>,
+) -> usize
+    requires within { held ≤ length text.old.items }
+    requires there { drop held text.old.items ≡ octets.now }
+    ensures shown { take (held + result) text.new.items
+        ≡ take held text.old.items ++ shown_in (first ∷ second ∷ []) octets.now }
+    ensures within { held + result ≤ length text.new.items }
+{
+    let rest = behind(first, octets);
+    let front = put_stretch(first, octets, false, held, text);
+    front + put_stretch(second, rest, true, held + front, text)
 }
 
 /// Puts what a stretch shows of octets in place of those of a text from a place on, and answers how many octets that are. The
