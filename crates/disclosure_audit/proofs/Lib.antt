@@ -3,3 +3,5 @@ pub mod SplitLaws
 pub mod LineLaws
 pub mod NotingLaws
 pub mod StandingLaws
+pub mod PartLaws
+pub mod StretchLaws

@@ -1,8 +1,13 @@
 -- Notes behind notes.
-use Rattle.std.proofs.Common.{◌≡◌, ℕ, zero, suc, ◌+◌, ◌-◌, ◌≤◌, List, [], ◌∷◌, ◌++◌, length, take, refl, sym, ap, ◌∙◌, arith, append_assoc, append-nil, length-append}
-use Rattle.std.proofs.lemmas.List.{take_all}
+use Rattle.std.proofs.Common.{◌≡◌, ℕ, zero, suc, ◌+◌, ◌-◌, ◌*◌, ◌≤◌, List, [], ◌∷◌, ◌++◌, length, map, take, drop, refl, sym, ap, ◌∙◌, arith, append_assoc, append-nil, length-append}
+use Rattle.std.specs.Prelude.{min}
+use Rattle.std.proofs.lemmas.List.{take_all, take_min}
 use Rattle.disclosure_audit.specs.declared.entry.Note.{Note}
-use Rattle.disclosure_audit.specs.Noting.{KeptNotes, kept_notes, and_more}
+use Rattle.disclosure_audit.specs.declared.entry.KeptBack.{KeptBack}
+use Rattle.disclosure_audit.specs.declared.entry.AuditEntry.{AuditEntry}
+use Rattle.disclosure_audit.specs.Queue.{stamp}
+use Rattle.disclosure_audit.specs.Noting.{KeptNotes, kept_notes, and_more, notes_of_stretch, note_of}
+use Rattle.disclosure_audit.proofs.StretchLaws.{length-stretch}
 
 abbrev pub kept_as : ℕ → List Note → ℕ → KeptNotes
 kept_as most notes count = record { notes = notes; count = count; most = most }
@@ -61,3 +66,32 @@ pub counted_more : (k : KeptNotes) (note : Note) → k.most ≤ length k.notes �
 counted_more k note full =
     let none : k.most - length k.notes ≡ 0 = omega (arith, full) in
     kept_same k.most (k.notes ++ take (k.most - length k.notes) (note ∷ [])) k.notes (k.count + 1) (k.count + 1) (ap (λ (n : ℕ). k.notes ++ take n (note ∷ [])) none ∙ append-nil k.notes) refl
+
+-- a stretch of which so many notes are kept as there is room for
+pub stretch_more : (k : KeptNotes) (first count : ℕ) (each : List KeptBack) (size room kept : ℕ) (notes : List Note) → size ≡ count * length each → room ≡ k.most - length k.notes → kept ≡ min size room
+    → notes ≡ k.notes ++ take kept (notes_of_stretch first count each) → kept_as k.most notes (k.count + size) ≡ and_more k (notes_of_stretch first count each)
+stretch_more k first count each size room kept notes sized left some are =
+    kept_same k.most notes (k.notes ++ take (k.most - length k.notes) all) (k.count + size) (k.count + length all)
+    (are ∙ ap (λ (n : ℕ). k.notes ++ take n all) (omega (arith, some, left, sized, long)) ∙ ap (λ (l : List Note). k.notes ++ l) (take_min (k.most - length k.notes) all))
+    (omega (arith, sized, long))
+  where
+    all : List Note
+    all = notes_of_stretch first count each
+
+    long : length all ≡ count * length each
+    long = length-stretch first count each
+
+pub none_taken : (k : KeptNotes) (kept : ℕ) (more : List Note) → kept ≤ 0 → k.notes ≡ k.notes ++ take kept more
+none_taken k kept more none =
+    let zeroth : 0 ≡ kept = omega (arith, none) in
+    sym (append-nil k.notes) ∙ ap (λ (n : ℕ). k.notes ++ take n more) zeroth
+
+-- ---- notes as entries, and back
+
+noted_again : (position : ℕ) (notes : List Note) → map note_of (map (stamp position) notes) ≡ notes
+noted_again position [] = refl
+noted_again position (n ∷ notes) = ap (λ l. n ∷ l) (noted_again position notes)
+
+pub listed_again : (notes listed : List Note) (n : ℕ) (begun entries : List AuditEntry) → listed ≡ notes → n ≡ length listed → begun ≡ [] → entries ≡ begun ++ map (stamp 0) (take n (drop 0 listed)) → map note_of entries ≡ notes
+listed_again notes listed n begun entries are long none copied =
+    ap (map note_of) (copied ∙ ap (λ (l : List AuditEntry). l ++ map (stamp 0) (take n (drop 0 listed))) none ∙ ap (map (stamp 0)) (take_all n listed (omega (arith, long)) ∙ are)) ∙ noted_again 0 notes

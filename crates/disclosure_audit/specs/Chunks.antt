@@ -1,7 +1,6 @@
 -- The entries of an audit, as they are kept.
-use Rattle.std.specs.Prelude.{List, [], ◌∷◌, map}
+use Rattle.std.specs.Prelude.{List, [], ◌∷◌, map, drop}
 use Rattle.std.specs.List.{flat_map}
-use Rattle.std.specs.Vec.Iter.{into_iter_items}
 use Rattle.disclosure_audit.specs.declared.entry.AuditEntry.{AuditEntry}
 use Rattle.disclosure_audit.specs.declared.chunk.Chunk.{Chunk}
 use Rattle.disclosure_audit.specs.declared.chunk.Chunk.TheVariants.{One, Message}
@@ -10,7 +9,7 @@ use Rattle.disclosure_audit.specs.Queue.{stamp}
 -- the entries of a chunk, oldest first
 abbrev pub entries_in : Chunk → List AuditEntry
 entries_in (One entry) = entry ∷ []
-entries_in (Message position notes) = map (stamp position) (into_iter_items notes)
+entries_in (Message position notes drained) = map (stamp position) (drop drained notes)
 
 abbrev pub entries_of : List Chunk → List AuditEntry
 entries_of chunks = flat_map entries_in chunks

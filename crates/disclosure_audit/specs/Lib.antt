@@ -1,5 +1,6 @@
 pub mod Lines
 pub mod Noting
+pub mod Stretching
 pub mod Queue
 pub mod Chunks
 pub mod Kept

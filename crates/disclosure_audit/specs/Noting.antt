@@ -1,7 +1,9 @@
 -- The notes of a message, of which so many at most are kept, and all are counted: an audit that has no room for all of them takes none.
 -- All of this is this project's own rule.
-use Rattle.std.specs.Prelude.{ℕ, ◌+◌, ◌-◌, List, ◌++◌, length, take}
+use Rattle.std.specs.Prelude.{ℕ, zero, suc, ◌+◌, ◌-◌, List, [], ◌++◌, length, map, take}
 use Rattle.disclosure_audit.specs.declared.entry.Note.{Note}
+use Rattle.disclosure_audit.specs.declared.entry.KeptBack.{KeptBack}
+use Rattle.disclosure_audit.specs.declared.entry.AuditEntry.{AuditEntry}
 
 -- those that are kept, how many there are in all, and how many may be kept
 pub record KeptNotes : Type 0 where
@@ -16,3 +18,18 @@ kept_notes most all = record { notes = take most all; count = length all; most =
 -- with more notes behind them
 abbrev pub and_more : KeptNotes → List Note → KeptNotes
 and_more k more = record { notes = k.notes ++ take (k.most - length k.notes) more; count = k.count + length more; most = k.most }
+
+-- ---- stretches: records side by side of which the same is kept back
+
+-- the note of the record at a place
+abbrev pub noted_at : ℕ → KeptBack → Note
+noted_at index kept = record { index = index; sub = kept.sub; what = kept.what }
+
+-- of so many records from the first on, the same of each
+abbrev pub notes_of_stretch : ℕ → ℕ → List KeptBack → List Note
+notes_of_stretch first zero each = []
+notes_of_stretch first (suc n) each = map (noted_at first) each ++ notes_of_stretch (suc first) n each
+
+-- an entry without the position of its message
+abbrev pub note_of : AuditEntry → Note
+note_of entry = record { index = entry.index; sub = entry.sub; what = entry.what }

@@ -122,6 +122,28 @@ pub struct AuditEntry {
     pub what: What,
 }
 
+/// A clone shares the list of removed fields.
+impl Clone for What {
+    ghost use Rattle.std.specs.Prelude.{◌≡◌};
+
+    ghost is_clone = { λ w copy. copy ≡ w };
+
+    fn clone(&self) -> Result<What, AllocError> {
+        let what = match self {
+            What::Withheld { rule, reason } => What::Withheld {
+                rule: *rule,
+                reason: *reason,
+            },
+            What::Aggregated { rule } => What::Aggregated { rule: *rule },
+            What::Removed { fields } => What::Removed {
+                fields: fields.clone()?,
+            },
+            What::Cut => What::Cut,
+        };
+        Ok(what)
+    }
+}
+
 /// What was kept from one subscription, of one record of a message whose position isn't told yet.
 #[derive(Debug, Drop)]
 pub struct Note {
@@ -131,4 +153,27 @@ pub struct Note {
     pub sub: u64,
     /// What was kept back of it, and by which rule.
     pub what: What,
+}
+
+/// What was kept from one subscription, of a record that isn't told yet.
+#[derive(Debug, Drop)]
+pub struct KeptBack {
+    /// The number of the subscription.
+    pub sub: u64,
+    /// What was kept back of it, and by which rule.
+    pub what: What,
+}
+
+/// A clone shares the list of removed fields.
+impl Clone for KeptBack {
+    ghost use Rattle.std.specs.Prelude.{◌≡◌};
+
+    ghost is_clone = { λ k copy. copy ≡ k };
+
+    fn clone(&self) -> Result<KeptBack, AllocError> {
+        Ok(KeptBack {
+            sub: self.sub,
+            what: self.what.clone()?,
+        })
+    }
 }

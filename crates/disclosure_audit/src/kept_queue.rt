@@ -1,5 +1,5 @@
 //! The entries of an audit that wait, kept until they are drained.
-ghost use Rattle.std.specs.Prelude.{◌≡◌, ◌≤◌, ◌+◌, ◌++◌, length, take, drop, vec_capacity, true, Some, refl};
+ghost use Rattle.std.specs.Prelude.{◌≡◌, ◌≤◌, ◌+◌, ◌++◌, length, take, drop, vec_capacity, true, Some, refl, IsOk, OnOk};
 ghost use Rattle.std.specs.VecDeque.{deque_capacity};
 ghost use Rattle.disclosure_audit.specs.Chunks.{entries_of};
 
@@ -97,7 +97,7 @@ impl AuditQueue for KeptQueue {
     fn push_notes(&mut self, position: u64, notes: Notes) {
         self.spare -= 1;
         self.waiting += notes.count() as u32;
-        if let Some(chunk) = Chunk::of_notes(position, notes.into_kept()) {
+        if let Some(chunk) = Chunk::of_notes(position, notes.into_stretches()) {
             self.chunks.push_back_reserved(chunk);
         }
     }
@@ -105,30 +105,54 @@ impl AuditQueue for KeptQueue {
     fn drain(&mut self, most: u32) -> Result<Vec<AuditEntry>, AllocError> {
         let count = self.waiting.min(most);
         let mut out = Vec::with_capacity(self.alloc, count as usize)?;
-        move_oldest(&mut self.chunks, &mut out, count as usize);
+        // Copied first, since that may fail.
+        copy_oldest(&self.chunks, count as usize, &mut out)?;
+        drop_oldest(&mut self.chunks, count as usize);
         self.waiting -= count;
         Ok(out)
     }
 }
 
-/// Moves `count` entries from the front of the queue into the list, which has room for them.
-fn move_oldest(queue: &mut VecDeque<Chunk>, out: &mut Vec<AuditEntry>, count: usize)
-    requires there { count ≤ length (entries_of queue.old.items) }
-    requires room { length out.old.items + count ≤ vec_capacity out.old }
-    // What was the front of the queue stands behind the list.
-    ensures moved { out.new.items ≡ out.old.items ++ take count (entries_of queue.old.items) }
+/// Copies `count` entries from the front of the queue into the list, which has room for them.
+fn copy_oldest(
+    queue: &VecDeque<Chunk>,
+    count: usize,
+    out: &mut Vec<AuditEntry>,
+) -> Result<(), AllocError>
+    requires { length out.old.items + count ≤ vec_capacity out.old }
+    ensures copied { OnOk result
+        (out.new.items ≡ out.old.items ++ take count (entries_of queue.now.items)) }
+    // To copy nothing takes no memory.
+    ensures none { count ≡ 0 → IsOk result }
+{
+    let mut left = count;
+    let mut at = 0;
+    'chunks: while left > 0 && at < queue.len() {
+        let chunk = &queue[at];
+        let taken = chunk.len().min(left);
+        chunk.copy_oldest(left, out)?;
+        left -= taken;
+        at += 1;
+    }
+    Ok(())
+}
+
+/// Drops `count` entries from the front of the queue.
+fn drop_oldest(queue: &mut VecDeque<Chunk>, count: usize)
     ensures left { entries_of queue.new.items ≡ drop count (entries_of queue.old.items) }
     // The queue has no more pieces than before, and keeps its room.
     ensures fewer { length queue.new.items ≤ length queue.old.items }
     ensures capacity { deque_capacity queue.new ≡ deque_capacity queue.old }
 {
-    let full = out.len() + count;
-    'chunks: while out.len() < full {
+    let mut left = count;
+    'chunks: while left > 0 {
         let Some(chunk) = queue.pop_front() else {
             break;
         };
-        if let Some(rest) = chunk.move_oldest(full - out.len(), out) {
+        let dropped = chunk.len().min(left);
+        if let Some(rest) = chunk.without_oldest(left) {
             queue.push_front_reserved(rest);
         }
+        left -= dropped;
     }
 }

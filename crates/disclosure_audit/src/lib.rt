@@ -2,10 +2,12 @@
 //! queue of bounded length until they are drained, oldest first, and each has one line of text. Where nobody is to read
 //! them, they are counted alone.
 //!
-//! - `entry`: [`AuditEntry`], and [`Note`], which has no position yet; [`What`] was kept back, [`RemovedField`] with its
+//! - `entry`: [`AuditEntry`], and [`Note`], which has no position yet, and [`KeptBack`], which has no record yet either;
+//!   [`What`] was kept back, [`RemovedField`] with its
 //!   list [`RemovedFields`].
 //! - `reason`: [`Reason`], why a whole record was withheld.
-//! - `notes`: [`Notes`], what is noted of a message, as much of it as is to be kept.
+//! - `notes`: [`Notes`], what is noted of a message, as much of it as is to be kept; `stretches` keep it, once for
+//!   records side by side that lose the same, and `stretch` is one of them.
 //! - `queue`: [`AuditQueue`], the trait of what waits; `kept_queue`: [`KeptQueue`], which keeps it; `counted_queue`:
 //!   [`CountedQueue`], which counts it.
 //! - `audit`: [`Audit`], over one of these queues, with the limit, and the number of what was drained.
@@ -31,10 +33,12 @@ mod lines;
 mod notes;
 mod queue;
 mod reason;
+mod stretch;
+mod stretches;
 
 pub use audit::{Audit, MOST_ENTRIES};
 pub use counted_queue::CountedQueue;
-pub use entry::{AuditEntry, Note, RemovedField, RemovedFields, What};
+pub use entry::{AuditEntry, KeptBack, Note, RemovedField, RemovedFields, What};
 pub use kept_queue::KeptQueue;
 pub use laws::one_entry;
 pub use lines::{line, put_line};

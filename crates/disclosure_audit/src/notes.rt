@@ -1,8 +1,9 @@
 //! What an audit is to note of a message: as much of it as is to be kept, and the number of all.
-ghost use Rattle.std.specs.Prelude.{◌≡◌, ◌≤◌, ◌<◌, ◌+◌, ◌^◌, ◌∷◌, [], length, nat_lt, OnOk};
-ghost use Rattle.disclosure_audit.specs.Noting.{kept_notes, and_more};
+ghost use Rattle.std.specs.Prelude.{◌≡◌, ◌≤◌, ◌<◌, ◌+◌, ◌^◌, ◌∷◌, [], length, map, nat_lt, IfOk, OnOk};
+ghost use Rattle.disclosure_audit.specs.Noting.{kept_notes, and_more, notes_of_stretch, note_of};
 
-use crate::entry::Note;
+use crate::entry::{AuditEntry, KeptBack, Note};
+use crate::stretches::Stretches;
 use std::alloc::{AllocError, Global};
 use std::marker::Model;
 
@@ -11,10 +12,10 @@ const MOST_COUNTED: u64 = 1 << 62;
 
 /// The notes of a message, in their order. At most as many are kept as are wanted, the first ones, and all are counted.
 /// So a message of which the audit has more to note than it has room for takes no more memory than that, and one of
-/// which none is wanted takes none.
+/// which none is wanted takes none. Of records side by side that lose the same it is kept once.
 #[derive(Drop)]
 pub struct Notes {
-    kept: Vec<Note>,
+    kept: Stretches,
     count: u64,
     most: u64,
 }
@@ -25,7 +26,7 @@ impl Model for Notes {
 
     ghost Value = { KeptNotes };
 
-    ghost view = { λ n. record { notes = n.kept.items; count = n.count; most = n.most } };
+    ghost view = { λ n. record { notes = n.kept; count = n.count; most = n.most } };
 
     ghost invariant = { λ n. n.count < 2 ^ 63 };
 }
@@ -36,7 +37,7 @@ impl Notes {
         ensures { result ≡ kept_notes most [] }
     {
         Notes {
-            kept: Vec::new(alloc),
+            kept: Stretches::new(alloc),
             count: 0,
             most,
         }
@@ -50,16 +51,23 @@ impl Notes {
         self.count
     }
 
-    /// The notes that were kept, in their order, lent.
-    pub fn as_slice(&self) -> &[Note]
-        ensures { result.now ≡ self.now.notes }
+    /// The list of the notes that were kept, in their order, in memory from `alloc`.
+    ///
+    /// # Errors
+    /// Want of memory.
+    pub fn into_kept(self, alloc: Global) -> Result<Vec<Note>, AllocError>
+        ensures kept { IfOk result (λ notes. notes.items ≡ self.notes) }
+        ensures few { self.count < 2 ^ 63 }
     {
-        self.kept.as_slice()
+        let stretches = self.into_stretches();
+        let mut entries = Vec::with_capacity(alloc, stretches.len())?;
+        stretches.copy_part(0, 0, stretches.len(), &mut entries)?;
+        noted(alloc, entries)
     }
 
-    /// The notes that were kept, in their order.
-    pub fn into_kept(self) -> Vec<Note>
-        ensures kept { result.items ≡ self.notes }
+    /// The notes that were kept, in their order, as they are kept.
+    pub(crate) fn into_stretches(self) -> Stretches
+        ensures kept { result ≡ self.notes }
         ensures few { self.count < 2 ^ 63 }
     {
         let Notes {
@@ -110,13 +118,52 @@ impl Notes {
     pub fn push(&mut self, note: Note) -> Result<(), AllocError>
         ensures { OnOk result (self.new ≡ and_more self.old (note ∷ [])) }
     {
-        if self.count >= MOST_COUNTED {
+        let Note { index, sub, what } = note;
+        self.push_stretch(index, 1, &[KeptBack { sub, what }])
+    }
+
+    /// Adds the notes of `count` records side by side, from the one at `first` on, behind the others: `each` is what is
+    /// kept back of each of these. They are kept as far as they may be, and counted in any case. Where none is kept that
+    /// takes no memory, and else no more for many records than for one.
+    ///
+    /// # Errors
+    /// Want of memory; or there are 2^62 notes, which no memory holds.
+    pub fn push_stretch(
+        &mut self,
+        first: u32,
+        count: u32,
+        each: &[KeptBack],
+    ) -> Result<(), AllocError>
+        requires within { first + count ≤ 2 ^ 32 }
+        ensures { OnOk result
+            (self.new ≡ and_more self.old (notes_of_stretch first count each.now)) }
+    {
+        let size = (count as usize).saturating_mul(each.len()) as u64;
+        if size > MOST_COUNTED || self.count + size > MOST_COUNTED {
             return Err(AllocError);
         }
-        if self.keeps_next() {
-            self.kept.push(note)?;
+        let room = self.most.saturating_sub(self.kept.len() as u64);
+        let kept = size.min(room);
+        if kept > 0 {
+            self.kept.add(first, count, each, kept as usize)?;
         }
-        self.count += 1;
+        self.count += size;
         Ok(())
     }
+}
+
+/// The notes of which these entries were made.
+fn noted(alloc: Global, entries: Vec<AuditEntry>) -> Result<Vec<Note>, AllocError>
+    ensures { IfOk result (λ notes. notes.items ≡ map note_of entries.items) }
+{
+    let mut notes = Vec::with_capacity(alloc, entries.len())?;
+    'entries: for AuditEntry {
+        position: _,
+        index,
+        sub,
+        what,
+    } in entries {
+        notes.push_reserved(Note { index, sub, what });
+    }
+    Ok(notes)
 }

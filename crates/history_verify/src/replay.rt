@@ -358,10 +358,11 @@ impl Replay {
         let most = self.audit.most();
         let in_force = &mut self.in_force;
         let shares = Shares::of_records(self.alloc, in_force, domain, records, &served, most)?;
+        let notes = shares.notes.into_kept(self.alloc)?;
         Ok(Judged {
             shares: shares.shares,
             tallies: shares.tallies,
-            entries: stamped(self.alloc, shares.notes.into_kept(), self.position)?,
+            entries: stamped(self.alloc, notes, self.position)?,
         })
     }
 

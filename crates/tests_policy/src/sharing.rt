@@ -52,11 +52,11 @@ fn counts(alloc: Global, found: &Shares) -> Result<Vec<(u64, usize)>, Fail> {
 }
 
 /// What is noted: index, subscription, and whether a record was withheld.
-fn noted(alloc: Global, found: &Shares) -> Result<Vec<(u32, u64, bool)>, Fail> {
+fn noted(alloc: Global, found: Shares) -> Result<Vec<(u32, u64, bool)>, Fail> {
     Ok(
         found
             .notes
-            .as_slice()
+            .into_kept(alloc)?
             .iter()
             .map(|note| {
                 (
@@ -77,7 +77,7 @@ fn isolation(rt: HostRuntime) -> Result<(), Fail> {
         [(1, 1), (2, 0)].as_slice()
     );
     assert_eq!(rt;
-        noted(rt.alloc(), &found)?.as_slice(),
+        noted(rt.alloc(), found)?.as_slice(),
         [(0, 1, false), (0, 2, true)].as_slice()
     );
     Ok(())
@@ -89,7 +89,7 @@ fn notes_that_are_kept(rt: HostRuntime) -> Result<(), Fail> {
     for most in 0..4_u64 {
         let found = shared(rt.alloc(), most)?;
         assert_eq!(rt; found.notes.count(), 2);
-        assert_eq!(rt; found.notes.into_kept().len() as u64, most.min(2));
+        assert_eq!(rt; found.notes.into_kept(rt.alloc())?.len() as u64, most.min(2));
     }
     Ok(())
 }
