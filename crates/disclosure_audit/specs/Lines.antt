@@ -1,5 +1,5 @@
 -- The text of an audit entry, by this project's own rule: words parted by one space, and a line feed; all numbers are decimal.
-use Rattle.std.specs.Prelude.{ℕ, List, [], ◌∷◌, ◌++◌, map, codes}
+use Rattle.std.specs.Prelude.{ℕ, ◌/◌, ◌==◌, if◌then◌else◌, List, [], ◌∷◌, ◌++◌, map, codes}
 use Rattle.std.specs.List.{join_with_byte}
 use Rattle.std.specs.Fmt.{decimal}
 use Rattle.disclosure_audit.specs.declared.reason.Reason.{Reason}
@@ -39,3 +39,15 @@ entry_words entry = decimal entry.position ∷ decimal entry.index ∷ decimal e
 -- one space (32) between words, and a line feed (10)
 abbrev pub audit_line : AuditEntry → List ℕ
 audit_line entry = join_with_byte 32 (entry_words entry) ++ 10 ∷ []
+
+-- the digits of a number before its last one, which are those of its tens
+abbrev pub tens_text : ℕ → List ℕ
+tens_text tens = if tens == 0 then [] else decimal tens
+
+-- what stands before the last digit of the index: the position, a space, and the other digits of the index
+abbrev pub line_front : AuditEntry → List ℕ
+line_front entry = decimal entry.position ++ 32 ∷ tens_text (entry.index / 10)
+
+-- what stands behind the index, each word with the space before it
+abbrev pub line_tail : AuditEntry → List ℕ
+line_tail entry = 32 ∷ join_with_byte 32 (decimal entry.sub ∷ what_words entry.what) ++ 10 ∷ []

@@ -9,7 +9,8 @@
 //! - `queue`: [`AuditQueue`], the trait of what waits; `kept_queue`: [`KeptQueue`], which keeps it; `counted_queue`:
 //!   [`CountedQueue`], which counts it.
 //! - `audit`: [`Audit`], over one of these queues, with the limit, and the number of what was drained.
-//! - `lines`: [`line`], the text of an entry, and [`put_line`], which adds it to a text.
+//! - `lines`: [`line`], the text of an entry, and [`put_line`], which adds it to a text; `line_list`: [`put_lines`], which
+//!   adds those of many, and makes anew only what a line doesn't share with those before it.
 //! - `laws`: [`one_entry`], proved over the definitions.
 //!
 //! Proved, over each queue: `room` is exact. `reserve` changes nothing but the reserved room, and takes no memory where
@@ -17,7 +18,8 @@
 //! keeps back, in one step; they take no memory and cannot fail. `drain` hands out the oldest entries, or all, of those
 //! that are kept (`oldest`), and leaves the others (`left`), so that what was handed out and what waits are all that was
 //! given, or as many (`stands`); where it is refused nothing changes (`err`). `Notes` are the front of what is noted, as
-//! many as are to be kept, with the number of all. `line` is the exact text of an entry, and `put_line` adds just that.
+//! many as are to be kept, with the number of all. `line` is the exact text of an entry, and `put_line` adds just that;
+//! `put_lines` adds that of each entry, one after another.
 //! Law: `one_entry` (no line is that of two entries).
 #![tactic(auto)]
 
@@ -27,6 +29,7 @@ mod counted_queue;
 mod entry;
 mod kept_queue;
 mod laws;
+mod line_list;
 mod lines;
 mod notes;
 mod queue;
@@ -37,6 +40,7 @@ pub use counted_queue::CountedQueue;
 pub use entry::{AuditEntry, Note, RemovedField, RemovedFields, What};
 pub use kept_queue::KeptQueue;
 pub use laws::one_entry;
+pub use line_list::put_lines;
 pub use lines::{line, put_line};
 pub use notes::Notes;
 pub use queue::AuditQueue;

@@ -38,7 +38,7 @@ pub fn put_line(text: &mut String, entry: &AuditEntry) -> Result<(), AllocError>
     put_mark(text, '\n')
 }
 
-fn put_what(text: &mut String, what: &What) -> Result<(), AllocError>
+pub(crate) fn put_what(text: &mut String, what: &What) -> Result<(), AllocError>
     ensures { OnOk result (string_bytes text.new ≡ string_bytes text.old
         ++ join_with_byte 32 (what_words what.now)) }
 {
@@ -84,7 +84,7 @@ fn put_field(text: &mut String, field: RemovedField) -> Result<(), AllocError>
     put_number(text, u64::from(field.rule))
 }
 
-fn put_number(text: &mut String, number: u64) -> Result<(), AllocError>
+pub(crate) fn put_number(text: &mut String, number: u64) -> Result<(), AllocError>
     ensures { OnOk result (string_bytes text.new ≡ string_bytes text.old ++ decimal number) }
 {
     if number < 10 {
@@ -95,7 +95,7 @@ fn put_number(text: &mut String, number: u64) -> Result<(), AllocError>
 }
 
 /// Adds one character of ASCII.
-fn put_mark(text: &mut String, mark: char) -> Result<(), AllocError>
+pub(crate) fn put_mark(text: &mut String, mark: char) -> Result<(), AllocError>
     requires { mark < 128 }
     ensures { OnOk result (string_bytes text.new ≡ string_bytes text.old ++ mark ∷ []) }
 {

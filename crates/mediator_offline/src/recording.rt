@@ -1,5 +1,5 @@
 //! Writes what the audit names, line by line.
-ghost use Rattle.std.specs.Prelude.{◌≡◌, IfOk, IfErr, OnOk, OnErr, string_bytes};
+ghost use Rattle.std.specs.Prelude.{◌≡◌, IfOk, IfErr, OnOk, OnErr};
 ghost use Rattle.std.specs.Io.KnownBytes.{Appends};
 ghost use Rattle.mediator_offline.specs.Failing.{audit_after};
 ghost use Rattle.mediator_offline.specs.Lines.{audit_text, WritesBeginning};
@@ -7,10 +7,13 @@ ghost use Rattle.mediator_offline.specs.Recording.{StopsLines};
 
 use crate::job::Fault;
 use crate::run::OfflineRun;
-use disclosure_audit::{AuditEntry, AuditQueue, put_line};
+use disclosure_audit::{AuditEntry, AuditQueue, put_lines};
 use mediator_state::Fault as MediatorFault;
 use octet_io::{Sink, write_all};
 use std::alloc::{AllocError, Global};
+
+/// For how many octets of each line there is room from the start; most lines are shorter.
+const LINE_OCTETS: usize = 32;
 
 /// Writes the lines of `entries` to `writer`, in their order and in one piece.
 ///
@@ -35,7 +38,7 @@ pub(crate) fn write_lines<A: Sink>(
     let Ok(text) = lines(alloc, entries) else {
         return Err(Fault::Mediator(MediatorFault::OutOfMemory));
     };
-    match write_all(writer, text.as_bytes()) {
+    match write_all(writer, text.as_slice()) {
         Ok(()) => Ok(()),
         Err(_) => Err(Fault::AuditWrite),
     }
@@ -45,13 +48,11 @@ pub(crate) fn write_lines<A: Sink>(
 ///
 /// # Errors
 /// Want of memory.
-fn lines(alloc: Global, entries: &[AuditEntry]) -> Result<String, AllocError>
-    ensures { IfOk result (λ text. string_bytes text ≡ audit_text entries.now) }
+fn lines(alloc: Global, entries: &[AuditEntry]) -> Result<Vec<u8>, AllocError>
+    ensures { IfOk result (λ text. text.items ≡ audit_text entries.now) }
 {
-    let mut text = String::new(alloc);
-    'entries: for entry in entries {
-        put_line(&mut text, entry)?;
-    }
+    let mut text = Vec::with_capacity(alloc, entries.len().saturating_mul(LINE_OCTETS))?;
+    put_lines(alloc, &mut text, entries)?;
     Ok(text)
 }
 
