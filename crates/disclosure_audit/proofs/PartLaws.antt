@@ -1,7 +1,7 @@
 -- Fronts and rests of two lists in one.
-use Rattle.std.proofs.Common.{◌≡◌, ℕ, zero, suc, ◌+◌, ◌-◌, ◌≤◌, ◌<◌, List, [], ◌∷◌, ◌++◌, length, take, drop, refl, sym, ap, ◌∙◌, arith, append_assoc, append-nil, length-append}
+use Rattle.std.proofs.Common.{◌≡◌, ℕ, zero, suc, ◌-◌, List, [], ◌∷◌, ◌++◌, length, take, drop, sym, ap, ◌∙◌, arith}
 use Rattle.std.specs.Prelude.{min}
-use Rattle.std.proofs.lemmas.List.{take_min, drop_min, take_all, drop_all, length-drop, length-take}
+use Rattle.std.proofs.lemmas.List.{take_min, drop_min, length-drop}
 
 pub taken_of_two : {X : Type 0} → (n : ℕ) (xs ys : List X) → take n (xs ++ ys) ≡ take n xs ++ take (n - length xs) ys
 taken_of_two zero xs ys = ap (λ m. take m ys) none where

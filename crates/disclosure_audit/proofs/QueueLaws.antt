@@ -1,8 +1,7 @@
 -- What is copied, and what is dropped, from the front of a queue.
 use Rattle.std.proofs.Common.{◌≡◌, ℕ, ◌+◌, ◌-◌, ◌≤◌, ◌<◌, List, [], ◌∷◌, ◌++◌, length, take, drop, get_or, sym, ap, ◌∙◌, arith, append_assoc, append-nil, length-append}
 use Rattle.std.specs.Prelude.{min}
-use Rattle.std.proofs.lemmas.Grind.{flat_map-append}
-use Rattle.std.proofs.lemmas.List.{drop_more, drop_all, length-take}
+use Rattle.std.proofs.lemmas.List.{drop_more, length-take}
 use Rattle.disclosure_audit.specs.declared.entry.AuditEntry.{AuditEntry}
 use Rattle.disclosure_audit.specs.declared.chunk.Chunk.{Chunk}
 use Rattle.disclosure_audit.specs.Chunks.{entries_in, entries_of}

@@ -1,11 +1,12 @@
 -- The notes of stretches, and parts of them.
-use Rattle.std.proofs.Common.{◌≡◌, ℕ, zero, suc, ◌+◌, ◌-◌, ◌*◌, ◌/◌, ◌%◌, ◌≤◌, ◌<◌, List, [], ◌∷◌, ◌++◌, length, map, take, drop, get_or, refl, sym, ap, ◌∙◌, subst, ◌^◌, arith, append_assoc, append-nil, length-append}
+use Rattle.std.proofs.Common.{◌≡◌, ℕ, zero, suc, ◌+◌, ◌-◌, ◌*◌, ◌/◌, ◌%◌, ◌≤◌, ◌<◌, List, [], ◌∷◌, ◌++◌, length, map, take, drop, get_or, refl, sym, ap, ◌∙◌, subst, ◌^◌, ◌⊎◌, inl, inr, arith, append_assoc, append-nil, length-append}
 use Rattle.std.specs.Prelude.{min}
-use Rattle.std.specs.List.{AllByRecursion, AllZip, AppendsClones, flat_map}
-use Rattle.std.proofs.Math.Seq.{take-append_seam, take-append-add, drop-append_seam, drop-append-add}
+use Rattle.std.specs.List.{AllByRecursion, AllZip, AppendsClones}
+use Rattle.std.proofs.Math.Seq.{take-append-add, drop-append_seam, drop-append-add}
 use Rattle.std.proofs.lemmas.Grind.{flat_map-append}
-use Rattle.std.proofs.lemmas.List.{take_all, length-take, length-drop, length-map, drop-map, take-map, take-append-le, drop-append-le, map-append, take_min, drop_more}
+use Rattle.std.proofs.lemmas.List.{take_all, length-take, length-drop, length-map, drop-map, take-map, take-append-le, drop-append-le, map-append, drop_more}
 use Rattle.std.proofs.lemmas.Nat.{mul-le, div-add-mod', mod_below}
+use Rattle.std.proofs.lemmas.Bool.{cases_lt}
 use Rattle.disclosure_audit.specs.declared.entry.AuditEntry.{AuditEntry}
 use Rattle.disclosure_audit.specs.declared.entry.KeptBack.{KeptBack}
 use Rattle.disclosure_audit.specs.declared.entry.Note.{Note}
@@ -13,7 +14,7 @@ use Rattle.disclosure_audit.specs.declared.stretch.Stretch.{Stretch}
 use Rattle.disclosure_audit.specs.Noting.{noted_at, notes_of_stretch}
 use Rattle.disclosure_audit.specs.Queue.{stamp}
 use Rattle.disclosure_audit.specs.Stretching.{each_of, notes_in, notes_of, IsWithin, AreStretched}
-use Rattle.disclosure_audit.proofs.PartLaws.{taken_of_two, part_of_two}
+use Rattle.disclosure_audit.proofs.PartLaws.{part_of_two}
 
 pub length-stretch : (first n : ℕ) (each : List KeptBack) → length (notes_of_stretch first n each) ≡ n * length each
 length-stretch first zero each = omega arith
@@ -332,3 +333,43 @@ room_left out more f notes left taken capacity pushed room few =
 
 pub seen_there : (all seen : List KeptBack) (ss listed : List Stretch) (i : ℕ) (d : Stretch) → seen ≡ all → listed ≡ ss → notes_in seen (get_or listed i d) ≡ notes_in all (get_or ss i d)
 seen_there all seen ss listed i d same one = ap (λ (a : List KeptBack). notes_in a (get_or listed i d)) same ∙ ap (λ (l : List Stretch). notes_in all (get_or l i d)) one
+
+-- so many notes need no more than so many pieces of each record
+pub record IsEnough (most first count : ℕ) (each front : List KeptBack) : Type 0 where
+  pub some : 1 ≤ length front
+  pub there : most ≤ count * length front
+  pub same : take most (notes_of_stretch first count front) ≡ take most (notes_of_stretch first count each)
+
+pub front_of_each : (most first count n : ℕ) (each : List KeptBack) → 1 ≤ most → most ≤ count * length each → n ≡ min (length each) most → IsEnough most first count each (take n each)
+front_of_each most first count n each some there is = by (cases_lt most (length each)) where
+  one : (n : ℕ) → most ≤ n * length each → 1 ≤ n
+  one zero within = absurd (omega (arith, within, some))
+  one (suc n) within = omega arith
+
+  piece : (l : ℕ) → most ≤ count * l → 1 ≤ l
+  piece zero within = absurd (omega (arith, within, some))
+  piece (suc l) within = omega arith
+
+  few : (n : ℕ) → most < length each → take most (notes_of_stretch first n (take most each)) ≡ take most (notes_of_stretch first n each)
+  few zero less = refl
+  few (suc n) less =
+      take-append-le most (map (noted_at first) (take most each)) (notes_of_stretch (suc first) n (take most each)) (omega (arith, length-map (take most each) (noted_at first), length-take most each, less))
+      ∙ take_all most (map (noted_at first) (take most each)) (omega (arith, length-map (take most each) (noted_at first), length-take most each))
+      ∙ sym (take-map (noted_at first) most each)
+      ∙ sym (take-append-le most (map (noted_at first) each) (notes_of_stretch (suc first) n each) (omega (arith, length-map each (noted_at first), less)))
+
+  cut : most < length each → length (take most each) ≡ most
+  cut less = omega (arith, length-take most each, less)
+
+  by : (most < length each) ⊎ (length each ≤ most) → IsEnough most first count each (take n each)
+  by (inl less) =
+      let front : take most each ≡ take n each = ap (λ (k : ℕ). take k each) (omega (arith, less, is)) in
+      subst (λ (e : List KeptBack). IsEnough most first count each e) front
+      (record {
+        some = omega (arith, length-take most each, less, some);
+        there = omega (arith, mul-le 1 most count most (one count there) (omega arith), ap (λ (n : ℕ). count * n) (cut less));
+        same = few count less;
+      })
+  by (inr more) =
+      subst (λ (e : List KeptBack). IsEnough most first count each e) (sym (take_all n each (omega (arith, more, is))))
+      (record { some = piece (length each) there; there = there; same = refl })

@@ -60,7 +60,7 @@ impl Stretches {
         self.each.reserve(more)
     }
 
-    /// Adds the first `most` notes of a stretch behind the others.
+    /// Adds the first `most` notes of a stretch, one at least, behind the others.
     ///
     /// # Errors
     /// Want of memory, or more is kept back than can be numbered.
@@ -72,12 +72,14 @@ impl Stretches {
         most: usize,
     ) -> Result<(), AllocError>
         requires places { first + count ≤ 2 ^ 32 }
-        requires some { 1 ≤ length each.now }
+        requires some { 1 ≤ most }
         requires there { most ≤ count * length each.now }
         requires room { length self.old + most < 2 ^ 64 }
         ensures { OnOk result
             (self.new ≡ self.old ++ take most (notes_of_stretch first count each.now)) }
     {
+        // So many notes need no more of each record.
+        let each = &each[..each.len().min(most)];
         let from = self.each.len();
         if from.saturating_add(each.len()) > u32::MAX as usize {
             return Err(AllocError);

@@ -1,4 +1,4 @@
-use Rattle.std.proofs.Common.{◌≡◌, vec_capacity, sym, ap, arith}
+use Rattle.std.proofs.Common.{◌≡◌, vec_capacity, arith}
 use Rattle.disclosure_audit.proofs.QueueLaws.{chunk_copied, room_left}
 use Rattle.disclosure_audit.proofs.kept_queue.copy_oldest.Goals as goal
 

@@ -1,4 +1,4 @@
-use Rattle.std.proofs.Common.{◌≡◌, ◌∷◌, List, length, refl, ap, ◌∙◌, arith}
+use Rattle.std.proofs.Common.{List, length, refl, ap, ◌∙◌, arith}
 use Rattle.disclosure_audit.specs.declared.chunk.Chunk.{Chunk}
 use Rattle.disclosure_audit.proofs.QueueLaws.{chunk_dropped, part_dropped}
 use Rattle.disclosure_audit.proofs.kept_queue.drop_oldest.Goals as goal

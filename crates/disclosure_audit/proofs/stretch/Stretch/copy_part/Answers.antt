@@ -1,7 +1,7 @@
 use Rattle.std.proofs.Common.{◌-◌, ◌+◌, ◌++◌, map, take, drop, refl, sym, ap, ◌∙◌, arith}
 use Rattle.disclosure_audit.specs.Noting.{noted_at}
 use Rattle.disclosure_audit.specs.Queue.{stamp}
-use Rattle.disclosure_audit.proofs.StretchLaws.{each_long, some_each, copying_begins, record_copied, record_there}
+use Rattle.disclosure_audit.proofs.StretchLaws.{each_long, some_each, copying_begins, record_copied}
 use Rattle.disclosure_audit.proofs.stretch.Stretch.copy_part.Goals as goal
 
 pub nonzero_div-record : goal.nonzero_div-record

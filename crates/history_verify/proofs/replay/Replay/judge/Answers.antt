@@ -14,5 +14,5 @@ returns-clause-judged c = λ h session number octets s is.
     (c.in_ok-served.ensures h s.over.subscribers)
     (c.in_ok-shares.ensures.shares ∙ ap (shares_of c.header.result.domain c.args.self.now.in_force c.records-records.result.now) c.deref.ensures.value)
     (c.in_ok-shares.ensures.tallies ∙ ap (tallies_of c.header.result.domain c.args.self.now.in_force c.records-records.result.now) c.deref.ensures.value)
-    (c.in_ok-stamped.ensures ∙ ap (map (stamp c.args.self.now.position)) c.into_kept.ensures.kept
-    ∙ notes_wanted c.args.self.now.audit.wanted c.args.self.now.position c.most-most.result _ _ c.most-most.ensures (c.in_ok-shares.ensures.notes ∙ ap (λ l. kept_notes c.most-most.result (notes_of c.header.result.domain c.args.self.now.in_force c.records-records.result.now l)) c.deref.ensures.value) c.into_kept.ensures.few)
+    (c.in_ok-stamped.ensures ∙ ap (map (stamp c.args.self.now.position)) c.in_ok-notes.ensures.kept
+    ∙ notes_wanted c.args.self.now.audit.wanted c.args.self.now.position c.most-most.result _ _ c.most-most.ensures (c.in_ok-shares.ensures.notes ∙ ap (λ l. kept_notes c.most-most.result (notes_of c.header.result.domain c.args.self.now.in_force c.records-records.result.now l)) c.deref.ensures.value) c.in_ok-notes.ensures.few)
