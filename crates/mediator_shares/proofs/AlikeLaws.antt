@@ -24,6 +24,7 @@ use Rattle.mediator_tables.specs.declared.share.Share.{Share}
 use Rattle.mediator_tables.specs.SubscriptionTable.{shown}
 use Rattle.mediator_shares.specs.InForce.{InForce}
 use Rattle.mediator_shares.specs.Sharing.{outcome_by, given_by, share_of, shares_of}
+use Rattle.mediator_shares.specs.Deciding.{decision_for}
 use Rattle.mediator_shares.specs.Alike.{is_who, is_told_apart, AreJudgedAlike, IsLed, AreLed, LeadsUnnamed, IsGrouping}
 use Rattle.mediator_shares.proofs.SharingLaws.{as_share, more_served}
 
@@ -250,9 +251,6 @@ pub led_seen : {A B : Type 0} (g : A → B) (f : Served → B) (xs : List A) (ru
 led_seen g f xs rules leaders who place x other so all at = led_is f (map g xs) rules leaders who place (g x) (g other) so all (ap g at ∙ sym (get_or-map g xs place other))
 
 -- ---- what was decided for each leader
-
-abbrev pub decision_for : ℕ → InForce → DataRecord → Served → Decision
-decision_for domain f r who = decision_of (outcome_by domain f who.name.now r)
 
 pub deciding_step : (domain : ℕ) (f : InForce) (r : DataRecord) (ds ds2 : List Decision) (leaders : List Served) (k : ℕ) (who other : Served) (d : Decision) → ds ≡ map (decision_for domain f r) (take k leaders) → k < length leaders → who ≡ get_or leaders k other
     → d ≡ decision_for domain f r who → ds2 ≡ ds ++ d ∷ [] → ds2 ≡ map (decision_for domain f r) (take (k + 1) leaders)

@@ -4,3 +4,4 @@ pub mod KeyLaws
 pub mod JudgeLaws
 pub mod TermsLaws
 mod TotalLaws
+mod StretchLaws

@@ -1,11 +1,11 @@
 -- Shares that grow, one subscription after another and one record after another.
-use Rattle.std.proofs.Common.{◌≡◌, ℕ, zero, suc, ◌+◌, ◌<◌, false, Result, Ok, Err, List, [], ◌∷◌, ◌++◌, length, map, take, drop, sym, ap, ◌∙◌, subst, arith, refl, length-append, append_assoc, append-nil, ◌≤◌, Some}
+use Rattle.std.proofs.Common.{◌≡◌, ℕ, zero, suc, ◌+◌, ◌-◌, ◌<◌, false, Result, Ok, Err, List, [], ◌∷◌, ◌++◌, length, map, take, drop, sym, ap, ◌∙◌, subst, arith, refl, length-append, append_assoc, append-nil, ◌≤◌, Some}
 use Rattle.std.specs.Prelude.{◌==◌, get_or, set, OnOk}
 use Rattle.std.specs.List.{flat_map, enumerate_from}
 use Rattle.std.proofs.lemmas.List.{map-set, map-append, length-map, take_more, take_all, length-take-le}
 use Rattle.std.proofs.Math.ListN.{get_or-map, drop_of_length-le}
 use Rattle.std.proofs.lemmas.List.Concat.{flat_map-append, flat_map-cons}
-use Rattle.std.proofs.Math.Seq.{set-append_seam, get_or-append_seam, drop-cons}
+use Rattle.std.proofs.Math.Seq.{set-append_seam, get_or-append_seam, drop-cons, take-add}
 use Rattle.mediator_history.proofs.HistoryLaws.{flat_map-push}
 use Rattle.ipfix_template.specs.DataRecord.{DataRecord, kept_record}
 use Rattle.ipfix_records.specs.Runs.{RunOf, run_records, records_of_runs}
@@ -24,8 +24,9 @@ use Rattle.disclosure_audit.specs.declared.entry.RemovedField.{RemovedField}
 use Rattle.disclosure_audit.specs.declared.entry.What.TheVariants.{Removed}
 use Rattle.disclosure_audit.proofs.NotingLaws.{none_more, more_more, counted_more}
 use Rattle.mediator_tables.specs.Adding.{tallied}
-use Rattle.mediator_shares.specs.Adding.{HasAdded, progress_of, audience_of}
-use Rattle.mediator_shares.specs.Judges.{Judges, JudgeFor}
+use Rattle.ipfix_template.specs.declared.template.Template.{Template}
+use Rattle.mediator_shares.specs.Adding.{HasAdded, HasCounted, Counted, Audience, progress_of, counted_of, audience_of}
+use Rattle.mediator_shares.specs.Judges.{Judges}
 use Rattle.mediator_shares.specs.Sharing.{outcome_by, given_by, added_by, kept_by, kept_back_by, counts_by, blank, share_by, shares_of, tallies_of, note_of, notes_on, noted_of_each, notes_of}
 
 abbrev pub as_share : {X : Type 0} → ℕ → List X → ℕ × List X
@@ -68,12 +69,12 @@ pub on_ok_gives : {X E P Q : Type 0} (r : Result X E) → OnOk r P → (P → Q)
 on_ok_gives (Ok x) p f = f p
 on_ok_gives (Err e) p f = tt
 
--- ---- one record for one subscription after another
+-- ---- some records for one subscription after another
 
--- the shares of the subscriptions before a place have the record, and the others don't yet
-abbrev pub IsSharing : {X : Type 0} → (List ℕ → DataRecord → List X) → List (ℕ × List X) → List (ℕ × List X) → DataRecord → List Served → ℕ → Type 0
-IsSharing gives old new r served place = (done : List DataRecord) → old ≡ map (share_by gives done) served
-    → new ≡ map (share_by gives (done ++ r ∷ [])) (take place served) ++ map (share_by gives done) (drop place served)
+-- the shares of the subscriptions before a place have the records, and the others don't yet
+abbrev pub IsSharing : {X : Type 0} → (List ℕ → DataRecord → List X) → List (ℕ × List X) → List (ℕ × List X) → List DataRecord → List Served → ℕ → Type 0
+IsSharing gives old new rs served place = (done : List DataRecord) → old ≡ map (share_by gives done) served
+    → new ≡ map (share_by gives (done ++ rs)) (take place served) ++ map (share_by gives done) (drop place served)
 
 -- a share grows at a place, wherever the shares are split there
 abbrev pub GrowsAt : {X : Type 0} → List (ℕ × List X) → List (ℕ × List X) → ℕ → List X → Type 0
@@ -86,14 +87,14 @@ grows_nothing xs xs2 place same before after s split at = same ∙ split ∙ ap 
 one-more : (n : ℕ) → suc n ≡ n + 1
 one-more n = omega arith
 
-sharing_end : {X : Type 0} (gives : List ℕ → DataRecord → List X) (old new : List (ℕ × List X)) (r : DataRecord) (served : List Served) (place : ℕ)
-    → IsSharing gives old new r served place → length served ≤ place → (done : List DataRecord) → old ≡ map (share_by gives done) served
-    → new ≡ map (share_by gives (done ++ r ∷ [])) served
-sharing_end gives old new r served place so over done start =
+sharing_end : {X : Type 0} (gives : List ℕ → DataRecord → List X) (old new : List (ℕ × List X)) (rs : List DataRecord) (served : List Served) (place : ℕ)
+    → IsSharing gives old new rs served place → length served ≤ place → (done : List DataRecord) → old ≡ map (share_by gives done) served
+    → new ≡ map (share_by gives (done ++ rs)) served
+sharing_end gives old new rs served place so over done start =
     so done start
-    ∙ ap (λ l. map (share_by gives (done ++ r ∷ [])) l ++ map (share_by gives done) (drop place served)) (take_all place served over)
-    ∙ ap (λ l. map (share_by gives (done ++ r ∷ [])) served ++ map (share_by gives done) l) (drop_of_length-le served over)
-    ∙ append-nil (map (share_by gives (done ++ r ∷ [])) served)
+    ∙ ap (λ l. map (share_by gives (done ++ rs)) l ++ map (share_by gives done) (drop place served)) (take_all place served over)
+    ∙ ap (λ l. map (share_by gives (done ++ rs)) served ++ map (share_by gives done) l) (drop_of_length-le served over)
+    ∙ append-nil (map (share_by gives (done ++ rs)) served)
 
 pub more_served : (served : List Served) (place : ℕ) (who other : Served) → place < length served → who ≡ get_or served place other → take (place + 1) served ≡ take place served ++ who ∷ []
 more_served served place who other within at = take_more served place other within ∙ ap (λ x. take place served ++ x ∷ []) (sym at)
@@ -102,56 +103,57 @@ rest_served : (served : List Served) (place : ℕ) (who other : Served) → plac
 rest_served served place who other within at =
     drop-cons served place other within ∙ ap (λ x. x ∷ drop (suc place) served) (sym at) ∙ ap (λ n. who ∷ drop n served) (one-more place)
 
-sharing_step : {X : Type 0} (gives : List ℕ → DataRecord → List X) (old new new2 : List (ℕ × List X)) (r : DataRecord) (served : List Served) (place : ℕ) (who other : Served)
-    → IsSharing gives old new r served place → place < length served → who ≡ get_or served place other → GrowsAt new new2 place (gives who.name.now r)
-    → IsSharing gives old new2 r served (place + 1)
-sharing_step gives old new new2 r served place who other so within at adds done start =
-    let f1 = share_by gives (done ++ r ∷ []) in
+sharing_step : {X : Type 0} (gives : List ℕ → DataRecord → List X) (old new new2 : List (ℕ × List X)) (rs : List DataRecord) (served : List Served) (place : ℕ) (who other : Served)
+    → IsSharing gives old new rs served place → place < length served → who ≡ get_or served place other → GrowsAt new new2 place (flat_map (gives who.name.now) rs)
+    → IsSharing gives old new2 rs served (place + 1)
+sharing_step gives old new new2 rs served place who other so within at adds done start =
+    let f1 = share_by gives (done ++ rs) in
     let f0 = share_by gives done in
     let split : new ≡ map f1 (take place served) ++ f0 who ∷ map f0 (drop (place + 1) served) =
     so done start ∙ ap (λ l. map f1 (take place served) ++ map f0 l) (rest_served served place who other within at) in
     let counted : length (map f1 (take place served)) ≡ place = length-map (take place served) f1 ∙ length-take-le place served (omega arith) in
     adds (map f1 (take place served)) (map f0 (drop (place + 1) served)) (f0 who) split counted
-    ∙ ap (λ g. map f1 (take place served) ++ as_share who.sub g ∷ map f0 (drop (place + 1) served)) (sym (flat_map-push (gives who.name.now) done r))
+    ∙ ap (λ g. map f1 (take place served) ++ as_share who.sub g ∷ map f0 (drop (place + 1) served)) (sym (flat_map-append (gives who.name.now) done rs))
     ∙ sym (append_assoc (map f1 (take place served)) (f1 who ∷ []) (map f0 (drop (place + 1) served)))
     ∙ ap (λ l. l ++ map f0 (drop (place + 1) served)) (sym (map-append f1 (take place served) (who ∷ [])) ∙ ap (map f1) (sym (more_served served place who other within at)))
 
 -- the same of what is added for the subscriptions before a place, and what was noted of them
 pub record IsNoting (told tnew : List Tally) (before notes : KeptNotes) (domain : ℕ) (f : InForce) (index : ℕ) (r : DataRecord) (served : List Served) (place : ℕ) : Type 0 where
-  pub tallies : IsSharing (added_by domain f) (map tallied told) (map tallied tnew) r served place
+  pub tallies : IsSharing (added_by domain f) (map tallied told) (map tallied tnew) (r ∷ []) served place
   pub noting : notes ≡ and_more before (flat_map (notes_on domain f (index, r)) (take place served))
   pub stay : length tnew ≡ length served
 
 pub noting_start : (t : List Tally) (n : KeptNotes) (domain : ℕ) (f : InForce) (index : ℕ) (r : DataRecord) (served : List Served) → length t ≡ length served → IsNoting t t n n domain f index r served 0
 noting_start t n domain f index r served same = record { tallies = λ done start. start; noting = sym (none_more n); stay = same }
 
--- the same of what is given
-pub record IsGiving (old new : List (ℕ × List DataRecord)) (domain : ℕ) (f : InForce) (r : DataRecord) (served : List Served) (place : ℕ) : Type 0 where
-  pub shares : IsSharing (given_by domain f) old new r served place
+-- the same of what some records give
+pub record IsGiving (old new : List (ℕ × List DataRecord)) (domain : ℕ) (f : InForce) (rs : List DataRecord) (served : List Served) (place : ℕ) : Type 0 where
+  pub shares : IsSharing (given_by domain f) old new rs served place
   pub stay : length new ≡ length served
 
-pub giving_start : (s : List (ℕ × List DataRecord)) (domain : ℕ) (f : InForce) (r : DataRecord) (served : List Served) → length s ≡ length served → IsGiving s s domain f r served 0
-giving_start s domain f r served same = record { shares = λ done start. start; stay = same }
+pub giving_start : (s : List (ℕ × List DataRecord)) (domain : ℕ) (f : InForce) (rs : List DataRecord) (served : List Served) → length s ≡ length served → IsGiving s s domain f rs served 0
+giving_start s domain f rs served same = record { shares = λ done start. start; stay = same }
 
-pub giving_step : (old new new2 : List (ℕ × List DataRecord)) (domain : ℕ) (f : InForce) (r : DataRecord) (served : List Served) (place : ℕ) (who other : Served)
-    → IsGiving old new domain f r served place → place < length served → who ≡ get_or served place other
-    → GrowsAt new new2 place (outcome.passed (outcome_by domain f who.name.now r)) → length new2 ≡ length new → IsGiving old new2 domain f r served (place + 1)
-giving_step old new new2 domain f r served place who other so within at gives same = record {
-  shares = sharing_step (given_by domain f) old new new2 r served place who other so.shares within at gives;
+pub giving_step : (old new new2 : List (ℕ × List DataRecord)) (domain : ℕ) (f : InForce) (rs : List DataRecord) (served : List Served) (place : ℕ) (who other : Served)
+    → IsGiving old new domain f rs served place → place < length served → who ≡ get_or served place other
+    → GrowsAt new new2 place (flat_map (given_by domain f who.name.now) rs) → length new2 ≡ length new → IsGiving old new2 domain f rs served (place + 1)
+giving_step old new new2 domain f rs served place who other so within at gives same = record {
+  shares = sharing_step (given_by domain f) old new new2 rs served place who other so.shares within at gives;
   stay = same ∙ so.stay;
 }
 
--- all subscriptions have it
-pub added : (old new : Judges) (told tnew : List Tally) (before notes : KeptNotes) (domain : ℕ) (f : InForce) (index : ℕ) (r : DataRecord) (leaders served : List Served) (first place : ℕ)
-    → IsGiving old.shares new.shares domain f r leaders first → length leaders ≤ first → IsNoting told tnew before notes domain f index r served place → length served ≤ place
-    → JudgeFor new f domain (Some r.template) leaders → HasAdded (progress_of old told before) (progress_of new tnew notes) index r (audience_of domain f leaders served)
-added old new told tnew before notes domain f index r leaders served first place gives over notes_all over_too judges = record {
-  shares = sharing_end (given_by domain f) old.shares new.shares r leaders first gives.shares over;
-  tallies = sharing_end (added_by domain f) (map tallied told) (map tallied tnew) r served place notes_all.tallies over_too;
-  noting = notes_all.noting ∙ ap (λ l. and_more before (flat_map (notes_on domain f (index, r)) l)) (take_all place served over_too);
-  judges = judges;
-  stay = gives.stay;
-  stay_tallies = notes_all.stay;
+-- all have them
+pub given_all : (old new : List (ℕ × List DataRecord)) (domain : ℕ) (f : InForce) (rs : List DataRecord) (served : List Served) (place : ℕ) → IsGiving old new domain f rs served place → length served ≤ place
+    → (done : List DataRecord) → old ≡ shares_of domain f done served → new ≡ shares_of domain f (done ++ rs) served
+given_all old new domain f rs served place so over = sharing_end (given_by domain f) old new rs served place so.shares over
+
+-- all subscriptions have counted it
+pub counted_all : (told tnew : List Tally) (before notes : KeptNotes) (domain : ℕ) (f : InForce) (index : ℕ) (r : DataRecord) (leaders served : List Served) (place : ℕ)
+    → IsNoting told tnew before notes domain f index r served place → length served ≤ place → HasCounted (counted_of told before) (counted_of tnew notes) index (r ∷ []) (audience_of domain f leaders served)
+counted_all told tnew before notes domain f index r leaders served place so over = record {
+  tallies = sharing_end (added_by domain f) (map tallied told) (map tallied tnew) (r ∷ []) served place so.tallies over;
+  noting = so.noting ∙ ap (λ l. and_more before (flat_map (notes_on domain f (index, r)) l)) (take_all place served over) ∙ ap (and_more before) (sym (append-nil (noted_of_each domain f served (index, r))));
+  stay = so.stay;
 }
 
 counts_same : (aggregates : List Aggregate) (clock : ℕ) (r : DataRecord) (o : Outcome) → counts_by aggregates clock r (outcome.decision_of o) ≡ counts aggregates clock r o
@@ -177,8 +179,9 @@ pub noting_step : (told tnew tnew2 : List Tally) (before notes notes2 : KeptNote
     → length tnew2 ≡ length tnew → notes2 ≡ and_more notes (map (note_of index who.sub) (kept_back_by f.policy.aggregates f.clock r found))
     → IsNoting told tnew2 before notes2 domain f index r served (place + 1)
 noting_step told tnew tnew2 before notes notes2 domain f index r served place who other found so within at is tallies same notes_grow = record {
-  tallies = sharing_step (added_by domain f) (map tallied told) (map tallied tnew) (map tallied tnew2) r served place who other so.tallies within at
-      (λ b a s split l. tallies b a s split l ∙ ap (λ (d : Decision). b ++ grown s (map count_of (counts_by f.policy.aggregates f.clock r d)) ∷ a) is ∙ ap (λ c. b ++ grown s (map count_of c) ∷ a) (counts_same f.policy.aggregates f.clock r o));
+  tallies = sharing_step (added_by domain f) (map tallied told) (map tallied tnew) (map tallied tnew2) (r ∷ []) served place who other so.tallies within at
+      (λ b a s split l. tallies b a s split l ∙ ap (λ (d : Decision). b ++ grown s (map count_of (counts_by f.policy.aggregates f.clock r d)) ∷ a) is ∙ ap (λ c. b ++ grown s (map count_of c) ∷ a) (counts_same f.policy.aggregates f.clock r o)
+      ∙ ap (λ l. b ++ grown s l ∷ a) (sym (append-nil (added_by domain f who.name.now r))));
   noting = notes_grow ∙ ap (λ (d : Decision). and_more notes (map (note_of index who.sub) (kept_back_by f.policy.aggregates f.clock r d))) is ∙ ap (λ k. and_more notes (map (note_of index who.sub) k)) (kept_back_same f.policy.aggregates f.clock r o)
       ∙ ap (λ n. and_more n (map (note_of index who.sub) (kept_by domain f who.name.now r))) so.noting
       ∙ more_more before (flat_map (notes_on domain f (index, r)) (take place served)) (notes_on domain f (index, r) who)
@@ -200,50 +203,62 @@ enumerate-append n (x ∷ xs) ys = ap (λ t. (n, x) ∷ t) (enumerate-append (n 
   same : n + 1 + length xs ≡ n + suc (length xs)
   same = omega arith
 
+-- nothing is counted of no record
+pub counted_none : (t : List Tally) (n : KeptNotes) (index : ℕ) (to : Audience) → length t ≡ length to.served → HasCounted (counted_of t n) (counted_of t n) index [] to
+counted_none t n index to same = record {
+  tallies = λ done start. start ∙ ap (λ l. tallies_of to.domain to.in_force l to.served) (sym (append-nil done));
+  noting = sym (none_more n);
+  stay = same;
+}
+
+-- some records, and those behind them
+pub counted_both : (a b c : Counted) (index next : ℕ) (p q : List DataRecord) (to : Audience) → HasCounted a b index p to → HasCounted b c next q to → next ≡ index + length p → HasCounted a c index (p ++ q) to
+counted_both a b c index next p q to first second numbered =
+    let g = noted_of_each to.domain to.in_force to.served in record {
+      tallies = λ done start. second.tallies (done ++ p) (first.tallies done start) ∙ ap (λ l. tallies_of to.domain to.in_force l to.served) (append_assoc done p q);
+      noting = second.noting ∙ ap (λ l. and_more l (flat_map g (enumerate_from next q))) first.noting
+          ∙ more_more a.notes (flat_map g (enumerate_from index p)) (flat_map g (enumerate_from next q))
+          ∙ ap (and_more a.notes) (
+          ap (λ i. flat_map g (enumerate_from index p) ++ flat_map g (enumerate_from i q)) numbered
+          ∙ sym (flat_map-append g (enumerate_from index p) (enumerate_from (index + length p) q))
+          ∙ ap (flat_map g) (sym (enumerate-append index p q))
+          );
+      stay = second.stay;
+    }
+
 -- the shares of the first so many records of a run, the first of which has this index
 pub record IsRunning (old new : List (ℕ × List DataRecord)) (told tnew : List Tally) (before notes : KeptNotes) (domain : ℕ) (f : InForce) (first : ℕ) (rs : List DataRecord) (leaders served : List Served) (place : ℕ) : Type 0 where
   pub shares : (done : List DataRecord) → old ≡ shares_of domain f done leaders → new ≡ shares_of domain f (done ++ take place rs) leaders
-  pub tallies : (done : List DataRecord) → map tallied told ≡ tallies_of domain f done served → map tallied tnew ≡ tallies_of domain f (done ++ take place rs) served
-  pub noting : notes ≡ and_more before (flat_map (noted_of_each domain f served) (enumerate_from first (take place rs)))
+  pub counting : HasCounted (counted_of told before) (counted_of tnew notes) first (take place rs) (audience_of domain f leaders served)
   pub stay : length new ≡ length leaders
-  pub stay_tallies : length tnew ≡ length served
 
 pub running_start : (old new : List (ℕ × List DataRecord)) (t : List Tally) (n : KeptNotes) (domain : ℕ) (f : InForce) (first : ℕ) (rs : List DataRecord) (leaders served : List Served) → new ≡ old → length old ≡ length leaders → length t ≡ length served
     → IsRunning old new t t n n domain f first rs leaders served 0
 running_start old new t n domain f first rs leaders served is same same_too = record {
   shares = λ done start. is ∙ start ∙ ap (λ l. shares_of domain f l leaders) (sym (append-nil done));
-  tallies = λ done start. start ∙ ap (λ l. tallies_of domain f l served) (sym (append-nil done));
-  noting = sym (none_more n);
+  counting = counted_none t n first (audience_of domain f leaders served) same_too;
   stay = ap length is ∙ same;
-  stay_tallies = same_too;
 }
 
-pub running_step : (old : List (ℕ × List DataRecord)) (new new2 : Judges) (told tnew tnew2 : List Tally) (before notes notes2 : KeptNotes) (domain : ℕ) (f : InForce) (first index : ℕ) (rs : List DataRecord) (leaders served : List Served) (place : ℕ) (r other : DataRecord)
-    → IsRunning old new.shares told tnew before notes domain f first rs leaders served place → place < length rs → r ≡ get_or rs place other → index ≡ first + place
-    → HasAdded (progress_of new tnew notes) (progress_of new2 tnew2 notes2) index r (audience_of domain f leaders served)
-    → IsRunning old new2.shares told tnew2 before notes2 domain f first rs leaders served (place + 1)
-running_step old new new2 told tnew tnew2 before notes notes2 domain f first index rs leaders served place r other so within at numbered adds = record {
-  shares = λ done start. adds.shares (done ++ take place rs) (so.shares done start) ∙ ap (λ l. shares_of domain f l leaders) (longer done);
-  tallies = λ done start. adds.tallies (done ++ take place rs) (so.tallies done start) ∙ ap (λ l. tallies_of domain f l served) (longer done);
-  noting = adds.noting ∙ ap (λ l. and_more l (noted_of_each domain f served (index, r))) so.noting
-      ∙ more_more before (flat_map (noted_of_each domain f served) (enumerate_from first (take place rs))) (noted_of_each domain f served (index, r))
-      ∙ ap (λ l. and_more before l) (
-      ap (λ i. flat_map (noted_of_each domain f served) (enumerate_from first (take place rs)) ++ noted_of_each domain f served (i, r)) here
-      ∙ sym (flat_map-push (noted_of_each domain f served) (enumerate_from first (take place rs)) (first + length (take place rs), r))
-      ∙ ap (flat_map (noted_of_each domain f served)) (sym (enumerate-append first (take place rs) (r ∷ [])) ∙ ap (enumerate_from first) (sym more))
-      );
+pub running_step : (old : List (ℕ × List DataRecord)) (new new2 : Judges) (told tnew tnew2 : List Tally) (before notes notes2 : KeptNotes) (domain : ℕ) (f : InForce) (first : ℕ) (rs : List DataRecord) (leaders served : List Served) (from to : ℕ) (template : Template)
+    → IsRunning old new.shares told tnew before notes domain f first rs leaders served from → from ≤ to → to ≤ length rs
+    → HasAdded (progress_of new tnew notes) (progress_of new2 tnew2 notes2) (first + from) (take (to - from) (drop from rs)) template (audience_of domain f leaders served)
+    → IsRunning old new2.shares told tnew2 before notes2 domain f first rs leaders served to
+running_step old new new2 told tnew tnew2 before notes notes2 domain f first rs leaders served from to template so order within adds = record {
+  shares = λ done start. adds.shares (done ++ take from rs) (so.shares done start) ∙ ap (λ l. shares_of domain f l leaders) (append_assoc done (take from rs) part ∙ ap (λ l. done ++ l) (sym more));
+  counting = subst (λ l. HasCounted (counted_of told before) (counted_of tnew2 notes2) first l (audience_of domain f leaders served)) (sym more)
+      (counted_both (counted_of told before) (counted_of tnew notes) (counted_of tnew2 notes2) first (first + from) (take from rs) part (audience_of domain f leaders served) so.counting adds.counting here);
   stay = adds.stay;
-  stay_tallies = adds.stay_tallies;
 }
   where
-    more : take (place + 1) rs ≡ take place rs ++ r ∷ []
-    more = take_more rs place other within ∙ ap (λ x. take place rs ++ x ∷ []) (sym at)
+    part : List DataRecord
+    part = take (to - from) (drop from rs)
 
-    longer : (done : List DataRecord) → (done ++ take place rs) ++ r ∷ [] ≡ done ++ take (place + 1) rs
-    longer done = append_assoc done (take place rs) (r ∷ []) ∙ ap (λ l. done ++ l) (sym more)
+    more : take to rs ≡ take from rs ++ part
+    more = ap (λ n. take n rs) {x = to} {y = from + (to - from)} (omega (arith, order)) ∙ take-add from (to - from) rs
 
-    here : index ≡ first + length (take place rs)
-    here = omega (arith, numbered, length-take-le place rs (omega (arith, within)))
+    here : first + from ≡ first + length (take from rs)
+    here = omega (arith, length-take-le from rs (omega (arith, order, within)))
 
 -- the shares of all records of a run
 pub record HasRun (old new : List (ℕ × List DataRecord)) (told tnew : List Tally) (before notes : KeptNotes) (domain : ℕ) (f : InForce) (first : ℕ) (rs : List DataRecord) (leaders served : List Served) : Type 0 where
@@ -255,7 +270,7 @@ pub has_run : (old new : List (ℕ × List DataRecord)) (told tnew : List Tally)
     → IsRunning old new told tnew before notes domain f first rs leaders served place → length rs ≤ place → HasRun old new told tnew before notes domain f first rs leaders served
 has_run old new told tnew before notes domain f first rs leaders served place so over =
     let P : List DataRecord → Type 0 = λ l. HasRun old new told tnew before notes domain f first l leaders served in
-    subst P (take_all place rs over) (record { shares = so.shares; tallies = so.tallies; noting = so.noting })
+    subst P (take_all place rs over) (record { shares = so.shares; tallies = so.counting.tallies; noting = so.counting.noting })
 
 -- ---- one run after another
 

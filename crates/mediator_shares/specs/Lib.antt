@@ -13,6 +13,7 @@ pub mod Alike
 pub mod InForce
 pub mod Sharing
 pub mod Judges
+pub mod Deciding
 pub mod Adding
 pub mod Terms
 pub mod Judgements

@@ -1,16 +1,19 @@
-//! What becomes of each record of a message, for each subscription.
-ghost use Rattle.std.specs.Prelude.{◌≡◌, ◌<◌, ◌++◌, ◌∷◌, [], ℕ, List, Some, None, true, map, length, slice_get, IfOk, IfSome, OnOk};
+//! What becomes of the records of a message, for each subscription.
+ghost use Rattle.std.specs.Prelude.{◌≡◌, ◌<◌, ◌≤◌, ◌+◌, ◌++◌, ◌∷◌, [], ℕ, List, Some, None, true, map, length, slice_get, IsSome, IfOk, IfSome, OnOk};
+ghost use Rattle.std.specs.List.{flat_map};
 ghost use Rattle.std.specs.Arc.{arc_value};
 ghost use Rattle.ipfix_template.specs.DataRecord.{DataRecord};
 ghost use Rattle.rule_table.specs.Cuts.{HaveCuts};
-ghost use Rattle.flow_anonymize.specs.Outcome.{passed, decision_of};
+ghost use Rattle.flow_anonymize.specs.Outcome.{decision_of};
+ghost use Rattle.flow_anonymize.specs.Parts.{record_at, part_of};
 ghost use Rattle.flow_anonymize.specs.Classes.{classes_of};
-ghost use Rattle.flow_anonymize.specs.Plans.{PlansFor, outcome_for};
+ghost use Rattle.flow_anonymize.specs.Plans.{PlansFor, outcome_for, passed_for};
 ghost use Rattle.mediator_tables.specs.SubscriptionTable.{shown};
 
+use crate::deciding::Room;
 use flow_anonymize::{Disclosure, Plans, RecordClasses};
 use ipfix_records::Run;
-use ipfix_template::{RecordView, Template};
+use ipfix_template::Template;
 use mediator_tables::{Served, Share};
 use rule_table::{AddressClasses, AddressPlaces, RecentClasses, RuleTable};
 use std::alloc::{AllocError, Global};
@@ -37,8 +40,8 @@ pub(crate) struct Judges {
     /// Where the addresses stand in the records that come.
     places: Option<AddressPlaces>,
     judges: Vec<Judge>,
-    /// Room for what is decided of a record for each subscription. It is empty.
-    decided: Vec<Disclosure<()>>,
+    /// Room for what is decided of records. It is empty.
+    room: Room,
 }
 
 impl Model for Judges {
@@ -80,7 +83,7 @@ impl Judges {
             domain,
             places: None,
             judges: Vec::new(alloc),
-            decided: Vec::new(alloc),
+            room: Room::new(alloc),
         }
     }
 
@@ -133,20 +136,59 @@ impl Judges {
         }
     }
 
-    /// The classes of the addresses of `flow_record`, for whose template they are ready.
-    pub(crate) fn classes_of(&mut self, flow_record: &RecordView<'_>) -> Option<RecordClasses>
-        requires { self.old.template ≡ Some flow_record.now.template }
-        ensures value { result ≡ classes_of self.old.cuts flow_record.now }
+    /// The classes of the addresses of the record at `place` in `run`, for whose template they are ready; or `None` where
+    /// none stands there.
+    pub(crate) fn classes_at(&mut self, run: &Run, place: usize) -> Option<RecordClasses>
+        requires { self.old.template ≡ Some run.now.template }
+        ensures value { place < length run.now.texts
+            → result ≡ classes_of self.old.cuts (record_at run.now place) }
+        ensures over { length run.now.texts ≤ place → result ≡ None }
         ensures unchanged { self.new ≡ self.old }
     {
+        if place >= run.len() {
+            return None;
+        }
         match &self.places {
-            Some(places) => RecordClasses::at(&mut self.classes, places, flow_record),
+            Some(places) => RecordClasses::at(&mut self.classes, places, &run.view(place)),
             None => unreachable!(),
         }
     }
 
-    /// Judges `flow_record`, of whose addresses `classes` are the classes, for the subscription at `place`, which there
-    /// is. It gives the subscription what passes, in memory from `alloc`, and answers what became of the record.
+    /// How far the record at `from` in `run`, of whose addresses `classes` are the classes, and those behind it go on
+    /// with the same classes: the place behind the last of them, and the classes of the record there. A record without
+    /// classes is taken for different from each other one.
+    pub(crate) fn stretch(
+        &mut self,
+        run: &Run,
+        from: usize,
+        classes: Option<RecordClasses>,
+    ) -> (usize, Option<RecordClasses>)
+        requires template { self.old.template ≡ Some run.now.template }
+        requires there { from < length run.now.texts }
+        requires classes { classes ≡ classes_of self.old.cuts (record_at run.now from) }
+        ensures some { from < result.0 }
+        ensures within { result.0 ≤ length run.now.texts }
+        ensures alike { (i : ℕ) → from ≤ i → i < result.0
+            → classes ≡ classes_of self.old.cuts (record_at run.now i) }
+        ensures alone { classes ≡ None → result.0 ≡ from + 1 }
+        ensures next { result.0 < length run.now.texts
+            → result.1 ≡ classes_of self.old.cuts (record_at run.now result.0) }
+        ensures unchanged { self.new ≡ self.old }
+    {
+        // A place behind a record's is a number of this type.
+        let _for_proof = run.len();
+        let mut to = from + 1;
+        let mut next = self.classes_at(run, to);
+        'records: while are_same(classes, next) {
+            to += 1;
+            next = self.classes_at(run, to);
+        }
+        (to, next)
+    }
+
+    /// Judges the records of `run` from the place `from` on that stand before `to`, of which there is one at least, and
+    /// of each of which `classes` are the classes, for the subscription at `place`, which there is. It gives the
+    /// subscription what passes, in memory from `alloc`, and answers what became of each of the records.
     ///
     /// # Errors
     /// Want of memory.
@@ -155,23 +197,29 @@ impl Judges {
         alloc: Global,
         place: usize,
         classes: Option<RecordClasses>,
-        flow_record: &RecordView<'_>,
+        run: &Run,
+        from: usize,
+        to: usize,
     ) -> Result<Disclosure<()>, AllocError>
         requires there { place < length self.old.fors }
         requires template { (p : PlansFor) → slice_get self.old.fors place ≡ Some p
-            → p.template ≡ Some flow_record.now.template }
+            → p.template ≡ Some run.now.template }
         requires cuts { (p : PlansFor) → slice_get self.old.fors place ≡ Some p
             → p.cuts ≡ self.old.cuts }
-        requires classes { classes ≡ classes_of self.old.cuts flow_record.now }
-        // It is told what became of the record, and what passes is given to that subscription alone.
-        ensures decision { (p : PlansFor) → slice_get self.old.fors place ≡ Some p
-            → IfOk result
-            (λ d. d ≡ decision_of (outcome_for p flow_record.now)) }
+        requires some { from < to }
+        requires within { to ≤ length run.now.texts }
+        requires classes { (i : ℕ) → from ≤ i → i < to
+            → classes ≡ classes_of self.old.cuts (record_at run.now i) }
+        requires alone { classes ≡ None → to ≡ from + 1 }
+        // It is told what became of each record, and what passes is given to that subscription alone.
+        ensures decision { (p : PlansFor) (i : ℕ) → slice_get self.old.fors place ≡ Some p
+            → from ≤ i → i < to
+            → IfOk result (λ d. d ≡ decision_of (outcome_for p (record_at run.now i))) }
         ensures given { (p : PlansFor) (before after : List (ℕ × List DataRecord))
             (s : ℕ × List DataRecord) → slice_get self.old.fors place ≡ Some p
             → self.old.shares ≡ before ++ s ∷ after
-            → length before ≡ place → OnOk result (self.new.shares
-            ≡ before ++ (s.0, s.1 ++ passed (outcome_for p flow_record.now)) ∷ after) }
+            → length before ≡ place → OnOk result (self.new.shares ≡ before
+            ++ (s.0, s.1 ++ flat_map (passed_for p) (part_of from to run.now)) ∷ after) }
         // What decides stays.
         ensures fors { self.new.fors ≡ self.old.fors }
         ensures template { self.new.template ≡ self.old.template }
@@ -180,22 +228,22 @@ impl Judges {
     {
         self.judges[place]
             .plans
-            .disclose(alloc, classes, flow_record)
+            .disclose(alloc, classes, run, from, to)
     }
 
-    /// Lends the room for what is decided of a record for each subscription.
-    pub(crate) fn lend_decided(&mut self, alloc: Global) -> Vec<Disclosure<()>>
+    /// Lends the room for what is decided of records.
+    pub(crate) fn lend_room(&mut self, alloc: Global) -> Room
         ensures { self.new ≡ self.old }
     {
-        mem::replace(&mut self.decided, Vec::new(alloc))
+        mem::replace(&mut self.room, Room::new(alloc))
     }
 
-    /// Keeps the room of `decided` for what is decided later.
-    pub(crate) fn keep_decided(&mut self, mut decided: Vec<Disclosure<()>>)
+    /// Keeps `room` for what is decided later.
+    pub(crate) fn keep_room(&mut self, mut room: Room)
         ensures { self.new ≡ self.old }
     {
-        decided.clear();
-        self.decided = decided;
+        room.clear();
+        self.room = room;
     }
 
     /// For how many subscriptions they judge.
@@ -252,6 +300,19 @@ pub(crate) fn place_for(
         }
     }
     None
+}
+
+/// Whether there are classes, and both are the same.
+fn are_same(one: Option<RecordClasses>, other: Option<RecordClasses>) -> bool
+    ensures same { result ≡ true → other ≡ one }
+    ensures some { result ≡ true → IsSome other }
+{
+    match (one, other) {
+        (Some(one), Some(other)) => {
+            one.sources == other.sources && one.destinations == other.destinations
+        }
+        _ => false,
+    }
 }
 
 /// Makes each of `judges` ready for records of the template `template`.

@@ -4,7 +4,8 @@
 //! - `in_force`: [`InForce`], the policy in force and the time of the clock, with what was worked out for the last messages.
 //! - `revision`: a policy, with what is worked out of it once.
 //! - `alike`: subscriptions that no rule tells apart.
-//! - `judges`: what becomes of a record, for each subscription.
+//! - `judges`: what becomes of records side by side that have the same classes, for each subscription; `deciding`: what is
+//!   decided of them, and what is kept back of each alike.
 //! - `shares`: [`Shares`], what each subscription is given (a [`Share`](mediator_tables::Share)), what is added to its
 //!   aggregates ([`Tally`](mediator_tables::Tally)), and what the audit notes ([`Notes`]).
 //! - `terms`: [`Terms`], what decides for all that are served, as it stood; threads judge by it elsewhere.
@@ -22,6 +23,7 @@
 
 mod alike;
 mod counts;
+mod deciding;
 mod in_force;
 mod judgement;
 mod judges;

@@ -5,7 +5,10 @@ ghost use Rattle.ipfix_template.specs.DataRecord.{DataRecord};
 ghost use Rattle.ipfix_records.specs.Runs.{run_records, records_of_runs};
 ghost use Rattle.flow_aggregate.specs.Counts.{Count as OneCount, count_of};
 ghost use Rattle.mediator_history.specs.Auditing.{removed_of, told_of};
-ghost use Rattle.mediator_shares.specs.Adding.{HasAdded, progress_of, audience_of};
+ghost use Rattle.flow_anonymize.specs.Classes.{classes_of};
+ghost use Rattle.flow_anonymize.specs.Parts.{record_at, part_of};
+ghost use Rattle.mediator_shares.specs.Adding.{HasAdded, HasCounted, progress_of, counted_of, audience_of};
+ghost use Rattle.mediator_shares.specs.Deciding.{decision_for};
 ghost use Rattle.mediator_shares.specs.Alike.{AreLed};
 ghost use Rattle.mediator_shares.specs.InForce.{InForce as WhatIsInForce, count_by, timing_by, as_list};
 ghost use Rattle.mediator_shares.specs.Judges.{JudgeFor, JudgesAny};
@@ -17,11 +20,12 @@ ghost use Rattle.disclosure_audit.specs.Noting.{kept_notes, and_more};
 ghost use Rattle.disclosure_audit.specs.declared.entry.What.TheVariants.{Withheld};
 
 use crate::alike::groups_of;
+use crate::deciding::{Room, decide, keep_back};
 use crate::in_force::InForce;
 use crate::judges::Judges;
 use disclosure_audit::{Note, Notes, Reason, RemovedFields, What};
 use flow_aggregate::{Count, Timing};
-use flow_anonymize::Disclosure;
+use flow_anonymize::{Disclosure, RecordClasses};
 use ipfix_records::{Records, Run};
 use ipfix_template::RecordView;
 use mediator_tables::{Served, Share, Tally};
@@ -70,7 +74,7 @@ impl Shares {
         let (leaders, places) = (groups.leaders.as_slice(), groups.places.as_slice());
         let runs = records.runs();
         let mut judges = in_force.judges(alloc, domain, runs, leaders)?;
-        let mut sums = Sums::of_none(alloc, served, most, judges.lend_decided(alloc))?;
+        let mut sums = Sums::of_none(alloc, served, most, judges.lend_room(alloc))?;
         sums.add_runs(
             alloc,
             in_force,
@@ -85,9 +89,9 @@ impl Shares {
         let Sums {
             tallies,
             notes,
-            decided,
+            room,
         } = sums;
-        judges.keep_decided(decided);
+        judges.keep_room(room);
         in_force.keep(judges);
         let shares = if groups.has_led {
             spread(alloc, &given, places, served)?
@@ -102,19 +106,20 @@ impl Shares {
     }
 }
 
+/// The most records side by side that are noted at once. No memory holds as many.
+const MOST_AT_ONCE: usize = u32::MAX as usize;
+
 /// What is added to the aggregates of each subscription, in their order, and what is kept back from them.
 #[derive(Drop)]
 pub(crate) struct Sums {
     tallies: Vec<Tally>,
     notes: Notes,
-    /// What was decided of a record for each leader. The list is kept from one record to the next, and by the judges
-    /// from one message to the next.
-    decided: Vec<Disclosure<()>>,
+    room: Room,
 }
 
 impl Sums {
     /// That of no record, for each of the subscriptions `served`, with at most `most` notes to be kept, in memory from
-    /// `alloc`. What is decided of a record is put in the room of `decided`.
+    /// `alloc`. What is decided of records is put into `room`.
     ///
     /// # Errors
     /// Want of memory.
@@ -122,7 +127,7 @@ impl Sums {
         alloc: Global,
         served: &[Served<'_>],
         most: u64,
-        decided: Vec<Disclosure<()>>,
+        room: Room,
     ) -> Result<Sums, AllocError>
         ensures tallies { IfOk result (λ s. map tallied s.tallies.items ≡ map blank served.now) }
         ensures notes { IfOk result (λ s. s.notes ≡ kept_notes most []) }
@@ -137,7 +142,7 @@ impl Sums {
         Ok(Sums {
             tallies,
             notes: Notes::new(alloc, most),
-            decided,
+            room,
         })
     }
 
@@ -223,17 +228,163 @@ impl Sums {
         ensures stay_tallies { OnOk result (length self.new.tallies.items ≡ length served.now) }
     {
         judges.begin(alloc, run.shared_template())?;
-        self.notes.reserve(run.len())?;
-        'records: for place in 0..run.len() {
-            let flow_record = run.view(place);
+        let mut from = 0;
+        let mut classes = judges.classes_at(run, 0);
+        'stretches: while from < run.len() {
+            let (to, next) = judges.stretch(run, from, classes);
+            self.add_stretch(
+                alloc, in_force, judges, domain, before, classes, run, from, to, leaders, places,
+                served,
+            )?;
+            from = to;
+            classes = next;
+        }
+        Ok(())
+    }
+
+    /// Judges the records of `run` from the place `from` on that stand before `to`, of which there is one at least, and of
+    /// each of which `classes` are the classes, as [`add_runs`](Sums::add_runs) does. The message has `before` records
+    /// before those of the run.
+    ///
+    /// # Errors
+    /// Want of memory.
+    fn add_stretch(
+        &mut self,
+        alloc: Global,
+        in_force: &InForce,
+        judges: &mut Judges,
+        domain: u32,
+        before: usize,
+        classes: Option<RecordClasses>,
+        run: &Run,
+        from: usize,
+        to: usize,
+        leaders: &[Served<'_>],
+        places: &[usize],
+        served: &[Served<'_>],
+    ) -> Result<(), AllocError>
+        requires few { before + length run.now.texts ≤ 2 ^ 32 }
+        requires led { AreLed in_force.now.policy.rules leaders.now served.now places.now }
+        requires judges { JudgeFor judges.old in_force.now domain
+            (Some run.now.template) leaders.now }
+        requires each { length judges.old.shares ≡ length leaders.now }
+        requires each_tally { length self.old.tallies.items ≡ length served.now }
+        requires some { from < to }
+        requires within { to ≤ length run.now.texts }
+        requires classes { (i : ℕ) → from ≤ i → i < to
+            → classes ≡ classes_of judges.old.cuts (record_at run.now i) }
+        requires alone { classes ≡ None → to ≡ from + 1 }
+        ensures { OnOk result (HasAdded
+            (progress_of judges.old self.old.tallies.items self.old.notes)
+            (progress_of judges.new self.new.tallies.items self.new.notes)
+            (before + from) (part_of from to run.now) run.now.template
+            (audience_of domain in_force.now leaders.now served.now)) }
+    {
+        let mut room = mem::replace(&mut self.room, Room::new(alloc));
+        let decided = &mut room.decided;
+        decide(
+            alloc, in_force, judges, domain, classes, run, from, to, leaders, decided,
+        )?;
+        self.count_stretch(
+            alloc, in_force, domain, before, run, from, to, &mut room, leaders, places, served,
+        )?;
+        self.room = room;
+        Ok(())
+    }
+
+    /// Adds what was decided of the records of `run` from the place `from` on that stand before `to`, of which there is
+    /// one at least, for each of `served`: `room` has what was decided of each of them for each leader. What is kept back
+    /// of all alike is noted once.
+    ///
+    /// # Errors
+    /// Want of memory.
+    fn count_stretch(
+        &mut self,
+        alloc: Global,
+        in_force: &InForce,
+        domain: u32,
+        before: usize,
+        run: &Run,
+        from: usize,
+        to: usize,
+        room: &mut Room,
+        leaders: &[Served<'_>],
+        places: &[usize],
+        served: &[Served<'_>],
+    ) -> Result<(), AllocError>
+        requires few { before + length run.now.texts ≤ 2 ^ 32 }
+        requires led { AreLed in_force.now.policy.rules leaders.now served.now places.now }
+        requires each_tally { length self.old.tallies.items ≡ length served.now }
+        requires some { from < to }
+        requires within { to ≤ length run.now.texts }
+        requires decided { (i : ℕ) → from ≤ i → i < to → room.old.decided.items
+            ≡ map (decision_for domain in_force.now (record_at run.now i)) leaders.now }
+        ensures { OnOk result (HasCounted
+            (counted_of self.old.tallies.items self.old.notes)
+            (counted_of self.new.tallies.items self.new.notes)
+            (before + from) (part_of from to run.now)
+            (audience_of domain in_force.now leaders.now served.now)) }
+    {
+        let (decided, kept) = (&room.decided, &mut room.kept);
+        if to - from > MOST_AT_ONCE {
+            return self.add_each(
+                alloc, in_force, domain, before, run, from, to, decided, leaders, places, served,
+            );
+        }
+        if keep_back(
+            in_force, domain, run, from, to, decided, leaders, places, served, kept,
+        )? {
+            let count = (to - from) as u32;
+            let index = (before + from) as u32;
+            self.notes.push_stretch(index, count, kept)
+        } else {
+            self.add_each(
+                alloc, in_force, domain, before, run, from, to, decided, leaders, places, served,
+            )
+        }
+    }
+
+    /// Adds the records of `run` from the place `from` on that stand before `to`, one after another, for each of `served`:
+    /// `decided` is what was decided of each of them for each leader.
+    ///
+    /// # Errors
+    /// Want of memory.
+    fn add_each(
+        &mut self,
+        alloc: Global,
+        in_force: &InForce,
+        domain: u32,
+        before: usize,
+        run: &Run,
+        from: usize,
+        to: usize,
+        decided: &Vec<Disclosure<()>>,
+        leaders: &[Served<'_>],
+        places: &[usize],
+        served: &[Served<'_>],
+    ) -> Result<(), AllocError>
+        requires few { before + length run.now.texts ≤ 2 ^ 32 }
+        requires led { AreLed in_force.now.policy.rules leaders.now served.now places.now }
+        requires each_tally { length self.old.tallies.items ≡ length served.now }
+        requires some { from < to }
+        requires within { to ≤ length run.now.texts }
+        requires decided { (i : ℕ) → from ≤ i → i < to → decided.now.items
+            ≡ map (decision_for domain in_force.now (record_at run.now i)) leaders.now }
+        ensures { OnOk result (HasCounted
+            (counted_of self.old.tallies.items self.old.notes)
+            (counted_of self.new.tallies.items self.new.notes)
+            (before + from) (part_of from to run.now)
+            (audience_of domain in_force.now leaders.now served.now)) }
+    {
+        'records: for place in from..to {
             let index = (before + place) as u32;
             self.add_record(
                 alloc,
                 in_force,
-                judges,
                 domain,
                 index,
-                &flow_record,
+                &run.view(place),
+                decided,
                 leaders,
                 places,
                 served,
@@ -242,8 +393,8 @@ impl Sums {
         Ok(())
     }
 
-    /// Judges the record `flow_record`, which stands at `index` in its message, counted from 0, for each of the
-    /// subscriptions `leaders`, and adds what is decided for each of `served`, as [`add_runs`](Sums::add_runs) does.
+    /// Adds what `decided` says of the record `flow_record`, which stands at `index` in its message, counted from 0, for
+    /// each leader, for each of `served`.
     ///
     /// # Errors
     /// Want of memory.
@@ -251,36 +402,28 @@ impl Sums {
         &mut self,
         alloc: Global,
         in_force: &InForce,
-        judges: &mut Judges,
         domain: u32,
         index: u32,
         flow_record: &RecordView<'_>,
+        decided: &Vec<Disclosure<()>>,
         leaders: &[Served<'_>],
         places: &[usize],
         served: &[Served<'_>],
     ) -> Result<(), AllocError>
         requires led { AreLed in_force.now.policy.rules leaders.now served.now places.now }
-        requires judges { JudgeFor judges.old in_force.now domain
-            (Some flow_record.now.template) leaders.now }
-        requires each { length judges.old.shares ≡ length leaders.now }
         requires each_tally { length self.old.tallies.items ≡ length served.now }
-        ensures { OnOk result (HasAdded
-            (progress_of judges.old self.old.tallies.items self.old.notes)
-            (progress_of judges.new self.new.tallies.items self.new.notes)
-            index flow_record.now (audience_of domain in_force.now leaders.now served.now)) }
+        requires decided { decided.now.items
+            ≡ map (decision_for domain in_force.now flow_record.now) leaders.now }
+        ensures { OnOk result (HasCounted
+            (counted_of self.old.tallies.items self.old.notes)
+            (counted_of self.new.tallies.items self.new.notes)
+            index (flow_record.now ∷ [])
+            (audience_of domain in_force.now leaders.now served.now)) }
     {
-        let classes = judges.classes_of(flow_record);
-        let mut decided = mem::replace(&mut self.decided, Vec::new(alloc));
-        decided.clear();
-        'leaders: for place in 0..leaders.len() {
-            let found = judges.disclose(alloc, place, classes, flow_record)?;
-            decided.push(found)?;
-        }
         'served: for (place, who) in served.iter().enumerate() {
             let found = &decided[places[place]];
             self.add(alloc, place, index, who.sub, in_force, flow_record, found)?;
         }
-        self.decided = decided;
         Ok(())
     }
 

@@ -89,7 +89,10 @@ fn notes_that_are_kept(rt: HostRuntime) -> Result<(), Fail> {
     for most in 0..4_u64 {
         let found = shared(rt.alloc(), most)?;
         assert_eq!(rt; found.notes.count(), 2);
-        assert_eq!(rt; found.notes.into_kept(rt.alloc())?.len() as u64, most.min(2));
+        assert_eq!(rt;
+            found.notes.into_kept(rt.alloc())?.len() as u64,
+            most.min(2)
+        );
     }
     Ok(())
 }

@@ -1,4 +1,4 @@
-use Rattle.std.proofs.Common.{List, [], None, ℕ, take, refl, sym, ap, subst, ◌∙◌, arith}
+use Rattle.std.proofs.Common.{List, [], None, take, refl, sym, subst, ◌∙◌, arith}
 use Rattle.std.proofs.lemmas.List.{take_all}
 use Rattle.mediator_tables.specs.declared.served.Served.{Served}
 use Rattle.mediator_shares.specs.Alike.{AreLed, IsGrouping}

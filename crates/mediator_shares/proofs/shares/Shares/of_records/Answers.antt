@@ -3,14 +3,16 @@ use Rattle.ipfix_records.specs.Runs.{records_of_runs}
 use Rattle.mediator_tables.specs.SubscriptionTable.{shown}
 use Rattle.mediator_shares.specs.InForce.{InForce}
 use Rattle.mediator_shares.specs.Alike.{AreLed}
-use Rattle.mediator_shares.specs.Sharing.{shares_of}
+use Rattle.disclosure_audit.specs.Noting.{and_more}
+use Rattle.disclosure_audit.proofs.NotingLaws.{kept_from_none}
+use Rattle.mediator_shares.specs.Sharing.{shares_of, notes_of}
 use Rattle.mediator_shares.proofs.JudgeLaws.{judges_ready}
 use Rattle.mediator_shares.proofs.AlikeLaws.{given_each, led_many, led_within, led_is_written}
 use Rattle.mediator_shares.proofs.shares.Shares.of_records.Goals.{then-groups+in_ok-shares, else-groups}
 use Rattle.mediator_shares.proofs.shares.Shares.of_records.Goals as goal
 
 pub keep-requires : goal.keep-requires
-keep-requires c = judges_ready c.add_runs.new.judges c.keep_decided.new.self c.judges.new.self c.args.domain c.as_slice-leaders.result.now c.in_ok-add_runs.ensures.judges (c.keep_decided.ensures ∙ c.in_ok-given.ensures.taken)
+keep-requires c = judges_ready c.add_runs.new.judges c.keep_room.new.self c.judges.new.self c.args.domain c.as_slice-leaders.result.now c.in_ok-add_runs.ensures.judges (c.keep_room.ensures ∙ c.in_ok-given.ensures.taken)
 
 pub spread-requires-clause-each : goal.spread-requires-clause-each
 spread-requires-clause-each c =
@@ -42,3 +44,13 @@ returns-clause-shares c =
     to_all
     ∙ ap (λ (x : InForce). shares_of c.args.domain x records c.args.served.now) stays
     ∙ ap (λ rs. shares_of c.args.domain c.args.in_force.now rs c.args.served.now) c.runs-runs.ensures.value
+
+pub returns-clause-notes : goal.returns-clause-notes
+returns-clause-notes c =
+    let stays = c.in_ok-judges.ensures.unchanged in
+    let records = records_of_runs c.runs-runs.result.now in
+    let begun = c.in_ok-sums.sums.notes in
+    kept_from_none c.args.most (notes_of c.args.domain c.args.in_force.now c.args.records.now c.args.served.now) begun c.add_runs.new.self.notes c.in_ok-sums.ensures.notes
+    (c.in_ok-add_runs.ensures.notes
+    ∙ ap (λ (x : InForce). and_more begun (notes_of c.args.domain x records c.args.served.now)) stays
+    ∙ ap (λ rs. and_more begun (notes_of c.args.domain c.args.in_force.now rs c.args.served.now)) c.runs-runs.ensures.value)
