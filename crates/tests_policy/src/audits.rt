@@ -1,5 +1,5 @@
 //! What the entries of an audit print as.
-use disclosure_audit::{AuditEntry, Reason, RemovedField, RemovedFields, What, line};
+use disclosure_audit::{AuditEntry, Reason, RemovedField, RemovedFields, What, line, put_lines};
 use std::alloc::{AllocError, Global};
 use std::test::Fail;
 
@@ -80,24 +80,70 @@ fn what_of(alloc: Global, kept: &Kept) -> Result<What, AllocError> {
     })
 }
 
-/// The line of an entry with this position, index and subscription.
-fn line_of(alloc: Global, place: (u64, u32, u64), kept: &Kept) -> Result<String, AllocError> {
+/// The entry with this position, index and subscription.
+fn entry_of(alloc: Global, place: (u64, u32, u64), kept: &Kept) -> Result<AuditEntry, AllocError> {
     let (position, index, sub) = place;
     let what = what_of(alloc, kept)?;
-    let entry = AuditEntry {
+    Ok(AuditEntry {
         position,
         index,
         sub,
         what,
-    };
-    line(alloc, &entry)
+    })
 }
 
 #[test]
 fn audit_lines(rt: HostRuntime) -> Result<(), Fail> {
     for (place, kept, due) in &LINES {
-        let text = line_of(rt.alloc(), *place, kept)?;
+        let text = line(rt.alloc(), &entry_of(rt.alloc(), *place, kept)?)?;
         assert!(rt; text.as_str() == *due, "{due}");
     }
+    Ok(())
+}
+
+/// Entries as records side by side leave them, of a message and of the next one, with their lines.
+static NEIGHBOURS: [((u64, u32, u64), Kept, &str); 7] = [
+    (
+        (7, 8, 3),
+        Kept::Removed(&[RemovedField { place: 2, rule: 4 }]),
+        "7 8 3 removed 2:4\n",
+    ),
+    (
+        (7, 9, 3),
+        Kept::Removed(&[RemovedField { place: 2, rule: 4 }]),
+        "7 9 3 removed 2:4\n",
+    ),
+    (
+        (7, 10, 3),
+        Kept::Withheld(0, Reason::Rule),
+        "7 10 3 withheld 0 rule\n",
+    ),
+    (
+        (7, 11, 3),
+        Kept::Removed(&[RemovedField { place: 2, rule: 4 }]),
+        "7 11 3 removed 2:4\n",
+    ),
+    (
+        (7, 11, 4),
+        Kept::Removed(&[RemovedField { place: 2, rule: 5 }]),
+        "7 11 4 removed 2:5\n",
+    ),
+    ((7, 112, 4), Kept::Cut, "7 112 4 cut\n"),
+    ((17, 112, 4), Kept::Cut, "17 112 4 cut\n"),
+];
+
+/// What a line shares with those before it stands in it all the same.
+#[test]
+fn lines_of_neighbours(rt: HostRuntime) -> Result<(), Fail> {
+    let alloc = rt.alloc();
+    let mut entries = Vec::new(alloc);
+    let mut due = Vec::new(alloc);
+    for (place, kept, line) in &NEIGHBOURS {
+        entries.push(entry_of(alloc, *place, kept)?)?;
+        due.extend_from_slice(line.as_bytes())?;
+    }
+    let mut text = Vec::new(alloc);
+    put_lines(alloc, &mut text, &entries)?;
+    assert_eq!(rt; text.as_slice(), due.as_slice());
     Ok(())
 }
