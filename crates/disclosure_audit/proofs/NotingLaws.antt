@@ -6,7 +6,7 @@ use Rattle.disclosure_audit.specs.declared.entry.Note.{Note}
 use Rattle.disclosure_audit.specs.declared.entry.KeptBack.{KeptBack}
 use Rattle.disclosure_audit.specs.declared.entry.AuditEntry.{AuditEntry}
 use Rattle.disclosure_audit.specs.Queue.{stamp}
-use Rattle.disclosure_audit.specs.Noting.{KeptNotes, kept_notes, and_more, notes_of_stretch, note_of}
+use Rattle.disclosure_audit.specs.Noting.{KeptNotes, kept_notes, and_more, notes_of_stretch, unstamped}
 use Rattle.disclosure_audit.proofs.StretchLaws.{length-stretch}
 
 abbrev pub kept_as : ℕ → List Note → ℕ → KeptNotes
@@ -88,10 +88,10 @@ none_taken k kept more none =
 
 -- ---- notes as entries, and back
 
-noted_again : (position : ℕ) (notes : List Note) → map note_of (map (stamp position) notes) ≡ notes
+noted_again : (position : ℕ) (notes : List Note) → map unstamped (map (stamp position) notes) ≡ notes
 noted_again position [] = refl
 noted_again position (n ∷ notes) = ap (λ l. n ∷ l) (noted_again position notes)
 
-pub listed_again : (notes listed : List Note) (n : ℕ) (begun entries : List AuditEntry) → listed ≡ notes → n ≡ length listed → begun ≡ [] → entries ≡ begun ++ map (stamp 0) (take n (drop 0 listed)) → map note_of entries ≡ notes
+pub listed_again : (notes listed : List Note) (n : ℕ) (begun entries : List AuditEntry) → listed ≡ notes → n ≡ length listed → begun ≡ [] → entries ≡ begun ++ map (stamp 0) (take n (drop 0 listed)) → map unstamped entries ≡ notes
 listed_again notes listed n begun entries are long none copied =
-    ap (map note_of) (copied ∙ ap (λ (l : List AuditEntry). l ++ map (stamp 0) (take n (drop 0 listed))) none ∙ ap (map (stamp 0)) (take_all n listed (omega (arith, long)) ∙ are)) ∙ noted_again 0 notes
+    ap (map unstamped) (copied ∙ ap (λ (l : List AuditEntry). l ++ map (stamp 0) (take n (drop 0 listed))) none ∙ ap (map (stamp 0)) (take_all n listed (omega (arith, long)) ∙ are)) ∙ noted_again 0 notes

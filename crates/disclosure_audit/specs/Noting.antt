@@ -22,14 +22,14 @@ and_more k more = record { notes = k.notes ++ take (k.most - length k.notes) mor
 -- ---- stretches: records side by side of which the same is kept back
 
 -- the note of the record at a place
-abbrev pub noted_at : ℕ → KeptBack → Note
-noted_at index kept = record { index = index; sub = kept.sub; what = kept.what }
+abbrev pub note_at : ℕ → KeptBack → Note
+note_at index kept = record { index = index; sub = kept.sub; what = kept.what }
 
 -- of so many records from the first on, the same of each
 abbrev pub notes_of_stretch : ℕ → ℕ → List KeptBack → List Note
 notes_of_stretch first zero each = []
-notes_of_stretch first (suc n) each = map (noted_at first) each ++ notes_of_stretch (suc first) n each
+notes_of_stretch first (suc n) each = map (note_at first) each ++ notes_of_stretch (suc first) n each
 
 -- an entry without the position of its message
-abbrev pub note_of : AuditEntry → Note
-note_of entry = record { index = entry.index; sub = entry.sub; what = entry.what }
+abbrev pub unstamped : AuditEntry → Note
+unstamped entry = record { index = entry.index; sub = entry.sub; what = entry.what }

@@ -13,15 +13,15 @@ each_of all s = take s.len (drop s.from all)
 abbrev pub notes_in : List KeptBack → Stretch → List Note
 notes_in all s = notes_of_stretch s.first s.count (each_of all s)
 
-abbrev pub notes_of : List KeptBack → List Stretch → List Note
-notes_of all stretches = flat_map (notes_in all) stretches
+abbrev pub stretched_notes : List KeptBack → List Stretch → List Note
+stretched_notes all stretches = flat_map (notes_in all) stretches
 
 -- it speaks of what is there, and of places that there are
-pub record IsWithin (all : List KeptBack) (s : Stretch) : Type 0 where
+pub record IsWithinEach (all : List KeptBack) (s : Stretch) : Type 0 where
   pub there : s.from + s.len ≤ length all
   pub places : s.first + s.count ≤ 2 ^ 32
 
 -- the stretches are so, and their notes are counted
 pub record AreStretched (all : List KeptBack) (stretches : List Stretch) (notes : ℕ) : Type 0 where
-  pub within : AllByRecursion (IsWithin all) stretches
-  pub counted : notes ≡ length (notes_of all stretches)
+  pub within : AllByRecursion (IsWithinEach all) stretches
+  pub counted : notes ≡ length (stretched_notes all stretches)

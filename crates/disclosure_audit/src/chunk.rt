@@ -50,7 +50,7 @@ impl Chunk {
         }
     }
 
-    /// Copies its oldest `most` entries, or all, behind those of a list that has room for so many.
+    /// Copies its oldest `most` entries, or all, behind those of a list that has room for them.
     ///
     /// # Errors
     /// Want of memory.

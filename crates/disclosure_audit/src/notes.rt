@@ -1,6 +1,6 @@
 //! What an audit is to note of a message: as much of it as is to be kept, and the number of all.
 ghost use Rattle.std.specs.Prelude.{◌≡◌, ◌≤◌, ◌<◌, ◌+◌, ◌^◌, ◌∷◌, [], length, map, nat_lt, IfOk, OnOk};
-ghost use Rattle.disclosure_audit.specs.Noting.{kept_notes, and_more, notes_of_stretch, note_of};
+ghost use Rattle.disclosure_audit.specs.Noting.{kept_notes, and_more, notes_of_stretch, unstamped};
 
 use crate::entry::{AuditEntry, KeptBack, Note};
 use crate::stretches::Stretches;
@@ -154,7 +154,7 @@ impl Notes {
 
 /// The notes of which these entries were made.
 fn noted(alloc: Global, entries: Vec<AuditEntry>) -> Result<Vec<Note>, AllocError>
-    ensures { IfOk result (λ notes. notes.items ≡ map note_of entries.items) }
+    ensures { IfOk result (λ notes. notes.items ≡ map unstamped entries.items) }
 {
     let mut notes = Vec::with_capacity(alloc, entries.len())?;
     'entries: for AuditEntry {

@@ -1,6 +1,6 @@
 //! A stretch: records of a message that stand side by side, and of which the same is kept back.
 ghost use Rattle.std.specs.Prelude.{◌≡◌, ◌≤◌, ◌<◌, ◌+◌, ◌++◌, ◌^◌, length, map, take, drop, vec_capacity, OnOk};
-ghost use Rattle.disclosure_audit.specs.Noting.{noted_at};
+ghost use Rattle.disclosure_audit.specs.Noting.{note_at};
 ghost use Rattle.disclosure_audit.specs.Queue.{stamp};
 
 use crate::entry::{AuditEntry, KeptBack};
@@ -20,11 +20,11 @@ pub(crate) struct Stretch {
 }
 
 impl Stretch {
-    ghost use Rattle.disclosure_audit.specs.Stretching.{IsWithin, notes_in};
+    ghost use Rattle.disclosure_audit.specs.Stretching.{IsWithinEach, notes_in};
 
     /// How many notes it stands for.
     pub(crate) fn size(&self, all: &[KeptBack]) -> usize
-        requires { IsWithin all.now self.now }
+        requires { IsWithinEach all.now self.now }
         ensures { result ≡ length (notes_in all.now self.now) }
     {
         self.count as usize * self.len as usize
@@ -40,7 +40,7 @@ impl Stretch {
         most: usize,
         out: &mut Vec<AuditEntry>,
     ) -> Result<(), AllocError>
-        requires within { IsWithin all.now self.now }
+        requires within { IsWithinEach all.now self.now }
         requires there { skip + most ≤ length (notes_in all.now self.now) }
         requires room { length out.old.items + most ≤ vec_capacity out.old }
         ensures copied { OnOk result (out.new.items
@@ -75,7 +75,7 @@ fn copy_record(
 ) -> Result<(), AllocError>
     requires { length out.old.items + length each.now ≤ vec_capacity out.old }
     ensures copied { OnOk result (out.new.items
-        ≡ out.old.items ++ map (stamp position) (map (noted_at index) each.now)) }
+        ≡ out.old.items ++ map (stamp position) (map (note_at index) each.now)) }
     ensures capacity { vec_capacity out.new ≡ vec_capacity out.old }
 {
     for kept in each {

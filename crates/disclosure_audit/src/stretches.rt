@@ -21,11 +21,11 @@ pub(crate) struct Stretches {
 impl Model for Stretches {
     ghost use Rattle.std.specs.Prelude.{List};
     ghost use Rattle.disclosure_audit.specs.declared.entry.Note.{Note};
-    ghost use Rattle.disclosure_audit.specs.Stretching.{notes_of, AreStretched};
+    ghost use Rattle.disclosure_audit.specs.Stretching.{stretched_notes, AreStretched};
 
     ghost Value = { List Note };
 
-    ghost view = { λ s. notes_of s.each.items s.stretches.items };
+    ghost view = { λ s. stretched_notes s.each.items s.stretches.items };
 
     ghost invariant = { λ s. AreStretched s.each.items s.stretches.items s.notes };
 }
@@ -78,7 +78,7 @@ impl Stretches {
         ensures { OnOk result
             (self.new ≡ self.old ++ take most (notes_of_stretch first count each.now)) }
     {
-        // So many notes need no more of each record.
+        // No more of each record is needed for `most` notes.
         let each = &each[..each.len().min(most)];
         let from = self.each.len();
         if from.saturating_add(each.len()) > u32::MAX as usize {

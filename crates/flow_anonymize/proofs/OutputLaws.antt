@@ -16,7 +16,7 @@ use Rattle.flow_anonymize.specs.Remaining.{kept_values}
 use Rattle.flow_anonymize.specs.Planning.{Plan, planned, IsShowable, shown_template}
 use Rattle.flow_anonymize.specs.Output.{OutputOf, open_records, IsOutput}
 use Rattle.ipfix_records.specs.Runs.{RunOf}
-use Rattle.flow_anonymize.specs.Parts.{record_at, part_of}
+use Rattle.flow_anonymize.specs.Parts.{record_at, records_between}
 use Rattle.flow_anonymize.specs.PlanCache.{passed_by}
 use Rattle.flow_anonymize.proofs.PartLaws.{part_pushed, part_nothing}
 
@@ -80,10 +80,10 @@ add_shows p r old middle done template text ends text2 before ends2 end shows so
 -- ---- several records
 
 -- one more of a part is added
-pub add_one : (plan : Plan) (old middle new : OutputOf) (run : RunOf) (from i : ℕ) (r : DataRecord) → middle ≡ as_output (old.given ++ flat_map (passed_by plan) (part_of from i run)) old.writing → from ≤ i → i < length run.texts
-    → r ≡ record_at run i → new ≡ as_output (middle.given ++ passed (planned plan r.values)) middle.writing → new ≡ as_output (old.given ++ flat_map (passed_by plan) (part_of from (i + 1) run)) old.writing
+pub add_one : (plan : Plan) (old middle new : OutputOf) (run : RunOf) (from i : ℕ) (r : DataRecord) → middle ≡ as_output (old.given ++ flat_map (passed_by plan) (records_between from i run)) old.writing → from ≤ i → i < length run.texts
+    → r ≡ record_at run i → new ≡ as_output (middle.given ++ passed (planned plan r.values)) middle.writing → new ≡ as_output (old.given ++ flat_map (passed_by plan) (records_between from (i + 1) run)) old.writing
 add_one plan old middle new run from i r so low within is grown =
-    let before = flat_map (passed_by plan) (part_of from i run) in
+    let before = flat_map (passed_by plan) (records_between from i run) in
     grown
     ∙ ap (λ (o : OutputOf). as_output (o.given ++ passed_by plan r) o.writing) so
     ∙ ap (λ (l : List DataRecord). as_output l old.writing) (append_assoc old.given before (passed_by plan r)
@@ -95,6 +95,6 @@ shows_nothing (Aggregated rule definition) r none = refl
 shows_nothing (Withheld rule reason) r none = refl
 
 -- by a plan that shows nothing, nothing is added
-pub nothing_shown : (plan : Plan) (given : List DataRecord) (from to : ℕ) (run : RunOf) → from ≤ to → to ≤ length run.texts → shown_template plan ≡ None → given ≡ given ++ flat_map (passed_by plan) (part_of from to run)
+pub nothing_shown : (plan : Plan) (given : List DataRecord) (from to : ℕ) (run : RunOf) → from ≤ to → to ≤ length run.texts → shown_template plan ≡ None → given ≡ given ++ flat_map (passed_by plan) (records_between from to run)
 nothing_shown plan given from to run order within none =
     sym (ap (λ l. given ++ l) (part_nothing (passed_by plan) from to run order within (λ i low high. shows_nothing plan (record_at run i) none)) ∙ append-nil given)

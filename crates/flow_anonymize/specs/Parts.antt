@@ -8,5 +8,5 @@ abbrev pub record_at : RunOf → ℕ → DataRecord
 record_at run place = kept_record run.template (slice_index_or run.texts place [])
 
 -- those from a place on that stand before another place
-abbrev pub part_of : ℕ → ℕ → RunOf → List DataRecord
-part_of from to run = take (to - from) (drop from (run_records run))
+abbrev pub records_between : ℕ → ℕ → RunOf → List DataRecord
+records_between from to run = take (to - from) (drop from (run_records run))

@@ -5,7 +5,7 @@ ghost use Rattle.std.specs.Arc.{arc_value};
 ghost use Rattle.flow_anonymize.specs.Outcome.{passed};
 ghost use Rattle.flow_anonymize.specs.Planning.{planned, IsShowable};
 ghost use Rattle.flow_anonymize.specs.Planning.{shown_template};
-ghost use Rattle.flow_anonymize.specs.Parts.{record_at, part_of};
+ghost use Rattle.flow_anonymize.specs.Parts.{record_at, records_between};
 ghost use Rattle.flow_anonymize.specs.PlanCache.{passed_by};
 
 use crate::plan::Plan;
@@ -169,7 +169,7 @@ impl Output {
         requires begun { IsSome self.old.writing }
         requires same { self.old.writing ≡ shown_template plan.now }
         ensures { OnOk result (self.new ≡ record {
-          given = self.old.given ++ flat_map (passed_by plan.now) (part_of from to run.now);
+          given = self.old.given ++ flat_map (passed_by plan.now) (records_between from to run.now);
           writing = self.old.writing;
         }) }
     {

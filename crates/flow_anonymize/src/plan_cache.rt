@@ -3,7 +3,7 @@ ghost use Rattle.std.specs.Prelude.{◌≡◌, ◌<◌, ◌≤◌, ◌++◌, ◌
 ghost use Rattle.std.specs.List.{flat_map};
 ghost use Rattle.flow_anonymize.specs.Outcome.{decision_of};
 ghost use Rattle.flow_anonymize.specs.Planning.{planned, IsShowable};
-ghost use Rattle.flow_anonymize.specs.Parts.{record_at, part_of};
+ghost use Rattle.flow_anonymize.specs.Parts.{record_at, records_between};
 ghost use Rattle.flow_anonymize.specs.Plans.{has_classes};
 ghost use Rattle.flow_anonymize.specs.PlanCache.{IsPut, passed_by};
 
@@ -110,7 +110,7 @@ impl PlanCache {
         // What passes comes behind the other records, and what is said of the records is so.
         ensures given { (slot : Slot) → slice_get self.old.slots place ≡ Some slot
             → OnOk result (self.new.given
-            ≡ self.old.given ++ flat_map (passed_by slot.plan) (part_of from to run.now)) }
+            ≡ self.old.given ++ flat_map (passed_by slot.plan) (records_between from to run.now)) }
         ensures decision { (slot : Slot) (values : List (List ℕ))
             → slice_get self.old.slots place ≡ Some slot
             → IfOk result (λ d. d ≡ decision_of (planned slot.plan values)) }
@@ -183,7 +183,7 @@ fn pass(
     requires showable { (i : ℕ) → from ≤ i → i < to → IsShowable plan.now (record_at run.now i) }
     requires same { is_open ≡ true → output.old.writing ≡ shown_template plan.now }
     ensures given { OnOk result (output.new.given
-        ≡ output.old.given ++ flat_map (passed_by plan.now) (part_of from to run.now)) }
+        ≡ output.old.given ++ flat_map (passed_by plan.now) (records_between from to run.now)) }
     ensures writing { OnOk result
         (WritesForTemplate (shown_template plan.now) output.old.writing output.new.writing) }
 {

@@ -4,7 +4,7 @@ ghost use Rattle.std.specs.List.{flat_map};
 ghost use Rattle.std.specs.Arc.{arc_value};
 ghost use Rattle.rule_table.specs.Cuts.{HaveCuts};
 ghost use Rattle.flow_anonymize.specs.Outcome.{passed, decision_of};
-ghost use Rattle.flow_anonymize.specs.Parts.{record_at, part_of};
+ghost use Rattle.flow_anonymize.specs.Parts.{record_at, records_between};
 ghost use Rattle.flow_anonymize.specs.Classes.{classes_of};
 ghost use Rattle.flow_anonymize.specs.Plans.{outcome_for, passed_for, IsSlot};
 
@@ -177,7 +177,7 @@ impl Plans {
         requires alone { classes ≡ None → to ≡ from + 1 }
         // What passes comes behind the other records, and what is said of the records is so.
         ensures given { OnOk result (self.new.given
-            ≡ self.old.given ++ flat_map (passed_for self.old.for) (part_of from to run.now)) }
+            ≡ self.old.given ++ flat_map (passed_for self.old.for) (records_between from to run.now)) }
         ensures decision { (i : ℕ) → from ≤ i → i < to → IfOk result
             (λ d. d ≡ decision_of (outcome_for self.old.for (record_at run.now i))) }
         // The plans are still for that subscriber, by those rules.
@@ -211,7 +211,7 @@ impl Plans {
         requires alone { classes ≡ None → to ≡ from + 1 }
         // What passes comes behind the other records, and what is said of the records is so.
         ensures given { OnOk result (self.new.given
-            ≡ self.old.given ++ flat_map (passed_for self.old.for) (part_of from to run.now)) }
+            ≡ self.old.given ++ flat_map (passed_for self.old.for) (records_between from to run.now)) }
         ensures decision { (i : ℕ) → from ≤ i → i < to → IfOk result
             (λ d. d ≡ decision_of (outcome_for self.old.for (record_at run.now i))) }
         ensures same { self.new.for ≡ self.old.for }
@@ -246,7 +246,7 @@ impl Plans {
             → Some classes ≡ classes_of self.old.for.cuts (record_at run.now i) }
         // What passes comes behind the other records, and what is said of the records is so.
         ensures given { OnOk result (self.new.given
-            ≡ self.old.given ++ flat_map (passed_for self.old.for) (part_of from to run.now)) }
+            ≡ self.old.given ++ flat_map (passed_for self.old.for) (records_between from to run.now)) }
         ensures decision { (i : ℕ) → from ≤ i → i < to → IfOk result
             (λ d. d ≡ decision_of (outcome_for self.old.for (record_at run.now i))) }
         ensures same { self.new.for ≡ self.old.for }

@@ -25,7 +25,7 @@ use Rattle.disclosure_audit.specs.declared.entry.What.TheVariants.{Removed}
 use Rattle.disclosure_audit.proofs.NotingLaws.{none_more, more_more, counted_more}
 use Rattle.mediator_tables.specs.Adding.{tallied}
 use Rattle.ipfix_template.specs.declared.template.Template.{Template}
-use Rattle.mediator_shares.specs.Adding.{HasAdded, HasCounted, Counted, Audience, progress_of, counted_of, audience_of}
+use Rattle.mediator_shares.specs.Adding.{HasAdded, AddsCounts, Counted, Audience, progress_of, counted_of, audience_of}
 use Rattle.mediator_shares.specs.Judges.{Judges}
 use Rattle.mediator_shares.specs.Sharing.{outcome_by, given_by, added_by, kept_by, kept_back_by, counts_by, blank, share_by, shares_of, tallies_of, note_of, notes_on, noted_of_each, notes_of}
 
@@ -149,7 +149,7 @@ given_all old new domain f rs served place so over = sharing_end (given_by domai
 
 -- all subscriptions have counted it
 pub counted_all : (told tnew : List Tally) (before notes : KeptNotes) (domain : ℕ) (f : InForce) (index : ℕ) (r : DataRecord) (leaders served : List Served) (place : ℕ)
-    → IsNoting told tnew before notes domain f index r served place → length served ≤ place → HasCounted (counted_of told before) (counted_of tnew notes) index (r ∷ []) (audience_of domain f leaders served)
+    → IsNoting told tnew before notes domain f index r served place → length served ≤ place → AddsCounts (counted_of told before) (counted_of tnew notes) index (r ∷ []) (audience_of domain f leaders served)
 counted_all told tnew before notes domain f index r leaders served place so over = record {
   tallies = sharing_end (added_by domain f) (map tallied told) (map tallied tnew) (r ∷ []) served place so.tallies over;
   noting = so.noting ∙ ap (λ l. and_more before (flat_map (notes_on domain f (index, r)) l)) (take_all place served over) ∙ ap (and_more before) (sym (append-nil (noted_of_each domain f served (index, r))));
@@ -204,7 +204,7 @@ enumerate-append n (x ∷ xs) ys = ap (λ t. (n, x) ∷ t) (enumerate-append (n 
   same = omega arith
 
 -- nothing is counted of no record
-pub counted_none : (t : List Tally) (n : KeptNotes) (index : ℕ) (to : Audience) → length t ≡ length to.served → HasCounted (counted_of t n) (counted_of t n) index [] to
+pub counted_none : (t : List Tally) (n : KeptNotes) (index : ℕ) (to : Audience) → length t ≡ length to.served → AddsCounts (counted_of t n) (counted_of t n) index [] to
 counted_none t n index to same = record {
   tallies = λ done start. start ∙ ap (λ l. tallies_of to.domain to.in_force l to.served) (sym (append-nil done));
   noting = sym (none_more n);
@@ -212,7 +212,7 @@ counted_none t n index to same = record {
 }
 
 -- some records, and those behind them
-pub counted_both : (a b c : Counted) (index next : ℕ) (p q : List DataRecord) (to : Audience) → HasCounted a b index p to → HasCounted b c next q to → next ≡ index + length p → HasCounted a c index (p ++ q) to
+pub counted_both : (a b c : Counted) (index next : ℕ) (p q : List DataRecord) (to : Audience) → AddsCounts a b index p to → AddsCounts b c next q to → next ≡ index + length p → AddsCounts a c index (p ++ q) to
 counted_both a b c index next p q to first second numbered =
     let g = noted_of_each to.domain to.in_force to.served in record {
       tallies = λ done start. second.tallies (done ++ p) (first.tallies done start) ∙ ap (λ l. tallies_of to.domain to.in_force l to.served) (append_assoc done p q);
@@ -229,7 +229,7 @@ counted_both a b c index next p q to first second numbered =
 -- the shares of the first so many records of a run, the first of which has this index
 pub record IsRunning (old new : List (ℕ × List DataRecord)) (told tnew : List Tally) (before notes : KeptNotes) (domain : ℕ) (f : InForce) (first : ℕ) (rs : List DataRecord) (leaders served : List Served) (place : ℕ) : Type 0 where
   pub shares : (done : List DataRecord) → old ≡ shares_of domain f done leaders → new ≡ shares_of domain f (done ++ take place rs) leaders
-  pub counting : HasCounted (counted_of told before) (counted_of tnew notes) first (take place rs) (audience_of domain f leaders served)
+  pub counting : AddsCounts (counted_of told before) (counted_of tnew notes) first (take place rs) (audience_of domain f leaders served)
   pub stay : length new ≡ length leaders
 
 pub running_start : (old new : List (ℕ × List DataRecord)) (t : List Tally) (n : KeptNotes) (domain : ℕ) (f : InForce) (first : ℕ) (rs : List DataRecord) (leaders served : List Served) → new ≡ old → length old ≡ length leaders → length t ≡ length served
@@ -246,7 +246,7 @@ pub running_step : (old : List (ℕ × List DataRecord)) (new new2 : Judges) (to
     → IsRunning old new2.shares told tnew2 before notes2 domain f first rs leaders served to
 running_step old new new2 told tnew tnew2 before notes notes2 domain f first rs leaders served from to template so order within adds = record {
   shares = λ done start. adds.shares (done ++ take from rs) (so.shares done start) ∙ ap (λ l. shares_of domain f l leaders) (append_assoc done (take from rs) part ∙ ap (λ l. done ++ l) (sym more));
-  counting = subst (λ l. HasCounted (counted_of told before) (counted_of tnew2 notes2) first l (audience_of domain f leaders served)) (sym more)
+  counting = subst (λ l. AddsCounts (counted_of told before) (counted_of tnew2 notes2) first l (audience_of domain f leaders served)) (sym more)
       (counted_both (counted_of told before) (counted_of tnew notes) (counted_of tnew2 notes2) first (first + from) (take from rs) part (audience_of domain f leaders served) so.counting adds.counting here);
   stay = adds.stay;
 }

@@ -9,7 +9,7 @@ use Rattle.std.proofs.SliceLists.{all_by_recursion_push}
 use Rattle.std.proofs.lemmas.Bool.{cases_lt}
 use Rattle.ipfix_template.specs.DataRecord.{DataRecord, kept_record}
 use Rattle.ipfix_records.specs.Runs.{RunOf, run_records}
-use Rattle.disclosure_audit.specs.Noting.{KeptNotes, and_more, noted_at, notes_of_stretch}
+use Rattle.disclosure_audit.specs.Noting.{KeptNotes, and_more, note_at, notes_of_stretch}
 use Rattle.disclosure_audit.specs.declared.entry.What.{What}
 use Rattle.disclosure_audit.specs.declared.entry.KeptBack.{KeptBack}
 use Rattle.flow_aggregate.specs.Counts.{Count, count_of}
@@ -18,7 +18,7 @@ use Rattle.flow_anonymize.specs.declared.disclosure.Disclosure.TheVariants.{Pass
 use Rattle.flow_anonymize.specs.declared.record_classes.RecordClasses.{RecordClasses}
 use Rattle.flow_anonymize.specs.Outcome.{Outcome, Decision, decision_of}
 use Rattle.flow_anonymize.specs.Classes.{classes_of}
-use Rattle.flow_anonymize.specs.Parts.{record_at, part_of}
+use Rattle.flow_anonymize.specs.Parts.{record_at, records_between}
 use Rattle.flow_anonymize.proofs.PartLaws.{part_more, part_none}
 use Rattle.mediator_history.specs.Auditing.{kept_back}
 use Rattle.mediator_history.specs.Counting.{counts}
@@ -27,7 +27,7 @@ use Rattle.mediator_tables.specs.declared.tally.Tally.{Tally}
 use Rattle.mediator_tables.specs.Adding.{tallied}
 use Rattle.mediator_shares.specs.InForce.{InForce}
 use Rattle.mediator_shares.specs.Sharing.{outcome_by, added_by, kept_by, note_of, notes_on, noted_of_each, tallies_of}
-use Rattle.mediator_shares.specs.Adding.{HasCounted, Counted, Audience, counted_of, audience_of}
+use Rattle.mediator_shares.specs.Adding.{AddsCounts, Counted, Audience, counted_of, audience_of}
 use Rattle.mediator_shares.specs.Deciding.{decision_for, kept_whatever, kept_from, IsWhatever, AreKeptAlike}
 use Rattle.mediator_shares.proofs.SharingLaws.{as_share, more_served, counted_none, counted_both}
 
@@ -100,7 +100,7 @@ counts_nothing aggregates clock r (Passed kept removed) so = refl
 counts_nothing aggregates clock r (Aggregated rule place) so = absurd so
 counts_nothing aggregates clock r (Withheld rule reason) so = refl
 
-map_noted : (index sub : ℕ) (whats : List What) → map (noted_at index) (map (kept_from sub) whats) ≡ map (note_of index sub) whats
+map_noted : (index sub : ℕ) (whats : List What) → map (note_at index) (map (kept_from sub) whats) ≡ map (note_of index sub) whats
 map_noted index sub [] = refl
 map_noted index sub (w ∷ ws) = ap (λ l. note_of index sub w ∷ l) (map_noted index sub ws)
 
@@ -117,15 +117,15 @@ alike_step domain f run from to served place who other found each each2 so withi
     here : (i : ℕ) → from ≤ i → i < to → IsWhatever (decision_for domain f (record_at run i) who)
     here i low high = subst IsWhatever (is i low high) whatever
 
-    noted : (index i : ℕ) → from ≤ i → i < to → map (noted_at index) each2 ≡ noted_of_each domain f (take place served ++ who ∷ []) (index, record_at run i)
+    noted : (index i : ℕ) → from ≤ i → i < to → map (note_at index) each2 ≡ noted_of_each domain f (take place served ++ who ∷ []) (index, record_at run i)
     noted index i low high =
         let r = record_at run i in
-        let more : map (noted_at index) (map (kept_from who.sub) (kept_whatever found)) ≡ notes_on domain f (index, r) who =
+        let more : map (note_at index) (map (kept_from who.sub) (kept_whatever found)) ≡ notes_on domain f (index, r) who =
         map_noted index who.sub (kept_whatever found)
         ∙ ap (λ (d : Decision). map (note_of index who.sub) (kept_whatever d)) (is i low high)
         ∙ ap (map (note_of index who.sub)) (sym (kept_here f.policy.aggregates f.clock r (outcome_by domain f who.name.now r) (here i low high))) in
-        ap (map (noted_at index)) grown ∙ map-append (noted_at index) each (map (kept_from who.sub) (kept_whatever found))
-        ∙ ap (λ l. l ++ map (noted_at index) (map (kept_from who.sub) (kept_whatever found))) (so.notes index i low high)
+        ap (map (note_at index)) grown ∙ map-append (note_at index) each (map (kept_from who.sub) (kept_whatever found))
+        ∙ ap (λ l. l ++ map (note_at index) (map (kept_from who.sub) (kept_whatever found))) (so.notes index i low high)
         ∙ ap (λ l. noted_of_each domain f (take place served) (index, r) ++ l) (more ∙ sym (append-nil (notes_on domain f (index, r) who)))
         ∙ sym (flat_map-append (notes_on domain f (index, r)) (take place served) (who ∷ []))
 
@@ -146,7 +146,7 @@ part_front from n run within =
     ∙ ap (λ m. r ∷ drop m rs) {x = suc from} {y = from + 1} (omega arith))
 
 stretch_notes : (domain : ℕ) (f : InForce) (served : List Served) (run : RunOf) (each : List KeptBack) (index from n : ℕ) → from + n ≤ length run.texts
-    → ((index i : ℕ) → from ≤ i → i < from + n → map (noted_at index) each ≡ noted_of_each domain f served (index, record_at run i))
+    → ((index i : ℕ) → from ≤ i → i < from + n → map (note_at index) each ≡ noted_of_each domain f served (index, record_at run i))
     → notes_of_stretch index n each ≡ flat_map (noted_of_each domain f served) (enumerate_from index (take n (drop from (run_records run))))
 stretch_notes domain f served run each index from zero within alike = refl
 stretch_notes domain f served run each index from (suc n) within alike =
@@ -180,7 +180,7 @@ same_tallies domain f done (who ∷ served) run from n within none =
 -- they are noted at once
 pub kept_alike : (t : List Tally) (notes notes2 : KeptNotes) (domain : ℕ) (f : InForce) (index : ℕ) (run : RunOf) (from to : ℕ) (leaders served : List Served) (each : List KeptBack)
     → AreKeptAlike domain f run from to served each → from ≤ to → to ≤ length run.texts → length t ≡ length served → notes2 ≡ and_more notes (notes_of_stretch index (to - from) each)
-    → HasCounted (counted_of t notes) (counted_of t notes2) index (part_of from to run) (audience_of domain f leaders served)
+    → AddsCounts (counted_of t notes) (counted_of t notes2) index (records_between from to run) (audience_of domain f leaders served)
 kept_alike t notes notes2 domain f index run from to leaders served each so order within same noted = record {
   tallies = λ done start. start ∙ same_tallies domain f done served run from (to - from) (omega (arith, order, within)) (λ i low high. so.counts i low (omega (arith, high, order)));
   noting = noted ∙ ap (and_more notes) (stretch_notes domain f served run each index from (to - from) (omega (arith, order, within)) (λ k i low high. so.notes k i low (omega (arith, high, order))));
@@ -190,16 +190,16 @@ kept_alike t notes notes2 domain f index run from to leaders served each so orde
 -- ---- records that are counted one after another
 
 pub counted_start : (t : List Tally) (notes : KeptNotes) (domain : ℕ) (f : InForce) (index : ℕ) (run : RunOf) (from : ℕ) (leaders served : List Served) → length t ≡ length served
-    → HasCounted (counted_of t notes) (counted_of t notes) index (part_of from from run) (audience_of domain f leaders served)
+    → AddsCounts (counted_of t notes) (counted_of t notes) index (records_between from from run) (audience_of domain f leaders served)
 counted_start t notes domain f index run from leaders served same =
     let to = audience_of domain f leaders served in
-    subst (λ l. HasCounted (counted_of t notes) (counted_of t notes) index l to) (sym (part_none from from run (omega arith))) (counted_none t notes index to same)
+    subst (λ l. AddsCounts (counted_of t notes) (counted_of t notes) index l to) (sym (part_none from from run (omega arith))) (counted_none t notes index to same)
 
 pub counted_step : (a b c : Counted) (domain : ℕ) (f : InForce) (first index : ℕ) (run : RunOf) (from place : ℕ) (leaders served : List Served) (r : DataRecord)
-    → HasCounted a b (first + from) (part_of from place run) (audience_of domain f leaders served) → from ≤ place → place < length run.texts → r ≡ record_at run place → index ≡ first + place
-    → HasCounted b c index (r ∷ []) (audience_of domain f leaders served) → HasCounted a c (first + from) (part_of from (place + 1) run) (audience_of domain f leaders served)
+    → AddsCounts a b (first + from) (records_between from place run) (audience_of domain f leaders served) → from ≤ place → place < length run.texts → r ≡ record_at run place → index ≡ first + place
+    → AddsCounts b c index (r ∷ []) (audience_of domain f leaders served) → AddsCounts a c (first + from) (records_between from (place + 1) run) (audience_of domain f leaders served)
 counted_step a b c domain f first index run from place leaders served r so low within is numbered adds =
     let to = audience_of domain f leaders served in
-    let many : length (part_of from place run) ≡ place - from = length-take-le (place - from) (drop from (run_records run)) (omega (arith, low, within, length-drop from (run_records run), length-map run.texts (kept_record run.template))) in
-    subst (λ l. HasCounted a c (first + from) l to) (sym (part_more from place run low within))
-    (counted_both a b c (first + from) index (part_of from place run) (record_at run place ∷ []) to so (subst (λ x. HasCounted b c index (x ∷ []) to) is adds) (omega (arith, numbered, many, low)))
+    let many : length (records_between from place run) ≡ place - from = length-take-le (place - from) (drop from (run_records run)) (omega (arith, low, within, length-drop from (run_records run), length-map run.texts (kept_record run.template))) in
+    subst (λ l. AddsCounts a c (first + from) l to) (sym (part_more from place run low within))
+    (counted_both a b c (first + from) index (records_between from place run) (record_at run place ∷ []) to so (subst (λ x. AddsCounts b c index (x ∷ []) to) is adds) (omega (arith, numbered, many, low)))

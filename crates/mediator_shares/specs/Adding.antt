@@ -39,7 +39,7 @@ abbrev pub audience_of : ℕ → InForce → List Served → List Served → Aud
 audience_of domain f leaders served = record { domain = domain; in_force = f; leaders = leaders; served = served }
 
 -- the records, of which the first has this index, stand behind those that were done, among what counts for each that is served and among the notes
-pub record HasCounted (old new : Counted) (index : ℕ) (records : List DataRecord) (to : Audience) : Type 0 where
+pub record AddsCounts (old new : Counted) (index : ℕ) (records : List DataRecord) (to : Audience) : Type 0 where
   pub tallies : (done : List DataRecord) → map tallied old.tallies ≡ tallies_of to.domain to.in_force done to.served → map tallied new.tallies ≡ tallies_of to.domain to.in_force (done ++ records) to.served
   pub noting : new.notes ≡ and_more old.notes (flat_map (noted_of_each to.domain to.in_force to.served) (enumerate_from index records))
   pub stay : length new.tallies ≡ length to.served
@@ -47,7 +47,7 @@ pub record HasCounted (old new : Counted) (index : ℕ) (records : List DataReco
 -- the records side by side, of this template and of which the first has this index, stand behind those that were done: among what each leader was given, among what counts for each that is served, and among the notes; and the judges are fit for the next ones
 pub record HasAdded (old new : Progress) (index : ℕ) (records : List DataRecord) (template : Template) (to : Audience) : Type 0 where
   pub shares : (done : List DataRecord) → old.judges.shares ≡ shares_of to.domain to.in_force done to.leaders → new.judges.shares ≡ shares_of to.domain to.in_force (done ++ records) to.leaders
-  pub counting : HasCounted (counted_of old.tallies old.notes) (counted_of new.tallies new.notes) index records to
+  pub counting : AddsCounts (counted_of old.tallies old.notes) (counted_of new.tallies new.notes) index records to
   pub judges : JudgeFor new.judges to.in_force to.domain (Some template) to.leaders
   pub cuts : new.judges.cuts ≡ old.judges.cuts
   pub stay : length new.judges.shares ≡ length to.leaders

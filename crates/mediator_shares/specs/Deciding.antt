@@ -6,7 +6,7 @@ use Rattle.ipfix_records.specs.Runs.{RunOf}
 use Rattle.disclosure_audit.specs.declared.entry.What.{What}
 use Rattle.disclosure_audit.specs.declared.entry.What.TheVariants as what
 use Rattle.disclosure_audit.specs.declared.entry.KeptBack.{KeptBack}
-use Rattle.disclosure_audit.specs.Noting.{noted_at}
+use Rattle.disclosure_audit.specs.Noting.{note_at}
 use Rattle.flow_anonymize.specs.declared.disclosure.Disclosure.TheVariants.{Passed, Aggregated, Withheld}
 use Rattle.flow_anonymize.specs.Outcome.{Decision, decision_of}
 use Rattle.flow_anonymize.specs.Parts.{record_at}
@@ -35,5 +35,5 @@ kept_from sub what = record { sub = sub; what = what }
 
 -- of each record from a place on that stands before another this is kept back, and none of them counts in an aggregate
 pub record AreKeptAlike (domain : ℕ) (f : InForce) (run : RunOf) (from to : ℕ) (served : List Served) (each : List KeptBack) : Type 0 where
-  pub notes : (index i : ℕ) → from ≤ i → i < to → map (noted_at index) each ≡ noted_of_each domain f served (index, record_at run i)
+  pub notes : (index i : ℕ) → from ≤ i → i < to → map (note_at index) each ≡ noted_of_each domain f served (index, record_at run i)
   pub counts : (i : ℕ) → from ≤ i → i < to → AllByRecursion (λ who. added_by domain f who.name.now (record_at run i) ≡ []) served

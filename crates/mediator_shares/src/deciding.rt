@@ -2,7 +2,7 @@
 ghost use Rattle.std.specs.Prelude.{◌≡◌, ◌<◌, ◌≤◌, ◌+◌, ◌++◌, [], ℕ, List, Some, None, true, length, map, IfOk, OnOk};
 ghost use Rattle.ipfix_template.specs.DataRecord.{DataRecord};
 ghost use Rattle.flow_anonymize.specs.Classes.{classes_of};
-ghost use Rattle.flow_anonymize.specs.Parts.{record_at, part_of};
+ghost use Rattle.flow_anonymize.specs.Parts.{record_at, records_between};
 ghost use Rattle.mediator_shares.specs.Alike.{AreLed};
 ghost use Rattle.mediator_shares.specs.Judges.{JudgeFor};
 ghost use Rattle.mediator_shares.specs.Sharing.{shares_of};
@@ -70,7 +70,7 @@ pub(crate) fn decide(
     ensures shares { (done : List DataRecord)
         → judges.old.shares ≡ shares_of domain in_force.now done leaders.now
         → OnOk result (judges.new.shares
-        ≡ shares_of domain in_force.now (done ++ part_of from to run.now) leaders.now) }
+        ≡ shares_of domain in_force.now (done ++ records_between from to run.now) leaders.now) }
     ensures decided { (i : ℕ) → from ≤ i → i < to → OnOk result (decided.new.items
         ≡ map (decision_for domain in_force.now (record_at run.now i)) leaders.now) }
     // The judges are fit for what comes next.

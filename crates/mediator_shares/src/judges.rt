@@ -5,7 +5,7 @@ ghost use Rattle.std.specs.Arc.{arc_value};
 ghost use Rattle.ipfix_template.specs.DataRecord.{DataRecord};
 ghost use Rattle.rule_table.specs.Cuts.{HaveCuts};
 ghost use Rattle.flow_anonymize.specs.Outcome.{decision_of};
-ghost use Rattle.flow_anonymize.specs.Parts.{record_at, part_of};
+ghost use Rattle.flow_anonymize.specs.Parts.{record_at, records_between};
 ghost use Rattle.flow_anonymize.specs.Classes.{classes_of};
 ghost use Rattle.flow_anonymize.specs.Plans.{PlansFor, outcome_for, passed_for};
 ghost use Rattle.mediator_tables.specs.SubscriptionTable.{shown};
@@ -219,7 +219,7 @@ impl Judges {
             (s : ℕ × List DataRecord) → slice_get self.old.fors place ≡ Some p
             → self.old.shares ≡ before ++ s ∷ after
             → length before ≡ place → OnOk result (self.new.shares ≡ before
-            ++ (s.0, s.1 ++ flat_map (passed_for p) (part_of from to run.now)) ∷ after) }
+            ++ (s.0, s.1 ++ flat_map (passed_for p) (records_between from to run.now)) ∷ after) }
         // What decides stays.
         ensures fors { self.new.fors ≡ self.old.fors }
         ensures template { self.new.template ≡ self.old.template }

@@ -6,8 +6,8 @@ ghost use Rattle.ipfix_records.specs.Runs.{run_records, records_of_runs};
 ghost use Rattle.flow_aggregate.specs.Counts.{Count as OneCount, count_of};
 ghost use Rattle.mediator_history.specs.Auditing.{removed_of, told_of};
 ghost use Rattle.flow_anonymize.specs.Classes.{classes_of};
-ghost use Rattle.flow_anonymize.specs.Parts.{record_at, part_of};
-ghost use Rattle.mediator_shares.specs.Adding.{HasAdded, HasCounted, progress_of, counted_of, audience_of};
+ghost use Rattle.flow_anonymize.specs.Parts.{record_at, records_between};
+ghost use Rattle.mediator_shares.specs.Adding.{HasAdded, AddsCounts, progress_of, counted_of, audience_of};
 ghost use Rattle.mediator_shares.specs.Deciding.{decision_for};
 ghost use Rattle.mediator_shares.specs.Alike.{AreLed};
 ghost use Rattle.mediator_shares.specs.InForce.{InForce as WhatIsInForce, count_by, timing_by, as_list};
@@ -277,7 +277,7 @@ impl Sums {
         ensures { OnOk result (HasAdded
             (progress_of judges.old self.old.tallies.items self.old.notes)
             (progress_of judges.new self.new.tallies.items self.new.notes)
-            (before + from) (part_of from to run.now) run.now.template
+            (before + from) (records_between from to run.now) run.now.template
             (audience_of domain in_force.now leaders.now served.now)) }
     {
         let mut room = mem::replace(&mut self.room, Room::new(alloc));
@@ -319,10 +319,10 @@ impl Sums {
         requires within { to ≤ length run.now.texts }
         requires decided { (i : ℕ) → from ≤ i → i < to → room.old.decided.items
             ≡ map (decision_for domain in_force.now (record_at run.now i)) leaders.now }
-        ensures { OnOk result (HasCounted
+        ensures { OnOk result (AddsCounts
             (counted_of self.old.tallies.items self.old.notes)
             (counted_of self.new.tallies.items self.new.notes)
-            (before + from) (part_of from to run.now)
+            (before + from) (records_between from to run.now)
             (audience_of domain in_force.now leaders.now served.now)) }
     {
         let (decided, kept) = (&room.decided, &mut room.kept);
@@ -370,10 +370,10 @@ impl Sums {
         requires within { to ≤ length run.now.texts }
         requires decided { (i : ℕ) → from ≤ i → i < to → decided.now.items
             ≡ map (decision_for domain in_force.now (record_at run.now i)) leaders.now }
-        ensures { OnOk result (HasCounted
+        ensures { OnOk result (AddsCounts
             (counted_of self.old.tallies.items self.old.notes)
             (counted_of self.new.tallies.items self.new.notes)
-            (before + from) (part_of from to run.now)
+            (before + from) (records_between from to run.now)
             (audience_of domain in_force.now leaders.now served.now)) }
     {
         'records: for place in from..to {
@@ -414,7 +414,7 @@ impl Sums {
         requires each_tally { length self.old.tallies.items ≡ length served.now }
         requires decided { decided.now.items
             ≡ map (decision_for domain in_force.now flow_record.now) leaders.now }
-        ensures { OnOk result (HasCounted
+        ensures { OnOk result (AddsCounts
             (counted_of self.old.tallies.items self.old.notes)
             (counted_of self.new.tallies.items self.new.notes)
             index (flow_record.now ∷ [])

@@ -1,5 +1,5 @@
 use Rattle.std.proofs.Common.{◌-◌, ◌+◌, ◌++◌, map, take, drop, refl, sym, ap, ◌∙◌, arith}
-use Rattle.disclosure_audit.specs.Noting.{noted_at}
+use Rattle.disclosure_audit.specs.Noting.{note_at}
 use Rattle.disclosure_audit.specs.Queue.{stamp}
 use Rattle.disclosure_audit.proofs.StretchLaws.{each_long, some_each, copying_begins, record_copied}
 use Rattle.disclosure_audit.proofs.stretch.Stretch.copy_part.Goals as goal
@@ -23,7 +23,7 @@ records-preserved c = record {
   copying =
       record_copied _ _ _ _ _ _ _ _ _ _ _ _ _ (c.records.place + c.min.result - c.records.place) c.records.invariant.copying c.records-test.true (omega (arith, c.min.ensures, c.records.invariant.len_is))
       (c.in_ok-copy_record.ensures.copied
-      ∙ ap (λ e. c.records.out.items ++ map (stamp c.args.position) (map (noted_at (c.args.self.now.first + c.records.record)) (take (c.records.place + c.min.result - c.records.place) (drop c.records.place e)))) c.records.invariant.each_is);
+      ∙ ap (λ e. c.records.out.items ++ map (stamp c.args.position) (map (note_at (c.args.self.now.first + c.records.record)) (take (c.records.place + c.min.result - c.records.place) (drop c.records.place e)))) c.records.invariant.each_is);
   each_is = c.records.invariant.each_is;
   len_is = c.records.invariant.len_is;
   room = c.copy_record.ensures.capacity ∙ c.records.invariant.room;

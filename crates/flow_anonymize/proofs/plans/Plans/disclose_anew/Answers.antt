@@ -5,7 +5,7 @@ use Rattle.std.specs.Arc.{arc_value}
 use Rattle.std.specs.Option.{option_map}
 use Rattle.flow_anonymize.specs.declared.slot.Slot.{Slot}
 use Rattle.flow_anonymize.specs.Outcome.{Outcome, Decision, passed, decision_of}
-use Rattle.flow_anonymize.specs.Parts.{record_at, part_of}
+use Rattle.flow_anonymize.specs.Parts.{record_at, records_between}
 use Rattle.flow_anonymize.specs.PlanCache.{passed_by}
 use Rattle.flow_anonymize.specs.Plans.{PlansOf, PlansFor, IsSlot, ArePlansKept, Discloses, passed_for}
 use Rattle.flow_anonymize.proofs.PartLaws.{sound_at, part_same}
@@ -29,7 +29,7 @@ pub returns-clause-given : goal.returns-clause-given
 returns-clause-given c =
     let slot = c.in_ok-slot.slot in
     let at = c.in_ok-place.ensures.put.there in
-    let part = part_of c.args.from c.args.to c.args.run.now in
+    let part = records_between c.args.from c.args.to c.args.run.now in
     subst (λ (l : List DataRecord). OnOk c.give.result (c.give.new.self.given ≡ c.args.self.now.given ++ l))
     (part_same (passed_by slot.plan) (passed_for c.args.self.now.for) c.args.from c.args.to c.args.run.now (omega (arith, c.requires.some)) c.requires.within (λ i low high. ap passed (exact c slot i low high at).exact))
     (subst (λ (g : List DataRecord). OnOk c.give.result (c.give.new.self.given ≡ g ++ flat_map (passed_by slot.plan) part)) (c.in_ok-place.ensures.given ∙ ap (λ (p : PlansOf). p.given) c.self.view_is) (c.give.ensures.given slot at))

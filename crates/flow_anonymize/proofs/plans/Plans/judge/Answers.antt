@@ -3,7 +3,7 @@ use Rattle.std.specs.List.{flat_map}
 use Rattle.ipfix_template.specs.DataRecord.{DataRecord}
 use Rattle.flow_anonymize.specs.declared.slot.Slot.{Slot}
 use Rattle.flow_anonymize.specs.Outcome.{Outcome, Decision, passed, decision_of}
-use Rattle.flow_anonymize.specs.Parts.{record_at, part_of}
+use Rattle.flow_anonymize.specs.Parts.{record_at, records_between}
 use Rattle.flow_anonymize.specs.PlanCache.{passed_by}
 use Rattle.flow_anonymize.specs.Plans.{PlansOf, Discloses, outcome_for, passed_for}
 use Rattle.flow_anonymize.proofs.PartLaws.{sound_at, part_same, part_one}
@@ -23,7 +23,7 @@ exact c slot i low high at =
 
 pub returns-in-Some-place_of-clause-given : goal.returns-in-Some-place_of-clause-given
 returns-in-Some-place_of-clause-given c =
-    let part = part_of c.args.from c.args.to c.args.run.now in
+    let part = records_between c.args.from c.args.to c.args.run.now in
     there_is c.self.inside.cache.slots c.in-Some-place_of.place c.in-Some-place_of.ensures.within (λ slot at.
     subst (λ (l : List DataRecord). OnOk c.give.result (c.give.new.self.given ≡ c.args.self.now.given ++ l))
     (part_same (passed_by slot.plan) (passed_for c.args.self.now.for) c.args.from c.args.to c.args.run.now (omega (arith, c.requires.some)) c.requires.within (λ i low high. ap passed (exact c slot i low high at).exact))

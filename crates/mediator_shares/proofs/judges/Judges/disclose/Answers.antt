@@ -4,7 +4,7 @@ use Rattle.std.proofs.lemmas.Result.{IfOk-weaker}
 use Rattle.std.proofs.lemmas.List.{length-map}
 use Rattle.flow_anonymize.specs.Classes.{classes_of}
 use Rattle.flow_anonymize.specs.Outcome.{Decision, decision_of}
-use Rattle.flow_anonymize.specs.Parts.{record_at, part_of}
+use Rattle.flow_anonymize.specs.Parts.{record_at, records_between}
 use Rattle.flow_anonymize.specs.Plans.{PlansFor, outcome_for, passed_for}
 use Rattle.mediator_shares.specs.Judges.{Judges, for_of, share_of_judge}
 use Rattle.mediator_shares.proofs.JudgeLaws.{own_for, which_for, set_same}
@@ -30,7 +30,7 @@ returns-clause-decision c = λ p i at low high.
 
 pub returns-clause-given : goal.returns-clause-given
 returns-clause-given c = λ p before after s at split l.
-    let part = part_of c.args.from c.args.to c.args.run.now in
+    let part = records_between c.args.from c.args.to c.args.run.now in
     IfOk-weaker c.disclose.result _ _ (λ done grew.
     share_grows share_of_judge c.self.inside.judges.items c.args.place c.index_mut.result.now (record { sub = c.index_mut.result.now.sub; plans = c.disclose.new.self }) (flat_map (passed_for (for_of c.index_mut.result.now)) part) before after s
     (ap (λ (j : Judges). j.shares) c.self.view_is ∙ split) l c.index_mut.ensures.value (ap (as_share c.index_mut.result.now.sub) grew)
