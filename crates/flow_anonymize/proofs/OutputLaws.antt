@@ -59,20 +59,20 @@ added p r (Some t) text ends shows some same is =
       shows = ap (map (kept_record t)) written ∙ map-append (kept_record t) (pieces text 0 ends) (more ∷ []) ∙ ap (λ (l : List DataRecord). map (kept_record t) (pieces text 0 ends) ++ l) (sym one.is);
     }
 
-pub add_output : (p : Plan) (r : DataRecord) (template : Option Template) (text ends text2 before ends2 : List ℕ) (end : ℕ) → IsShowable p r → IsSome template → template ≡ shown_template p → IsOutput template text ends
-    → text2 ≡ text ++ passed_text (planned p r.values) → before ≡ ends → ends2 ≡ before ++ end ∷ [] → end ≡ length text2 → IsOutput template text2 ends2
-add_output p r template text ends text2 before ends2 end shows some same is grown stay more at =
-    rw (more, stay, at, grown) (added p r template text ends shows some same is).output
+pub add_output : (p : Plan) (r : DataRecord) (template : Option Template) (text ends text2 ends2 : List ℕ) → IsShowable p r → IsSome template → template ≡ shown_template p → IsOutput template text ends
+    → text2 ≡ text ++ passed_text (planned p r.values) → ends2 ≡ ends ++ length text2 ∷ [] → IsOutput template text2 ends2
+add_output p r template text ends text2 ends2 shows some same is grown more =
+    rw (more, grown) (added p r template text ends shows some same is).output
 
 abbrev pub as_output : List DataRecord → Option Template → OutputOf
 as_output given writing = record { given = given; writing = writing }
 
-pub add_shows : (p : Plan) (r : DataRecord) (old middle : OutputOf) (done : List DataRecord) (template : Option Template) (text ends text2 before ends2 : List ℕ) (end : ℕ) → IsShowable p r → IsSome template → template ≡ shown_template p → IsOutput template text ends
-    → text2 ≡ text ++ passed_text (planned p r.values) → before ≡ ends → ends2 ≡ before ++ end ∷ [] → end ≡ length text2
+pub add_shows : (p : Plan) (r : DataRecord) (old middle : OutputOf) (done : List DataRecord) (template : Option Template) (text ends text2 ends2 : List ℕ) → IsShowable p r → IsSome template → template ≡ shown_template p → IsOutput template text ends
+    → text2 ≡ text ++ passed_text (planned p r.values) → ends2 ≡ ends ++ length text2 ∷ []
     → as_output (done ++ open_records template (pieces text 0 ends)) template ≡ middle → middle ≡ old
     → as_output (done ++ open_records template (pieces text2 0 ends2)) template ≡ as_output (old.given ++ passed (planned p r.values)) old.writing
-add_shows p r old middle done template text ends text2 before ends2 end shows some same is grown stay more at view back =
-    let here : open_records template (pieces text2 0 ends2) ≡ open_records template (pieces text 0 ends) ++ passed (planned p r.values) = rw (more, stay, at, grown) (added p r template text ends shows some same is).shows in
+add_shows p r old middle done template text ends text2 ends2 shows some same is grown more view back =
+    let here : open_records template (pieces text2 0 ends2) ≡ open_records template (pieces text 0 ends) ++ passed (planned p r.values) = rw (more, grown) (added p r template text ends shows some same is).shows in
     ap (λ (l : List DataRecord). as_output (done ++ l) template) here
     ∙ ap (λ (l : List DataRecord). as_output l template) (sym (append_assoc done (open_records template (pieces text 0 ends)) (passed (planned p r.values))))
     ∙ ap (λ (o : OutputOf). as_output (o.given ++ passed (planned p r.values)) o.writing) (view ∙ back)

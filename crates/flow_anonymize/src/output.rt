@@ -10,7 +10,7 @@ ghost use Rattle.flow_anonymize.specs.PlanCache.{passed_by};
 
 use crate::plan::Plan;
 use bytes::Bytes;
-use ipfix_records::{Records, Run};
+use ipfix_records::{Ends, Records, Run};
 use ipfix_template::{Record, RecordView, Template};
 use std::alloc::{AllocError, Global};
 use std::marker::Model;
@@ -32,7 +32,7 @@ pub(crate) struct Output {
     /// The octets of its records.
     text: Vec<u8>,
     /// Where each record ends in the text.
-    ends: Vec<u32>,
+    ends: Ends,
     /// How many octets and how many records the run had that was closed last, for which room is made in the next.
     last: Room,
 }
@@ -53,9 +53,9 @@ impl Model for Output {
 
     ghost Value = { OutputOf };
 
-    ghost view = { λ o. record { given = o.done ++ open_records (option_map arc_value o.template) (pieces o.text.items 0 o.ends.items); writing = option_map arc_value o.template } };
+    ghost view = { λ o. record { given = o.done ++ open_records (option_map arc_value o.template) (pieces o.text.items 0 o.ends); writing = option_map arc_value o.template } };
 
-    ghost invariant = { λ o. IsOutput (option_map arc_value o.template) o.text.items o.ends.items };
+    ghost invariant = { λ o. IsOutput (option_map arc_value o.template) o.text.items o.ends };
 }
 
 impl Output {
@@ -68,7 +68,7 @@ impl Output {
             done: Records::new(alloc),
             template: None,
             text: Vec::new(alloc),
-            ends: Vec::new(alloc),
+            ends: Ends::new(alloc),
             last: Room {
                 octets: 0,
                 records: 0,
@@ -87,7 +87,7 @@ impl Output {
         self.close()?;
         // Room for some records more than the last run had: one is copied whole before it is closed up.
         self.text.reserve(with_more(self.last.octets))?;
-        self.ends.reserve(with_more(self.last.records))?;
+        self.ends = Ends::with_room(self.alloc, with_more(self.last.records));
         self.template = Some(template);
         Ok(())
     }
@@ -100,7 +100,7 @@ impl Output {
         ensures { OnOk result (self.new ≡ record { given = self.old.given; writing = None }) }
     {
         let mut text = mem::replace(&mut self.text, Vec::new(self.alloc));
-        let mut ends = mem::replace(&mut self.ends, Vec::new(self.alloc));
+        let mut ends = mem::replace(&mut self.ends, Ends::new(self.alloc));
         // The run may wait for long, so room that was made for a longer one is given back.
         if text.len() < text.capacity() / 2 {
             text.shrink_to_fit();
@@ -137,12 +137,8 @@ impl Output {
         }) }
     {
         self.renew_long_run()?;
-        self.ends.reserve(1)?;
-        match put_shown(plan, flow_record, &mut self.text) {
-            Ok(end) => {
-                self.ends.push_reserved(end);
-                Ok(())
-            }
+        match put_shown(plan, flow_record, &mut self.text, &mut self.ends) {
+            Ok(()) => Ok(()),
             Err(refused) => {
                 self.text.clear();
                 self.ends.clear();
@@ -229,7 +225,7 @@ impl Output {
         self.done = Records::new(self.alloc);
         self.template = None;
         self.text = Vec::new(self.alloc);
-        self.ends = Vec::new(self.alloc);
+        self.ends = Ends::new(self.alloc);
     }
 }
 
@@ -240,7 +236,7 @@ fn with_more(count: usize) -> usize {
 
 ghost use Rattle.flow_anonymize.specs.Outcome.{passed_text};
 
-/// Appends what is shown of a record by a plan, and answers where it ends.
+/// Appends what is shown of a record by a plan, and where it ends.
 ///
 /// # Errors
 /// Want of memory, or of numbers for the end.
@@ -248,12 +244,14 @@ fn put_shown(
     plan: &Plan,
     flow_record: &RecordView<'_>,
     text: &mut Vec<u8>,
-) -> Result<u32, AllocError>
+    ends: &mut Ends,
+) -> Result<(), AllocError>
     requires { IsShowable plan.now flow_record.now }
     ensures text { OnOk result
         (text.new.items ≡ text.old.items ++ passed_text (planned plan.now flow_record.now.values)) }
-    ensures end { IfOk result (λ end. end ≡ length text.new.items) }
+    ensures end { OnOk result (ends.new ≡ ends.old ++ length text.new.items ∷ []) }
 {
     plan.put_shown(flow_record, text)?;
-    u32::try_from(text.len()).map_err(|_| AllocError)
+    let end = u32::try_from(text.len()).map_err(|_| AllocError)?;
+    ends.push(end)
 }

@@ -1,4 +1,5 @@
 pub mod PieceLaws
+pub mod EvenLaws
 pub mod RunLaws
 pub mod GapLaws
 pub mod LayoutLaws

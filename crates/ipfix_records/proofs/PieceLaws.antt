@@ -50,12 +50,13 @@ piece_at octets (suc n) from (e ∷ es) lt = piece_at octets n e es (omega arith
 pub next_end : (n : ℕ) (ends : List ℕ) → get_or (0 ∷ ends) (n + 1) 0 ≡ get_or ends n 0
 next_end n ends = rw add-one refl
 
-pub place_within : (ends : List ℕ) (n start end last : ℕ) → n < length ends → AreEnds 0 ends last → start ≡ get_or (0 ∷ ends) n 0 → end ≡ get_or (0 ∷ ends) (n + 1) 0 → (start ≤ end) × (end ≤ last)
+pub place_within : (ends : List ℕ) (n start end last : ℕ) → n < length ends → AreEnds 0 ends last → start ≡ get_or (0 ∷ ends) n 0 → end ≡ get_or ends n 0 → (start ≤ end) × (end ≤ last)
 place_within ends n start end last lt are from to =
-    (omega (arith, from, to, next_end n ends, start_below n 0 ends last lt are), omega (arith, to, end_within (n + 1) 0 ends last (omega arith) are))
+    let most : get_or ends n 0 ≤ last = end_within (suc n) 0 ends last (omega (arith, lt)) are in
+    (omega (arith, from, to, start_below n 0 ends last lt are), omega (arith, to, most))
 
-pub place_shows : (octets ends : List ℕ) (n start end : ℕ) → n < length ends → start ≡ get_or (0 ∷ ends) n 0 → end ≡ get_or (0 ∷ ends) (n + 1) 0 → take (end - start) (drop start octets) ≡ get_or (pieces octets 0 ends) n []
-place_shows octets ends n start end lt from to = rw (from, to, next_end n ends) (piece_at octets n 0 ends lt)
+pub place_shows : (octets ends : List ℕ) (n start end : ℕ) → n < length ends → start ≡ get_or (0 ∷ ends) n 0 → end ≡ get_or ends n 0 → take (end - start) (drop start octets) ≡ get_or (pieces octets 0 ends) n []
+place_shows octets ends n start end lt from to = rw (from, to) (piece_at octets n 0 ends lt)
 
 -- the texts joined are the octets between the start and the end of all
 cut_twice : (xs : List ℕ) (a b c : ℕ) → a ≤ b → b ≤ c → take (b - a) (drop a xs) ++ take (c - b) (drop b xs) ≡ take (c - a) (drop a xs)
@@ -115,19 +116,18 @@ pieces_written octets more ends are =
 -- ---- as a run shows them
 
 -- a run's texts are as many as its ends
-pub ends_there : (octets ends shown : List ℕ) (texts : List (List ℕ)) → pieces octets 0 ends ≡ texts → shown ≡ ends → length texts ≡ length shown
-ends_there octets ends shown texts view is = ap length (sym view) ∙ length_pieces octets 0 ends ∙ ap length (sym is)
+pub ends_there : (octets ends : List ℕ) (texts : List (List ℕ)) → pieces octets 0 ends ≡ texts → length texts ≡ length ends
+ends_there octets ends texts view = ap length (sym view) ∙ length_pieces octets 0 ends
 
 pub record EndShown (texts : List (List ℕ)) (n end : ℕ) : Type 0 where
   pub value : end ≡ length (concat (take n texts))
   pub within : end ≤ length (concat texts)
 
-pub end_shown : (octets ends shown : List ℕ) (texts : List (List ℕ)) (n end : ℕ) → pieces octets 0 ends ≡ texts → AreEnds 0 ends (length octets) → shown ≡ ends → n ≤ length texts → end ≡ get_or (0 ∷ shown) n 0 → EndShown texts n end
-end_shown octets ends shown texts n end view are is le at =
-    let few : n ≤ length ends = omega (arith, le, ends_there octets ends shown texts view is, ap length is) in
-    let here : end ≡ get_or (0 ∷ ends) n 0 = at ∙ ap (λ (es : List ℕ). get_or (0 ∷ es) n 0) is in
+pub end_shown : (octets ends : List ℕ) (texts : List (List ℕ)) (n end : ℕ) → pieces octets 0 ends ≡ texts → AreEnds 0 ends (length octets) → n ≤ length texts → end ≡ get_or (0 ∷ ends) n 0 → EndShown texts n end
+end_shown octets ends texts n end view are le at =
+    let few : n ≤ length ends = omega (arith, le, ends_there octets ends texts view) in
     let all : length (concat texts) ≡ length octets = ap (λ (ts : List (List ℕ)). length (concat ts)) (sym view) ∙ ap length (whole_pieces octets ends are) in
     record {
-      value = here ∙ sym (length_first_pieces n octets ends few are) ∙ ap (λ (ts : List (List ℕ)). length (concat (take n ts))) view;
-      within = omega (arith, here, all, end_within n 0 ends (length octets) few are);
+      value = at ∙ sym (length_first_pieces n octets ends few are) ∙ ap (λ (ts : List (List ℕ)). length (concat (take n ts))) view;
+      within = omega (arith, at, all, end_within n 0 ends (length octets) few are);
     }

@@ -4,6 +4,7 @@ pub use Rattle.ipfix_template.specs.Values
 pub use Rattle.ipfix_template.specs.DataRecord
 pub use Rattle.ipfix_template.specs.Shown
 pub mod Pieces
+pub mod Even
 pub mod Runs
 pub mod Gaps
 pub mod Layout

@@ -19,11 +19,13 @@
 //! what [`ipfix_template::measure`] does for the layout's template (`found`, `only`, `exact`).
 #![tactic(auto)]
 
+pub mod ends;
 mod gaps;
 pub mod layout;
 pub mod records;
 pub mod run;
 
+pub use ends::Ends;
 pub use layout::Layout;
 pub use records::Records;
 pub use run::Run;

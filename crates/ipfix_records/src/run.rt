@@ -4,6 +4,7 @@ ghost use Rattle.std.specs.Arc.{arc_value};
 ghost use Rattle.std.specs.List.{AllByRecursion, concat};
 ghost use Rattle.ipfix_records.specs.Pieces.{pieces, AreEnds};
 
+use crate::ends::Ends;
 use bytes::Bytes;
 use ipfix_template::{Record, RecordView, Template};
 use std::alloc::{AllocError, Global};
@@ -17,7 +18,7 @@ pub struct Run {
     template: Arc<Template>,
     octets: Bytes,
     /// Where each record ends in the octets.
-    ends: Vec<u32>,
+    ends: Ends,
 }
 
 impl Model for Run {
@@ -30,10 +31,10 @@ impl Model for Run {
 
     ghost Value = { RunOf };
 
-    ghost view = { λ r. record { template = arc_value r.template; texts = pieces r.octets 0 r.ends.items } };
+    ghost view = { λ r. record { template = arc_value r.template; texts = pieces r.octets 0 r.ends } };
 
-    ghost invariant = { λ r. AreEnds 0 r.ends.items (length r.octets)
-        × AllByRecursion (IsKept (arc_value r.template)) (pieces r.octets 0 r.ends.items) };
+    ghost invariant = { λ r. AreEnds 0 r.ends (length r.octets)
+        × AllByRecursion (IsKept (arc_value r.template)) (pieces r.octets 0 r.ends) };
 }
 
 impl Run {
@@ -44,11 +45,10 @@ impl Run {
     /// The records of `template` that stand in `octets`, one after another. `ends` says for each
     /// where it ends, counted from the first octet of all. Nothing is copied, and it takes no
     /// memory.
-    pub fn new(template: Arc<Template>, octets: Bytes, ends: Vec<u32>) -> Run
-        requires ends { AreEnds 0 ends.items (length octets) }
-        requires kept { AllByRecursion (IsKept (arc_value template)) (pieces octets 0 ends.items) }
-        ensures { result
-            ≡ record { template = arc_value template; texts = pieces octets 0 ends.items } }
+    pub fn new(template: Arc<Template>, octets: Bytes, ends: Ends) -> Run
+        requires ends { AreEnds 0 ends (length octets) }
+        requires kept { AllByRecursion (IsKept (arc_value template)) (pieces octets 0 ends) }
+        ensures { result ≡ record { template = arc_value template; texts = pieces octets 0 ends } }
     {
         Run {
             template,
@@ -57,11 +57,10 @@ impl Run {
         }
     }
 
-    /// The run of the record `single` alone. Its octets are not copied; the list of ends is in
-    /// memory from `alloc`.
+    /// The run of the record `single` alone. Its octets are not copied.
     ///
     /// # Errors
-    /// Want of memory for the list of ends.
+    /// Want of memory for the record's end, which is kept in memory from `alloc`.
     pub fn of_record(alloc: Global, single: Record) -> Result<Run, AllocError>
         ensures run { IfOk result (λ run. run ≡ record {
           template = single.template;
@@ -70,8 +69,8 @@ impl Run {
         ensures records { IfOk result (λ run. run_records run ≡ single ∷ []) }
     {
         let end = single.octets() as u32;
-        let mut ends = Vec::with_capacity(alloc, 1)?;
-        ends.push_reserved(end);
+        let mut ends = Ends::new(alloc);
+        ends.push(end)?;
         let (template, octets) = single.into_parts();
         Ok(Run::new(template, octets, ends))
     }
@@ -126,7 +125,7 @@ impl Run {
         ensures value { result ≡ length (concat (take count self.now.texts)) }
         ensures within { result ≤ length (concat self.now.texts) }
     {
-        end_of(&self.ends, count)
+        self.ends.end(count) as usize
     }
 
     /// The octets of the record at `index`, counted from 0.
@@ -176,12 +175,12 @@ impl Run {
     /// The template, the octets of all records, and for each record where it ends in them. Nothing
     /// is copied.
     #[tactic(auto, using(crate::proofs::PieceLaws::whole_pieces))]
-    pub fn into_parts(self) -> (Arc<Template>, Bytes, Vec<u32>)
+    pub fn into_parts(self) -> (Arc<Template>, Bytes, Ends)
         ensures template { arc_value result.0 ≡ self.template }
-        ensures texts { pieces result.1 0 result.2.items ≡ self.texts }
+        ensures texts { pieces result.1 0 result.2 ≡ self.texts }
         // The octets are those of the records, and no others.
         ensures octets { result.1 ≡ concat self.texts }
-        ensures ends { AreEnds 0 result.2.items (length result.1) }
+        ensures ends { AreEnds 0 result.2 (length result.1) }
         ensures kept { IsKeptRun self }
     {
         let Run {
@@ -209,24 +208,12 @@ impl Clone for Run {
 }
 
 /// Where the text at this index starts in the octets, and where it ends.
-fn place_of(octets: &[u8], ends: &[u32], index: usize) -> (usize, usize)
+fn place_of(octets: &[u8], ends: &Ends, index: usize) -> (usize, usize)
     requires ends { AreEnds 0 ends.now (length octets.now) }
     requires index { index < length ends.now }
     ensures within { (result.0 ≤ result.1) × (result.1 ≤ length octets.now) }
     ensures shown { take (result.1 - result.0) (drop result.0 octets.now)
         ≡ slice_index_or (pieces octets.now 0 ends.now) index [] }
 {
-    (end_of(ends, index), end_of(ends, index + 1))
-}
-
-/// Where the first `count` texts end.
-fn end_of(ends: &[u32], count: usize) -> usize
-    requires { count ≤ length ends.now }
-    ensures { result ≡ slice_index (0 ∷ ends.now) count }
-{
-    if count == 0 {
-        0
-    } else {
-        ends[count - 1] as usize
-    }
+    (ends.end(index) as usize, ends.at(index) as usize)
 }

@@ -113,9 +113,9 @@ takes_some_octets t rest size as_written keepable measured =
     let less = record_takes t keepable.accepted rest (drop size rest) (values_in t.fields rest ∷ []) measured.front in
     omega (arith, less, length-drop size rest)
 
-pub reads_all : (t : Template) (content rest : List ℕ) (found : RecordEnds) → rest ≡ drop found.used content → IsKeepable t → record_front t rest ≡ End → ReadsOn t content found.ends.items found.used found.is_shortest → FindsEnds t content (Ok found)
+pub reads_all : (t : Template) (content rest : List ℕ) (found : RecordEnds) → rest ≡ drop found.used content → IsKeepable t → record_front t rest ≡ End → ReadsOn t content found.ends found.used found.is_shortest → FindsEnds t content (Ok found)
 reads_all t content rest found is-rest keepable end done =
-    let rows = rows_of_texts t (pieces content 0 found.ends.items) in (
+    let rows = rows_of_texts t (pieces content 0 found.ends) in (
       record { ends = done.ascend; within = done.within; texts = done.texts; kept = done.kept },
       sym done.read ∙ ap (λ (o : List ℕ). with_front rows (read_all (record_front t) o)) (sym is-rest) ∙ ap (with_front rows) (at_front t keepable rest End end) ∙ ap read_rows (append-nil rows),
     )
@@ -131,17 +131,17 @@ rows_recorded : (t : Template) (texts : List (List ℕ)) → map (kept_record t)
 rows_recorded t [] = refl
 rows_recorded t (text ∷ texts) = ap (λ (rs : List DataRecord). kept_record t text ∷ rs) (rows_recorded t texts)
 
-pub run_added : (t : Template) (content : List ℕ) (found : RecordEnds) (old new : List DataRecord) (run : RunOf) → FindsEnds t content (Ok found) → run_records run ≡ map (kept_record t) (pieces content 0 found.ends.items) → new ≡ old ++ run_records run → AddsRecords t content old new (Ok tt)
+pub run_added : (t : Template) (content : List ℕ) (found : RecordEnds) (old new : List DataRecord) (run : RunOf) → FindsEnds t content (Ok found) → run_records run ≡ map (kept_record t) (pieces content 0 found.ends) → new ≡ old ++ run_records run → AddsRecords t content old new (Ok tt)
 run_added t content found old new run finds is added =
-    (rows_of_texts t (pieces content 0 found.ends.items), finds.1, added ∙ ap (λ (rs : List DataRecord). old ++ rs) (is ∙ rows_recorded t (pieces content 0 found.ends.items)))
+    (rows_of_texts t (pieces content 0 found.ends), finds.1, added ∙ ap (λ (rs : List DataRecord). old ++ rs) (is ∙ rows_recorded t (pieces content 0 found.ends)))
 
 none_of : (t : Template) (content ends : List ℕ) → length ends ≡ 0 → pieces content 0 ends ≡ []
 none_of t content [] none = refl
 none_of t content (e ∷ es) none = absurd (omega arith)
 
-pub none_added : (t : Template) (content : List ℕ) (found : RecordEnds) (records : List DataRecord) → FindsEnds t content (Ok found) → length found.ends.items ≡ 0 → AddsRecords t content records records (Ok tt)
+pub none_added : (t : Template) (content : List ℕ) (found : RecordEnds) (records : List DataRecord) → FindsEnds t content (Ok found) → length found.ends ≡ 0 → AddsRecords t content records records (Ok tt)
 none_added t content found records finds none =
-    let is = none_of t content found.ends.items none in
+    let is = none_of t content found.ends none in
     ([], finds.1 ∙ ap (λ (ts : List (List ℕ)). read_rows (rows_of_texts t ts)) is, sym (append-nil records))
 
 pub not_added : (t : Template) (content : List ℕ) (old new : List DataRecord) (e : ReadError) → FindsEnds t content (Err e) → AddsRecords t content old new (Err e)
@@ -178,13 +178,12 @@ pub record IsNext (t : Template) (content ends : List ℕ) (i start end used : �
 
 pub next_text : (t : Template) (content ends : List ℕ) (i start end used : ℕ) → AreEnds 0 ends used → AllByRecursion (IsRecordText t) (pieces content 0 ends) → i < length ends → start ≡ get_or (0 ∷ ends) i 0 → end ≡ get_or ends i 0 → IsNext t content ends i start end used
 next_text t content ends i start end used are texts lt from to =
-    let at : end ≡ get_or (0 ∷ ends) (i + 1) 0 = to ∙ sym (next_end i ends) in
-    let within = place_within ends i start end used lt are from at in
-    let shown = place_shows content ends i start end lt from at in
+    let within = place_within ends i start end used lt are from to in
+    let shown = place_shows content ends i start end lt from to in
     record {
       ordered = within.0;
       within = within.1;
-      at = at;
+      at = to ∙ sym (next_end i ends);
       text_is = shown;
       is = subst (IsRecordText t) (sym shown) (all_at (IsRecordText t) (pieces content 0 ends) i [] texts (omega (arith, lt, length_pieces content 0 ends)));
     }
@@ -250,7 +249,3 @@ kept_along t d texts others same is kept = subst (λ (x : Template). AllByRecurs
 
 pub text_along : (t d : Template) (cut text : List ℕ) → d ≡ t → text ≡ cut → IsRecordText t cut → IsRecordText d text
 text_along t d cut text same is h = subst (λ (x : Template). IsRecordText x text) (sym same) (subst (IsRecordText t) (sym is) h)
-
-pub next_read : (t : Template) (content ends shown : List ℕ) (i start used : ℕ) → shown ≡ ends → i < length shown → AreEnds 0 ends used → AllByRecursion (IsRecordText t) (pieces content 0 ends) → start ≡ get_or (0 ∷ ends) i 0 → IsNext t content ends i start (get_or shown i 0) used
-next_read t content ends shown i start used is lt are texts from =
-    next_text t content ends i start (get_or shown i 0) used are texts (omega (arith, lt, ap length is)) from (ap (λ (es : List ℕ). get_or es i 0) is)

@@ -23,14 +23,14 @@ pub record IsRecordText (t : Template) (text : List ℕ) : Type 0 where
 
 -- the ends of records that stand one after another in the content, and whether each stands as records are kept
 pub record AreFound (t : Template) (content : List ℕ) (found : RecordEnds) : Type 0 where
-  pub ends : AreEnds 0 found.ends.items found.used
+  pub ends : AreEnds 0 found.ends found.used
   pub within : found.used ≤ length content
-  pub texts : AllByRecursion (IsRecordText t) (pieces content 0 found.ends.items)
-  pub kept : found.is_shortest ≡ true → AllByRecursion (IsKept t) (pieces content 0 found.ends.items)
+  pub texts : AllByRecursion (IsRecordText t) (pieces content 0 found.ends)
+  pub kept : found.is_shortest ≡ true → AllByRecursion (IsKept t) (pieces content 0 found.ends)
 
 -- the ends of all records of the content are found, unless one runs past its end
 abbrev pub FindsEnds : Template → List ℕ → Result RecordEnds Fault → Type 0
-FindsEnds t content (Ok found) = AreFound t content found × (records_in t content ≡ Ok (map (values_in t.fields) (pieces content 0 found.ends.items)))
+FindsEnds t content (Ok found) = AreFound t content found × (records_in t content ≡ Ok (map (values_in t.fields) (pieces content 0 found.ends)))
 FindsEnds t content (Err e) = IsOverrun e (records_in t content) (Err tt)
 
 -- the records of the content are added to those before

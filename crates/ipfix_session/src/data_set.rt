@@ -9,7 +9,7 @@ ghost use Rattle.ipfix_session.specs.DataSets.{AddsRecords, AreFound, FindsEnds}
 
 use crate::fault::Fault;
 use bytes::Bytes;
-use ipfix_records::{Layout, Records, Run};
+use ipfix_records::{Ends, Layout, Records, Run};
 use ipfix_template::{Extent, Record, Template};
 use std::alloc::{AllocError, Global};
 use std::sync::Arc;
@@ -17,7 +17,7 @@ use std::sync::Arc;
 /// Where the records of a Data Set's content end, one after another.
 #[derive(Drop)]
 struct RecordEnds {
-    ends: Vec<u32>,
+    ends: Ends,
     /// The last of the ends; behind it stands padding.
     used: usize,
     /// Whether each value stands in its shortest text (RFC 7011, section 7).
@@ -56,7 +56,7 @@ fn find_ends(alloc: Global, layout: &Layout, content: &[u8]) -> Result<RecordEnd
     ensures { FindsEnds layout.now content.now result }
 {
     let most = content.len() / (layout.template().shortest() as usize).max(1);
-    let mut ends = Vec::with_capacity(alloc, most)?;
+    let mut ends = Ends::with_room(alloc, most);
     let mut used = 0;
     let mut is_shortest = true;
     'records: loop {
@@ -91,7 +91,7 @@ fn run_of(
     requires fits { FitsOneMessage content.now }
     requires found { AreFound (arc_value template.now) content.now found }
     ensures { IfOk result (λ run. run_records run
-        ≡ map (kept_record (arc_value template.now)) (pieces content.now 0 found.ends.items)) }
+        ≡ map (kept_record (arc_value template.now)) (pieces content.now 0 found.ends)) }
 {
     if found.is_shortest {
         let octets = content.slice(0..found.used)?;
@@ -110,13 +110,13 @@ fn written_anew(
     requires fits { FitsOneMessage content.now }
     requires found { AreFound (arc_value template.now) content.now found.now }
     ensures { IfOk result (λ run. run_records run
-        ≡ map (kept_record (arc_value template.now)) (pieces content.now 0 found.now.ends.items)) }
+        ≡ map (kept_record (arc_value template.now)) (pieces content.now 0 found.now.ends)) }
 {
     let mut octets = Vec::with_capacity(alloc, content.len())?;
-    let mut written = Vec::with_capacity(alloc, found.ends.len())?;
+    let mut written = Ends::with_room(alloc, found.ends.len());
     let mut start = 0;
-    for end in &found.ends {
-        let end = *end as usize;
+    for index in 0..found.ends.len() {
+        let end = found.ends.at(index) as usize;
         let text = content.slice(start..end)?;
         let single = Record::read(alloc, template.clone()?, text, false)?;
         octets.extend_from_slice(single.as_octets())?;

@@ -1,11 +1,11 @@
 -- Texts that wait: where each stands, and how many fit a room.
-use Rattle.std.proofs.Common.{◌≡◌, ℕ, zero, suc, ◌+◌, ◌-◌, ◌<◌, ◌≤◌, Bool, true, false, cond, leb, List, [], ◌∷◌, ◌++◌, length, get_or, take, drop, refl, sym, ap, ◌∙◌, arith, length-append, length-drop}
+use Rattle.std.proofs.Common.{◌≡◌, ℕ, zero, suc, ◌+◌, ◌-◌, ◌<◌, ◌≤◌, Bool, true, false, cond, leb, List, [], ◌∷◌, ◌++◌, length, get_or, take, drop, refl, sym, ap, subst, ◌∙◌, arith, length-append, length-drop}
 use Rattle.std.specs.List.{concat}
 use Rattle.std.proofs.lemmas.Bool.{le-leb, lt-leb, leb-true}
-use Rattle.std.proofs.lemmas.List.{length-take-le, take_more, drop_more, drop_all}
+use Rattle.std.proofs.lemmas.List.{length-take-le, take_more, drop_more, drop_all, drop-drop, get_or-drop}
 use Rattle.ipfix_records.specs.Pieces.{pieces, AreEnds}
 use Rattle.ipfix_records.proofs.PieceLaws.{length_pieces, take_pieces, concat_pieces, ends_ascend, ends_of_first, end_within}
-use Rattle.subscriber_stream.specs.Texts.{fitting_texts}
+use Rattle.subscriber_stream.specs.Texts.{fitting_texts, ends_left}
 
 -- ---- where they stand
 
@@ -21,6 +21,32 @@ ends_of_rest (suc n) from (e ∷ es) last le are = ends_of_rest n e es last (ome
 
 pub count_few : (octets : List ℕ) (from : ℕ) (ends : List ℕ) (count : ℕ) → count ≤ length (pieces octets from ends) → count ≤ length ends
 count_few octets from ends count le = omega (arith, le, length_pieces octets from ends)
+
+-- all of them
+pub all_left : (left : ℕ) (ends : List ℕ) → left ≡ length ends → ends_left left ends ≡ ends
+all_left left ends all =
+    let none : length ends - left ≡ 0 = omega (arith, all) in
+    ap (λ (n : ℕ). drop n ends) none
+
+-- and what is left of them
+pub left_after : (count left : ℕ) (ends : List ℕ) → count ≤ left → left ≤ length ends → drop count (ends_left left ends) ≡ ends_left (left - count) ends
+left_after count left ends few within =
+    drop-drop count (length ends - left) ends ∙ ap (λ (n : ℕ). drop n ends) (omega (arith, few, within))
+
+pub length_left : (left : ℕ) (ends : List ℕ) → left ≤ length ends → length (ends_left left ends) ≡ left
+length_left left ends within = omega (arith, within, length-drop (length ends - left) ends)
+
+-- where the first of them end
+pub end_left : (left start count all end : ℕ) (ends : List ℕ) → all ≡ length ends → 0 < count → left ≤ length ends → end ≡ get_or ends (all - left + count - 1) 0 → end ≡ get_or (start ∷ ends_left left ends) count 0
+end_left left start zero all end ends are some within is = absurd (omega arith)
+end_left left start (suc n) all end ends are some within is =
+    is ∙ ap (λ (k : ℕ). get_or ends k 0) (omega (arith, are, within)) ∙ sym (get_or-drop (length ends - left) ends n 0)
+
+-- what is left are ends from where the last that is handed out ends
+pub ends_handed : (count left start end : ℕ) (ends : List ℕ) (last : ℕ) → count ≤ left → left ≤ length ends → AreEnds start (ends_left left ends) last → end ≡ get_or (start ∷ ends_left left ends) count 0 → AreEnds end (ends_left (left - count) ends) last
+ends_handed count left start end ends last few within are is =
+    let rest = ends_of_rest count start (ends_left left ends) last (omega (arith, few, length_left left ends within)) are in
+    subst (λ (es : List ℕ). AreEnds end es last) (left_after count left ends few within) (subst (λ (e : ℕ). AreEnds e (drop count (ends_left left ends)) last) (sym is) rest)
 
 -- the first of them, from where they begin to where they end
 pub record IsFront (octets : List ℕ) (from : ℕ) (ends : List ℕ) (n end : ℕ) : Type 0 where

@@ -2,11 +2,13 @@
 ghost use Rattle.std.specs.Prelude.{◌≡◌, ◌≤◌, ◌<◌, ◌+◌, ◌-◌, ◌^◌, ◌∷◌, length, take, drop, slice_index};
 ghost use Rattle.std.specs.List.{concat};
 ghost use Rattle.ipfix_records.specs.Pieces.{pieces, AreEnds};
+ghost use Rattle.subscriber_stream.specs.Texts.{ends_left};
 
 #[cfg(test)]
 mod tests;
 
 use bytes::Bytes;
+use ipfix_records::Ends;
 use std::marker::Model;
 
 /// The texts of records of one template that wait to be handed out, one after another. Contracts see the list of them.
@@ -14,37 +16,39 @@ use std::marker::Model;
 pub(crate) struct Texts {
     octets: Bytes,
     /// Where each text ends in the octets, also of those that were handed out.
-    ends: Vec<u32>,
-    /// How many were handed out.
-    handed: usize,
-    /// Where the last of these ends.
+    ends: Ends,
+    /// How many were not handed out.
+    left: usize,
+    /// Where the first of these starts.
     start: u32,
 }
 
 impl Model for Texts {
-    ghost use Rattle.std.specs.Prelude.{◌≤◌, ℕ, List, length, drop};
+    ghost use Rattle.std.specs.Prelude.{◌≤◌, ℕ, List, length};
     ghost use Rattle.ipfix_records.specs.Pieces.{pieces, AreEnds};
+    ghost use Rattle.subscriber_stream.specs.Texts.{ends_left};
 
     ghost Value = { List (List ℕ) };
 
-    ghost view = { λ t. pieces t.octets t.start (drop t.handed t.ends.items) };
+    ghost view = { λ t. pieces t.octets t.start (ends_left t.left t.ends) };
 
-    ghost invariant = { λ t. AreEnds t.start (drop t.handed t.ends.items) (length t.octets)
-        × (t.handed ≤ length t.ends.items) };
+    ghost invariant = { λ t. AreEnds t.start (ends_left t.left t.ends) (length t.octets)
+        × (t.left ≤ length t.ends) };
 }
 
 impl Texts {
     ghost use Rattle.subscriber_stream.specs.Texts.{fitting_texts};
 
     /// The texts that end at these places of the octets.
-    pub(crate) fn new(octets: Bytes, ends: Vec<u32>) -> Texts
-        requires { AreEnds 0 ends.items (length octets) }
-        ensures { result ≡ pieces octets 0 ends.items }
+    pub(crate) fn new(octets: Bytes, ends: Ends) -> Texts
+        requires { AreEnds 0 ends (length octets) }
+        ensures { result ≡ pieces octets 0 ends }
     {
+        let left = ends.len();
         Texts {
             octets,
             ends,
-            handed: 0,
+            left,
             start: 0,
         }
     }
@@ -53,7 +57,7 @@ impl Texts {
     pub(crate) fn len(&self) -> usize
         ensures { result ≡ length self.now }
     {
-        self.ends.len() - self.handed
+        self.left
     }
 
     /// The octets of the first `count` of them.
@@ -62,7 +66,7 @@ impl Texts {
         ensures exact { result ≡ length (concat (take count self.now)) }
         ensures few { result < 2 ^ 32 }
     {
-        (end_of(&self.ends, self.handed, self.start, count) - self.start) as usize
+        (end_of(&self.ends, self.left, self.start, count) - self.start) as usize
     }
 
     /// The first `count` of them, one after another.
@@ -70,7 +74,7 @@ impl Texts {
         requires { count ≤ length self.now }
         ensures { result.now ≡ concat (take count self.now) }
     {
-        let end = end_of(&self.ends, self.handed, self.start, count);
+        let end = end_of(&self.ends, self.left, self.start, count);
         between(&self.octets, self.start, end)
     }
 
@@ -92,20 +96,21 @@ impl Texts {
         requires { count ≤ length self.old }
         ensures { self.new ≡ drop count self.old }
     {
-        self.start = end_of(&self.ends, self.handed, self.start, count);
-        self.handed += count;
+        self.start = end_of(&self.ends, self.left, self.start, count);
+        self.left -= count;
     }
 }
 
-/// Where the first `count` texts end behind those that were handed out, of which the last ends at `start`.
-fn end_of(ends: &[u32], handed: usize, start: u32, count: usize) -> u32
-    requires { handed + count ≤ length ends.now }
-    ensures { result ≡ slice_index (start ∷ drop handed ends.now) count }
+/// Where the first `count` texts end, of the last `left`, of which the first starts at `start`.
+fn end_of(ends: &Ends, left: usize, start: u32, count: usize) -> u32
+    requires few { count ≤ left }
+    requires within { left ≤ length ends.now }
+    ensures { result ≡ slice_index (start ∷ ends_left left ends.now) count }
 {
     if count == 0 {
         start
     } else {
-        ends[handed + count - 1]
+        ends.at(ends.len() - left + count - 1)
     }
 }
 

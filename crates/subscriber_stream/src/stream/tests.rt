@@ -7,7 +7,7 @@ use crate::waiting::Waiting;
 use bytes::Bytes;
 use ipfix_element::ElementId;
 use ipfix_octets::message_format::LEAST_TEMPLATE_ID;
-use ipfix_records::Records;
+use ipfix_records::{Ends, Records};
 use ipfix_template::{FieldSpec, Fields, Record, Template, Values};
 use std::alloc::{AllocError, Global};
 use std::collections::VecDeque;
@@ -79,10 +79,10 @@ fn a_record_waits_as_its_octets(rt: HostRuntime) -> Result<(), Fail> {
 
 /// Three texts of one octet and two, and of none.
 fn three_texts(alloc: Global) -> Result<Texts, AllocError> {
-    let mut ends = Vec::with_capacity(alloc, 3)?;
-    ends.push_reserved(1);
-    ends.push_reserved(3);
-    ends.push_reserved(3);
+    let mut ends = Ends::new(alloc);
+    ends.push(1)?;
+    ends.push(3)?;
+    ends.push(3)?;
     Ok(Texts::new(Bytes::from_static(b"abc"), ends))
 }
 

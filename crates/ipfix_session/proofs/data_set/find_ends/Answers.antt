@@ -11,7 +11,7 @@ returns-in-Padding c =
 
 pub returns-in-Overrun : goal.returns-in-Overrun
 returns-in-Overrun c =
-    reads_overrun c.args.layout.now c.args.content.now _ c.records.ends.items c.records.used c.records.is_shortest (take_rest c.args.content.now c.records.used) c.requires.keepable c.in-Overrun.ensures.exact c.records.invariant
+    reads_overrun c.args.layout.now c.args.content.now _ c.records.ends c.records.used c.records.is_shortest (take_rest c.args.content.now c.records.used) c.requires.keepable c.in-Overrun.ensures.exact c.records.invariant
 
 pub records-smaller : goal.records-smaller
 records-smaller c =
@@ -28,4 +28,4 @@ records-preserved c =
     let rest = take (length content - c.records.used) (drop c.records.used content) in
     let both : c.if-is_shortest.is_shortest ≡ (c.records.is_shortest && c.in-Record.as_written) = elim c.if-is_shortest.branch [ then-is_shortest w ↦ search rules | else-is_shortest w ↦ search rules ] in
     let is = measured t rest c.in-Record.size c.in-Record.as_written c.in-Record.ensures.found c.in-Record.ensures.exact in
-    rw c.in_ok-push-in-Record.ensures.items (reads_more t content rest c.records.ends.items c.records.used c.in-Record.size c.records.is_shortest c.in-Record.as_written c.if-is_shortest.is_shortest (take_rest content c.records.used) both c.requires.keepable c.requires.fits is c.records.invariant)
+    rw c.in_ok-push-in-Record.ensures.ok (reads_more t content rest c.records.ends c.records.used c.in-Record.size c.records.is_shortest c.in-Record.as_written c.if-is_shortest.is_shortest (take_rest content c.records.used) both c.requires.keepable c.requires.fits is c.records.invariant)

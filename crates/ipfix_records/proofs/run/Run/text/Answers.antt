@@ -5,4 +5,4 @@ use Rattle.ipfix_records.proofs.run.Run.text.Goals as goal
 
 pub place_of-start-requires-clause-index : goal.place_of-start-requires-clause-index
 place_of-start-requires-clause-index c =
-    omega (arith, c.requires, ends_there c.self.inside.octets c.self.inside.ends.items c.deref-2.result.now c.args.self.now.texts (ap (λ (r : RunOf). r.texts) c.self.view_is) c.deref-2.ensures.value)
+    omega (arith, c.requires, ends_there c.self.inside.octets c.self.inside.ends c.args.self.now.texts (ap (λ (r : RunOf). r.texts) c.self.view_is))

@@ -1,20 +1,19 @@
-use Rattle.std.proofs.Common.{◌≤◌, drop, length, ap, ◌∙◌, arith, length-drop}
-use Rattle.subscriber_stream.proofs.TextLaws.{is_front, count_few}
+use Rattle.std.proofs.Common.{◌∙◌, arith}
+use Rattle.subscriber_stream.specs.Texts.{ends_left}
+use Rattle.subscriber_stream.proofs.TextLaws.{is_front, count_few, length_left}
 use Rattle.subscriber_stream.proofs.texts.Texts.front.Goals as goal
 
-few : (c : goal.After-deref) → c.args.count ≤ length (drop c.self.inside.handed c.self.inside.ends.items)
-few c = count_few c.self.inside.octets c.self.inside.start _ c.args.count (rw (← c.self.view_is) at c.requires)
-
-pub end_of-end-requires : goal.end_of-end-requires
-end_of-end-requires c =
-    omega (arith, few c, length-drop c.self.inside.handed c.self.inside.ends.items, ap length c.deref.ensures.value, c.self.invariant.1)
+pub end_of-end-requires-clause-few : goal.end_of-end-requires-clause-few
+end_of-end-requires-clause-few c =
+    let few = count_few c.self.inside.octets c.self.inside.start (ends_left c.self.inside.left c.self.inside.ends) c.args.count (rw (← c.self.view_is) at c.requires) in
+    omega (arith, few, length_left c.self.inside.left c.self.inside.ends c.self.invariant.1)
 
 pub between-requires : goal.between-requires
 between-requires c =
-    let front = is_front c.self.inside.octets c.self.inside.start (drop c.self.inside.handed c.self.inside.ends.items) c.args.count c.end_of-end.result (count_few c.self.inside.octets c.self.inside.start _ c.args.count (rw (← c.self.view_is) at c.requires)) c.self.invariant.0 (rw c.deref.ensures.value at c.end_of-end.ensures) in
-    record { order = front.behind; within = rw c.deref-2.ensures front.within }
+    let front = is_front c.self.inside.octets c.self.inside.start (ends_left c.self.inside.left c.self.inside.ends) c.args.count c.end_of-end.result (count_few c.self.inside.octets c.self.inside.start (ends_left c.self.inside.left c.self.inside.ends) c.args.count (rw (← c.self.view_is) at c.requires)) c.self.invariant.0 c.end_of-end.ensures in
+    record { order = front.behind; within = rw c.deref.ensures front.within }
 
 pub returns : goal.returns
 returns c =
-    let front = is_front c.self.inside.octets c.self.inside.start (drop c.self.inside.handed c.self.inside.ends.items) c.args.count c.end_of-end.result (count_few c.self.inside.octets c.self.inside.start _ c.args.count (rw (← c.self.view_is) at c.requires)) c.self.invariant.0 (rw c.deref.ensures.value at c.end_of-end.ensures) in
-    rw (← c.self.view_is) (c.between.ensures ∙ rw c.deref-2.ensures front.shown)
+    let front = is_front c.self.inside.octets c.self.inside.start (ends_left c.self.inside.left c.self.inside.ends) c.args.count c.end_of-end.result (count_few c.self.inside.octets c.self.inside.start (ends_left c.self.inside.left c.self.inside.ends) c.args.count (rw (← c.self.view_is) at c.requires)) c.self.invariant.0 c.end_of-end.ensures in
+    rw (← c.self.view_is) (c.between.ensures ∙ rw c.deref.ensures front.shown)
