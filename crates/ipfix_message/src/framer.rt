@@ -1,5 +1,5 @@
 //! A stream of octets, cut into IPFIX messages as its octets come (RFC 7011, sections 3.1 and 10.4).
-ghost use Rattle.std.specs.Prelude.{◌≡◌, ◌≤◌, [], length, drop, None, IsSome, IfSome, IfOk, IfErr};
+ghost use Rattle.std.specs.Prelude.{◌≡◌, [], length, None, IsSome, IfSome, IfOk, IfErr};
 ghost use Rattle.ipfix_message.specs.Framing.{EndsStream};
 ghost use Rattle.ipfix_message.specs.FramerState.{nothing_fed, FeedGoesOn, FailsBy};
 
@@ -11,7 +11,7 @@ use std::marker::Model;
 mod cut;
 mod scan;
 
-use cut::cut_messages;
+use cut::take_messages;
 use scan::extent_of;
 
 /// Cuts a stream of octets into whole messages, whatever the pieces that it comes in.
@@ -93,20 +93,18 @@ impl Framer {
         let before = self.held.len();
         self.held.extend_from_slice(piece)?;
         let extent = extent_of(self.held.as_slice());
-        let alloc = *self.held.allocator();
-        let Ok(messages) = cut_messages(alloc, &self.held[..extent.whole]) else {
+        let Ok(messages) = take_messages(&mut self.held, extent.whole, piece.len()) else {
             self.held.truncate(before);
             return Err(Fault::OutOfMemory);
         };
-        if let Some(fault) = extent.fault {
-            self.fault = Some(fault);
-            self.held.clear();
-            if messages.is_empty() {
-                return Err(fault);
-            }
+        let Some(fault) = extent.fault else {
             return Ok(messages);
+        };
+        self.fault = Some(fault);
+        self.held.clear();
+        if messages.is_empty() {
+            return Err(fault);
         }
-        drop_front(&mut self.held, extent.whole);
         Ok(messages)
     }
 
@@ -124,18 +122,5 @@ impl Framer {
         ensures emptied { IsSome self.now.fault → result ≡ 0 }
     {
         self.held.len()
-    }
-}
-
-/// Moves the octets from `count` on to the front. It touches none where there is nothing to take away, so
-/// that small pieces of a long message cost no more than themselves.
-fn drop_front(octets: &mut Vec<u8>, count: usize)
-    requires { count ≤ length octets.old.items }
-    ensures { octets.new.items ≡ drop count octets.old.items }
-{
-    if count > 0 {
-        let left = octets.len() - count;
-        octets.copy_within(count.., 0);
-        octets.truncate(left);
     }
 }

@@ -217,12 +217,16 @@ narrow_digit_of cuts r place from octets address digit there is text number made
     let same : address ≡ be_value value = number ∙ ap be_value (part_is 4 from octets (text_of r) text) in
     made ∙ ap (λ (n : ℕ). 2 * class_of cuts n + 1) same ∙ four_digit cuts value (part_long 4 from (text_of r) within) ∙ ap (λ (p : Place). digit_of cuts (value_at r p)) (sym is)
 
--- the key of the value at a place that stands alone, which is an address of IPv4
-pub lone_narrow_key : (cuts : List ℕ) (r : DataRecord) (places : List Place) (none : Place) (from : ℕ) (octets : List ℕ) (address digit : ℕ) (key : Option ℕ) → All (HasPlace r) places → length places ≡ 1 → get_or places 0 none ≡ Narrow from → octets ≡ text_of r
+-- there is a place where an address of IPv4 is the only one
+pub lone_has : (r : DataRecord) (places : List Place) (from : ℕ) → All (HasPlace r) places → places ≡ Narrow from ∷ [] → HasPlace r (Narrow from)
+lone_has r places from there lone = subst (λ ps. All (HasPlace r) ps) lone there 0 (Narrow from) (omega arith)
+
+-- the key of an address of IPv4 at the only place
+pub lone_narrow_key : (cuts : List ℕ) (r : DataRecord) (places : List Place) (from : ℕ) (octets : List ℕ) (address digit : ℕ) (key : Option ℕ) → All (HasPlace r) places → places ≡ Narrow from ∷ [] → octets ≡ text_of r
     → address ≡ be_value (take (from + 4 - from) (drop from octets)) → digit ≡ 2 * class_of cuts address + 1 → key ≡ with_digit (Some 1) digit → key ≡ class_key cuts (map (value_at r) places)
-lone_narrow_key cuts r [] none from octets address digit key there one is text number made with = absurd (omega (arith, one))
-lone_narrow_key cuts r (p ∷ []) none from octets address digit key there one is text number made with = with ∙ ap (with_digit (Some 1)) (narrow_digit_of cuts r p from octets address digit (there 0 none (omega arith)) is text number made)
-lone_narrow_key cuts r (p ∷ q ∷ ps) none from octets address digit key there one is text number made with = absurd (omega (arith, one))
+lone_narrow_key cuts r places from octets address digit key there lone text number made with =
+    with ∙ ap (with_digit (Some 1)) (narrow_digit_of cuts r (Narrow from) from octets address digit (lone_has r places from there lone) refl text number made)
+    ∙ ap (λ ps. class_key cuts (map (value_at r) ps)) (sym lone)
 
 pub wide_digit_of : (cuts : List ℕ) (r : DataRecord) (place : Place) (from : ℕ) (octets : List ℕ) (digit : ℕ) → HasPlace r place → place ≡ Wide from → octets ≡ text_of r
     → digit ≡ 2 * class_of cuts (be_value (take (from + 16 - from) (drop from octets))) + 2 → digit ≡ digit_of cuts (value_at r place)

@@ -1,5 +1,5 @@
 //! The keys of a record's addresses, by the places that its template gives them.
-ghost use Rattle.std.specs.Prelude.{◌≡◌, ◌≤◌, ◌<◌, ◌+◌, ◌*◌, [], length, map, slice_index_or};
+ghost use Rattle.std.specs.Prelude.{◌≡◌, ◌≤◌, ◌<◌, ◌+◌, ◌*◌, ◌∷◌, [], length, map, slice_index_or, IfSome};
 ghost use Rattle.std.specs.List.{All};
 ghost use Rattle.std.specs.Arc.{arc_value};
 ghost use Rattle.sequences.specs.Octets.{be_value};
@@ -9,6 +9,7 @@ ghost use Rattle.policy_judge.specs.Occurrences.{values_of};
 ghost use Rattle.rule_table.specs.Cuts.{most_cuts};
 ghost use Rattle.rule_table.specs.Classes.{class_of, digit_of, class_key};
 ghost use Rattle.rule_table.specs.Places.{HasPlace, value_at};
+ghost use Rattle.rule_table.specs.declared.place.Place.TheVariants.{Narrow};
 ghost use Rattle.rule_table.specs.Spans.{IsSpan, IsWideSpan, AreSpans};
 
 use crate::classes::{AddressClasses, EMPTY_KEY, narrow_number, wide_number, with_digit};
@@ -81,16 +82,34 @@ impl RecentClasses {
         // What is read of the cuts has what their type keeps of them, as `few` says.
         let _for_proof = self.classes.cuts().len();
         let _for_proof = flow_record.template();
-        let sources = key_at(
-            &self.classes,
-            &mut self.sources,
-            places.sources(),
-            flow_record,
-        );
+        let (sources, destinations) = (places.sources(), places.destinations());
+        // Most records have one address on a side, and most are of IPv4.
+        if let (Some(source), Some(destination)) = (
+            lone_narrow(sources),
+            lone_narrow(destinations),
+        ) {
+            return (
+                narrow_key(
+                    &self.classes,
+                    &mut self.sources,
+                    sources,
+                    source,
+                    flow_record,
+                ),
+                narrow_key(
+                    &self.classes,
+                    &mut self.destinations,
+                    destinations,
+                    destination,
+                    flow_record,
+                ),
+            );
+        }
+        let sources = key_at(&self.classes, &mut self.sources, sources, flow_record);
         let destinations = key_at(
             &self.classes,
             &mut self.destinations,
-            places.destinations(),
+            destinations,
             flow_record,
         );
         (sources, destinations)
@@ -99,6 +118,38 @@ impl RecentClasses {
 
 /// The most digits that a key has room for.
 const MOST_DIGITS: usize = 3;
+
+/// Where the address of IPv4 stands, where that is the only place.
+fn lone_narrow(places: &[Place]) -> Option<usize>
+    ensures { IfSome result (λ from. places.now ≡ Narrow from ∷ []) }
+{
+    match places {
+        [place] => match place {
+            Place::Narrow(from) => Some(*from),
+            _ => None,
+        },
+        _ => None,
+    }
+}
+
+/// The key of the address of IPv4 at `from`, which is the only one of these places.
+fn narrow_key(
+    classes: &AddressClasses,
+    spans: &mut Spans,
+    places: &[Place],
+    from: usize,
+    flow_record: &RecordView<'_>,
+) -> Option<u64>
+    requires there { All (HasPlace flow_record.now) places.now }
+    requires lone { places.now ≡ Narrow from ∷ [] }
+    requires spans { AreSpans classes.now spans.old }
+    ensures key { result ≡ class_key classes.now (map (value_at flow_record.now) places.now) }
+    ensures spans { AreSpans classes.now spans.new }
+{
+    let address = narrow_number(&flow_record.as_octets()[from..from + IPV4_OCTETS]);
+    let digit = narrow_digit(classes, &mut spans.narrow, address);
+    with_digit(Some(EMPTY_KEY), digit)
+}
 
 /// The key of the values at these places, of which the last ones that were looked up lie in the spans.
 fn key_at(
@@ -112,13 +163,9 @@ fn key_at(
     ensures key { result ≡ class_key classes.now (map (value_at flow_record.now) places.now) }
     ensures spans { AreSpans classes.now spans.new }
 {
-    // Most records have one address on a side, and most are of IPv4.
     if let [place] = places {
-        if let Place::Narrow(from) = place {
-            let address = narrow_number(&flow_record.as_octets()[*from..*from + IPV4_OCTETS]);
-            let digit = narrow_digit(classes, &mut spans.narrow, address);
-            return with_digit(Some(EMPTY_KEY), digit);
-        }
+        let digit = digit_at(classes, spans, place, flow_record);
+        return with_digit(Some(EMPTY_KEY), digit);
     }
     key_of_several(classes, spans, places, flow_record)
 }

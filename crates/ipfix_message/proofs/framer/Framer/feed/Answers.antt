@@ -10,20 +10,10 @@ returns-then-is_empty-clause-err c =
     let held = c.extend_from_slice.new.self.items in
     let out = c.in-Ok.messages.items in
     let extent : IsExtent held e = rw c.as_slice.ensures.value at c.extent_of-extent.ensures in
-    let cut : AreCut (take e.whole held) out = rw c.deref.ensures.value at c.in-Ok.ensures in
+    let cut : AreCut (take e.whole held) out = c.in-Ok.ensures.ok in
     let nothing : out ≡ [] = grind (arith, common_steps) in
     rw (← c.self.view_is)
     (stops_at_once _ _ c.args.piece.now held e out c.in-Some-fault.fault c.in_default.is c.in_ok-extend_from_slice.ensures.items extent cut c.in-Some-fault.is refl c.clear.ensures.items nothing)
-
-pub returns-in-Some-fault-clause-ok : goal.returns-in-Some-fault-clause-ok
-returns-in-Some-fault-clause-ok c =
-    let e = c.extent_of-extent.result in
-    let held = c.extend_from_slice.new.self.items in
-    let out = c.in-Ok.messages.items in
-    let extent : IsExtent held e = rw c.as_slice.ensures.value at c.extent_of-extent.ensures in
-    let cut : AreCut (take e.whole held) out = rw c.deref.ensures.value at c.in-Ok.ensures in
-    rw (← c.self.view_is)
-    (c.in_default.is, stops _ _ c.args.piece.now held e out c.in-Some-fault.fault c.in_default.is c.in_ok-extend_from_slice.ensures.items extent cut c.in-Some-fault.is refl c.clear.ensures.items)
 
 pub returns-clause-ok : goal.returns-clause-ok
 returns-clause-ok c =
@@ -31,6 +21,16 @@ returns-clause-ok c =
     let held = c.extend_from_slice.new.self.items in
     let out = c.in-Ok.messages.items in
     let extent : IsExtent held e = rw c.as_slice.ensures.value at c.extent_of-extent.ensures in
-    let cut : AreCut (take e.whole held) out = rw c.deref.ensures.value at c.in-Ok.ensures in
+    let cut : AreCut (take e.whole held) out = c.in-Ok.ensures.ok in
     rw (← c.self.view_is)
-    (c.in_default.is, goes_on _ _ c.args.piece.now held e out c.in_default.is c.in_ok-extend_from_slice.ensures.items extent cut c.in_default-fault.is c.in_default.is c.drop_front.ensures)
+    (c.in_default.is, stops _ _ c.args.piece.now held e out c.in-Some-fault.fault c.in_default.is c.in_ok-extend_from_slice.ensures.items extent cut c.in-Some-fault.is refl c.clear.ensures.items)
+
+pub returns-in_default-fault-clause-ok : goal.returns-in_default-fault-clause-ok
+returns-in_default-fault-clause-ok c =
+    let e = c.extent_of-extent.result in
+    let held = c.extend_from_slice.new.self.items in
+    let out = c.in-Ok.messages.items in
+    let extent : IsExtent held e = rw c.as_slice.ensures.value at c.extent_of-extent.ensures in
+    let cut : AreCut (take e.whole held) out = c.in-Ok.ensures.ok in
+    rw (← c.self.view_is)
+    (c.in_default.is, goes_on _ _ c.args.piece.now held e out c.in_default.is c.in_ok-extend_from_slice.ensures.items extent cut c.in_default-fault.is c.in_default.is c.in-Ok.ensures.rest)
