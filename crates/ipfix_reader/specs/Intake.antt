@@ -10,37 +10,38 @@ use Rattle.ipfix_reader.specs.declared.fault.FramingFault.TheVariants.{BadVersio
 use Rattle.ipfix_reader.specs.declared.fault.Fault.{Fault}
 use Rattle.ipfix_reader.specs.declared.fault.Fault.TheVariants.{Read, Framing, Turns, OutOfMemory}
 
--- how the octets that were read are framed so far, and how many reads are left
+-- how the octets that were read are framed so far, the most octets of one read, and how many reads are left
 pub record IntakeState : Type 0 where
   pub framing : FramerState
+  pub most : ℕ
   pub turns : ℕ
 
 -- before the first read
-abbrev pub nothing_read : ℕ → IntakeState
-nothing_read turns = record { framing = nothing_fed; turns = turns }
+abbrev pub nothing_read : ℕ → ℕ → IntakeState
+nothing_read most turns = record { framing = nothing_fed; most = most; turns = turns }
 
--- octets that one read gave, at least one and at most 65,536
-pub record IsPiece (given left : Option (List ℕ)) (piece : List ℕ) : Type 0 where
+-- octets that one read gave, at least one and at most that many
+pub record IsPiece (most : ℕ) (given left : Option (List ℕ)) (piece : List ℕ) : Type 0 where
   pub read : Consumes given left piece
   pub some : 0 < length piece
-  pub few : length piece ≤ 65536
+  pub few : length piece ≤ most
 
--- this many reads, each of at most 65,536 octets, may have given these octets
-abbrev pub AreRead : ℕ → List ℕ → Type 0
-AreRead reads octets = length octets ≤ 65536 * reads
+-- this many reads, each of at most that many octets, may have given these octets
+abbrev pub AreRead : ℕ → ℕ → List ℕ → Type 0
+AreRead most reads octets = length octets ≤ most * reads
 
 -- this many reads, of which one gave none, may have given these octets
-abbrev pub AreReadBut : ℕ → List ℕ → Type 0
-AreReadBut reads octets = length octets + 65536 ≤ 65536 * reads
+abbrev pub AreReadBut : ℕ → ℕ → List ℕ → Type 0
+AreReadBut most reads octets = length octets + most ≤ most * reads
 
--- a read more was made
+-- a read more was made, and the most octets of one stay
 abbrev pub UsesTurn : IntakeState → IntakeState → Type 0
-UsesTurn old new = new.turns + 1 ≡ old.turns
+UsesTurn old new = (new.turns + 1 ≡ old.turns) × (new.most ≡ old.most)
 
 -- a piece was read, and with it the stream goes on by these messages
 pub record Yields (old : IntakeState) (given left : Option (List ℕ)) (out : List (List ℕ)) (new : IntakeState) : Type 0 where
   pub piece : List ℕ
-  pub is_piece : IsPiece given left piece
+  pub is_piece : IsPiece old.most given left piece
   pub sound : old.framing.fault ≡ None
   pub goes_on : Continues old.framing piece out new.framing
   pub turn : UsesTurn old new
@@ -61,7 +62,7 @@ pub record IsIdle (old : IntakeState) (given left : Option (List ℕ)) (new : In
 -- a piece was read, and it shows this fault before any message more is whole
 pub record Faults (fault : DecodeError) (old : IntakeState) (given left : Option (List ℕ)) (new : IntakeState) : Type 0 where
   pub piece : List ℕ
-  pub is_piece : IsPiece given left piece
+  pub is_piece : IsPiece old.most given left piece
   pub sound : old.framing.fault ≡ None
   pub fault_is : new.framing.fault ≡ Some fault
   pub goes_on : Continues old.framing piece [] new.framing
@@ -90,7 +91,7 @@ pub record FailsToRead (old : IntakeState) (given left : Option (List ℕ)) (new
 -- a piece was read and found no memory: it is no part of the stream
 pub record LosesPiece (old : IntakeState) (given left : Option (List ℕ)) (new : IntakeState) : Type 0 where
   pub piece : List ℕ
-  pub is_piece : IsPiece given left piece
+  pub is_piece : IsPiece old.most given left piece
   pub sound : old.framing.fault ≡ None
   pub same : new.framing ≡ old.framing
   pub turn : UsesTurn old new

@@ -10,52 +10,75 @@ use octet_io::{Failed, Source};
 use std::alloc::{AllocError, Global};
 use std::marker::Model;
 
-/// The most octets of one read.
+/// The most octets of the first read, and of each read of an intake that doesn't widen.
 const PIECE: usize = 65_536;
 
-/// Reads a source in pieces of at most 65,536 octets, and hands out the messages that they make whole. It makes at most
-/// as many reads as it is allowed. Contracts see the octets of a message that isn't whole yet, the fault of the stream,
-/// and the reads that are left.
+/// The most octets of one read of an intake that widens.
+const WIDEST: usize = 262_144;
+
+/// Reads a source in pieces, and hands out the messages that they make whole. It makes at most as many reads as it is
+/// allowed. Contracts see the octets of a message that isn't whole yet, the fault of the stream, the most octets of one
+/// read, and the reads that are left.
 #[derive(Drop)]
 pub struct Intake {
     framer: Framer,
-    /// Room for one piece: there is some, and no more than [`PIECE`].
+    /// Room for one piece: there is some.
     buffer: Vec<u8>,
+    /// The most octets of one read. The room is never wider.
+    most: usize,
     /// The reads that are left.
     turns: u64,
 }
 
 impl Model for Intake {
-    ghost use Rattle.std.specs.Prelude.{◌≡◌, length};
+    ghost use Rattle.std.specs.Prelude.{◌<◌, ◌≤◌, length};
     ghost use Rattle.ipfix_reader.specs.Intake.{IntakeState};
 
     ghost Value = { IntakeState };
 
-    ghost view = { λ i. record { framing = i.framer; turns = i.turns } };
+    ghost view = { λ i. record { framing = i.framer; most = i.most; turns = i.turns } };
 
-    ghost invariant = { λ i. length i.buffer.items ≡ 65536 };
+    ghost invariant = { λ i. (0 < length i.buffer.items) × (length i.buffer.items ≤ i.most) };
 }
 
 impl Intake {
-    /// An intake at the start of a stream, which makes at most `turns` reads. It takes memory from `alloc`: room for a
-    /// piece now, and what messages need as they are read.
+    /// An intake at the start of a stream, which makes at most `turns` reads, each of at most 65,536 octets. It takes
+    /// memory from `alloc`: room for a piece now, and what messages need as they are read.
     ///
     /// # Errors
     /// Want of memory.
     pub fn new(alloc: Global, turns: u64) -> Result<Intake, AllocError>
-        ensures { IfOk result (λ i. i ≡ nothing_read turns) }
+        ensures { IfOk result (λ i. i ≡ nothing_read 65536 turns) }
     {
         Ok(Intake {
             framer: Framer::new(alloc),
             buffer: Vec::from_elem(alloc, 0, PIECE)?,
+            most: PIECE,
             turns,
         })
     }
 
-    /// Reads from `reader` once more, at most 65,536 octets, and hands out the messages that became whole by it, which
-    /// may be none; or answers `None` where the stream has ended and no message was begun. A message begins directly
-    /// where the one before it ends (RFC 7011, sections 3.1 and 10.4). The messages of one call share one block of
-    /// memory. `reader` is the same at each call.
+    /// An intake as of [`Intake::new`], but that widens: its first read brings at most 65,536 octets, and after each
+    /// read that brought as much as it could the next one may bring twice as much, up to 262,144 octets. Room that finds
+    /// no memory in `alloc` then stays as it is. `turns` is the most reads.
+    ///
+    /// # Errors
+    /// Want of memory.
+    pub fn widening(alloc: Global, turns: u64) -> Result<Intake, AllocError>
+        ensures { IfOk result (λ i. i ≡ nothing_read 262144 turns) }
+    {
+        Ok(Intake {
+            framer: Framer::new(alloc),
+            buffer: Vec::from_elem(alloc, 0, PIECE)?,
+            most: WIDEST,
+            turns,
+        })
+    }
+
+    /// Reads from `reader` once more, and hands out the messages that became whole by it, which may be none; or answers
+    /// `None` where the stream has ended and no message was begun. A message begins directly where the one before it
+    /// ends (RFC 7011, sections 3.1 and 10.4). The messages of one call share one block of memory. `reader` is the same
+    /// at each call.
     ///
     /// # Errors
     /// - [`Fault::Read`]: the reader failed. Nothing was read.
@@ -84,7 +107,11 @@ impl Intake {
         if count == 0 {
             return self.end();
         }
-        match self.framer.feed(&self.buffer.as_slice()[..count]) {
+        let fed = self.framer.feed(&self.buffer.as_slice()[..count]);
+        if count == self.buffer.len() {
+            widen(&mut self.buffer, self.most);
+        }
+        match fed {
             Ok(messages) => Ok(Some(messages)),
             Err(fault) => Err(stream_fault(fault)),
         }
@@ -135,6 +162,16 @@ fn read_piece<R: Source>(reader: &mut R, buffer: &mut Vec<u8>) -> Result<usize, 
         Ok(count) => Ok(count),
         Err(Failed) => Err(Fault::Read),
     }
+}
+
+/// Gives `buffer` twice as much room, and no more than `most`. It stays as it is where there is no memory.
+fn widen(buffer: &mut Vec<u8>, most: usize)
+    requires { length buffer.old.items ≤ most }
+    ensures some { length buffer.old.items ≤ length buffer.new.items }
+    ensures few { length buffer.new.items ≤ most }
+{
+    let room = buffer.len().saturating_mul(2).min(most);
+    let _widened = buffer.resize(room, 0);
 }
 
 /// The fault of an intake for `fault`, the refusal of its framer. That refuses by `BadVersion`, `BadLength` and

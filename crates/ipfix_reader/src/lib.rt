@@ -7,7 +7,8 @@
 //! Proved, over any `Source`: the octets that are read are framed into the messages that are handed out, and what is
 //! pending (`Intake::next`, `ok`); the answer None stands only at the end, with nothing pending; each fault stands only
 //! where its cause does, and a fault of the stream comes after all messages before it (`err`); only a failed read leaves
-//! a failed reader (`sound`, `fails`). Each call makes one read at most, of at most 65,536 octets.
+//! a failed reader (`sound`, `fails`). Each call makes one read at most, of at most 65,536 octets, or of an intake that
+//! widens 262,144. That this one begins with 65,536, and that its room grows, no clause says.
 #![tactic(auto)]
 
 mod fault;
