@@ -34,13 +34,14 @@ same_read given mid left octets taken none = subst (Consumes given left) (append
 
 -- ---- on the way
 
-pub reading_starts : (turns : ℕ) (i : IntakeState) (given : Option (List ℕ)) (d : Exporting) → i ≡ nothing_read turns → Reaches turns i given given d d
+pub reading_starts : (turns : ℕ) (i : IntakeState) (given : Option (List ℕ)) (d : Exporting) → i ≡ nothing_read 262144 turns → Reaches turns i given given d d
 reading_starts turns i given d new = record {
   octets = [];
   messages = [];
   taken = Consumes-nil given;
   all = record { framed = subst (λ x. IsFramed [] [] x.framing.fault x.framing.pending) (sym new) nothing_framed; offers = offers_none d };
   many = omega (arith, ap (λ x. x.turns) new);
+  most = ap (λ x. x.most) new;
   few = omega (arith, ap (λ x. x.turns) new);
 }
 
@@ -51,8 +52,9 @@ reads_on turns i k given mid left old d e out so takes offers = record {
   messages = so.messages ++ out;
   taken = Consumes-trans given mid left so.octets takes.piece so.taken takes.is_piece.read;
   all = record { framed = takes.goes_on.after so.octets so.messages so.all.framed; offers = offers_then old d e so.messages out so.all.offers offers };
-  many = omega (arith, so.many, takes.is_piece.some, takes.turn, length-append so.octets takes.piece);
-  few = omega (arith, so.few, takes.is_piece.few, takes.turn, length-append so.octets takes.piece);
+  many = omega (arith, so.many, takes.is_piece.some, takes.turn.0, length-append so.octets takes.piece);
+  most = takes.turn.1 ∙ so.most;
+  few = omega (arith, so.few, so.most, takes.is_piece.few, takes.turn.0, length-append so.octets takes.piece);
 }
 
 -- ---- where it ends
@@ -63,7 +65,7 @@ reading_ends turns offered i k given mid left old d so ends many = record {
   messages = so.messages;
   taken = same_read given mid left so.octets so.taken ends.read;
   end = ends.end;
-  turns_made = omega (arith, so.few, ends.turn);
+  turns_made = omega (arith, so.few, ends.turn.0);
   all = record { framed = subst (λ x. IsFramed so.octets so.messages x.fault x.pending) ends.whole so.all.framed; offers = so.all.offers };
   counted = omega (arith, many, receipts_count old d so.messages so.all.offers);
 }
@@ -103,7 +105,7 @@ refuses_one e turns i k given mid left old d new out so takes stop = record {
   offers = offers_then old d new so.messages stop.before so.all.offers stop.offers;
 }
 
-stops_there : (e : Fault) (turns : ℕ) (octets : List ℕ) (left : Option (List ℕ)) (old new : Exporting) → (one : RefusesOne octets old new) → IsRefusalOf e one.message → AreRead turns octets → StopsAt e turns octets left old new
+stops_there : (e : Fault) (turns : ℕ) (octets : List ℕ) (left : Option (List ℕ)) (old new : Exporting) → (one : RefusesOne octets old new) → IsRefusalOf e one.message → AreRead 262144 turns octets → StopsAt e turns octets left old new
 stops_there (Mediator why) turns octets left old new one is few = (inl (one, is), few)
 stops_there TooWide turns octets left old new one is few = ((one, is), few)
 stops_there TooManyCounts turns octets left old new one is few = ((one, is), few)
@@ -119,7 +121,7 @@ message_stops e turns i k given mid left old d new out so takes stop = record {
   octets = so.octets ++ takes.piece;
   taken = Consumes-trans given mid left so.octets takes.piece so.taken takes.is_piece.read;
   stops = stops_there e turns (so.octets ++ takes.piece) left old new (refuses_one e turns i k given mid left old d new out so takes stop) stop.is
-      (omega (arith, so.few, takes.is_piece.few, takes.turn, length-append so.octets takes.piece));
+      (omega (arith, so.few, so.most, takes.is_piece.few, takes.turn.0, length-append so.octets takes.piece));
 }
 
 whole_after : (turns : ℕ) (i : IntakeState) (given left : Option (List ℕ)) (old d : Exporting) → (so : Reaches turns i given left old d) → i.framing.fault ≡ None → OffersWhole so.octets i.framing.pending old d
@@ -133,7 +135,7 @@ record FaultIn (w : DecodeError) (turns : ℕ) (given left : Option (List ℕ)) 
   pub octets : List ℕ
   pub taken : Consumes given left octets
   pub before : OffersBefore w octets old d
-  pub few : AreRead turns octets
+  pub few : AreRead 262144 turns octets
 
 faulty : (w : DecodeError) (turns : ℕ) (i k : IntakeState) (given mid left : Option (List ℕ)) (old d : Exporting) → Reaches turns i given mid old d → StreamHasFault w i mid left k → FaultIn w turns given left old d
 faulty w turns i k given mid left old d so (inl was) = record {
@@ -155,7 +157,7 @@ faulty w turns i k given mid left old d so (inr now) = record {
       offers = subst (Offers old d) (sym (append-nil so.messages)) so.all.offers;
     };
   };
-  few = omega (arith, so.few, now.is_piece.few, now.turn, length-append so.octets now.piece);
+  few = omega (arith, so.few, so.most, now.is_piece.few, now.turn.0, length-append so.octets now.piece);
 }
 
 -- the intake hands out nothing more
@@ -163,7 +165,7 @@ pub intake_stops : (w : IntakeFault) (turns : ℕ) (i k : IntakeState) (given mi
 intake_stops intake.Read turns i k given mid left old d so stops = record {
   octets = so.octets;
   taken = same_read given mid left so.octets so.taken stops.read;
-  stops = ((i.framing.pending, whole_after turns i given mid old d so stops.sound), omega (arith, so.few, stops.turn));
+  stops = ((i.framing.pending, whole_after turns i given mid old d so stops.sound), omega (arith, so.few, stops.turn.0));
 }
 intake_stops (intake.Framing framing.BadVersion) turns i k given mid left old d so stops =
     let f = faulty frame.BadVersion turns i k given mid left old d so stops in
@@ -174,7 +176,7 @@ intake_stops (intake.Framing framing.BadLength) turns i k given mid left old d s
 intake_stops (intake.Framing framing.CutOff) turns i k given mid left old d so stops = record {
   octets = so.octets;
   taken = same_read given mid left so.octets so.taken stops.read;
-  stops = ((i.framing.pending, whole_after turns i given mid old d so stops.sound, stops.pending), omega (arith, so.few, stops.turn), stops.end);
+  stops = ((i.framing.pending, whole_after turns i given mid old d so stops.sound, stops.pending), omega (arith, so.few, stops.turn.0), stops.end);
 }
 intake_stops intake.Turns turns i k given mid left old d so stops = record {
   octets = so.octets;
@@ -190,11 +192,11 @@ intake_stops intake.OutOfMemory turns i k given mid left old d so stops = record
       fed = so.octets;
       piece = stops.piece;
       parts = refl;
-      few = stops.is_piece.few;
+      few = omega (arith, so.most, stops.is_piece.few);
       pending = i.framing.pending;
       whole = whole_after turns i given mid old d so stops.sound;
     }),
-    omega (arith, so.few, stops.is_piece.few, stops.turn, length-append so.octets stops.piece),
+    omega (arith, so.few, so.most, stops.is_piece.few, stops.turn.0, length-append so.octets stops.piece),
   );
 }
 

@@ -47,7 +47,7 @@ pub record Serves (turns offered : ℕ) (given left : Option (List ℕ)) (old ne
   pub messages : List (List ℕ)
   pub taken : Consumes given left octets
   pub end : IsAtEnd left
-  pub turns_made : AreReadBut turns octets
+  pub turns_made : AreReadBut 262144 turns octets
   pub all : OffersAll octets messages None [] old new
   pub counted : offered ≡ length messages
 
@@ -83,20 +83,20 @@ pub record LosesLastRead (why : MediatorFault) (octets : List ℕ) (old new : Ex
   pub fed : List ℕ
   pub piece : List ℕ
   pub parts : octets ≡ fed ++ piece
-  pub few : length piece ≤ 65536
+  pub few : length piece ≤ 262144
   pub pending : List ℕ
   pub whole : OffersWhole fed pending old new
 
 -- where it stops that has read these octets, by what cause, and which of their messages were offered
 abbrev pub StopsAt : Fault → ℕ → List ℕ → Option (List ℕ) → Exporting → Exporting → Type 0
-StopsAt Read turns octets left old new = ((pending : List ℕ) × OffersWhole octets pending old new) × AreReadBut turns octets
-StopsAt Turns turns octets left old new = ((pending : List ℕ) × OffersWhole octets pending old new) × (turns ≤ length octets) × AreRead turns octets
-StopsAt (Framing framing.CutOff) turns octets left old new = ((pending : List ℕ) × OffersWhole octets pending old new × (0 < length pending)) × AreReadBut turns octets × IsAtEnd left
-StopsAt (Framing framing.BadVersion) turns octets left old new = OffersBefore frame.BadVersion octets old new × AreRead turns octets
-StopsAt (Framing framing.BadLength) turns octets left old new = OffersBefore frame.BadLength octets old new × AreRead turns octets
-StopsAt (Mediator why) turns octets left old new = ((RefusesOne octets old new × MayRefuseOffer why) ⊎ LosesLastRead why octets old new) × AreRead turns octets
-StopsAt TooWide turns octets left old new = ((one : RefusesOne octets old new) × IsTooWideAt one.message) × AreRead turns octets
-StopsAt TooManyCounts turns octets left old new = ((one : RefusesOne octets old new) × CountsTooMany one.message) × AreRead turns octets
+StopsAt Read turns octets left old new = ((pending : List ℕ) × OffersWhole octets pending old new) × AreReadBut 262144 turns octets
+StopsAt Turns turns octets left old new = ((pending : List ℕ) × OffersWhole octets pending old new) × (turns ≤ length octets) × AreRead 262144 turns octets
+StopsAt (Framing framing.CutOff) turns octets left old new = ((pending : List ℕ) × OffersWhole octets pending old new × (0 < length pending)) × AreReadBut 262144 turns octets × IsAtEnd left
+StopsAt (Framing framing.BadVersion) turns octets left old new = OffersBefore frame.BadVersion octets old new × AreRead 262144 turns octets
+StopsAt (Framing framing.BadLength) turns octets left old new = OffersBefore frame.BadLength octets old new × AreRead 262144 turns octets
+StopsAt (Mediator why) turns octets left old new = ((RefusesOne octets old new × MayRefuseOffer why) ⊎ LosesLastRead why octets old new) × AreRead 262144 turns octets
+StopsAt TooWide turns octets left old new = ((one : RefusesOne octets old new) × IsTooWideAt one.message) × AreRead 262144 turns octets
+StopsAt TooManyCounts turns octets left old new = ((one : RefusesOne octets old new) × CountsTooMany one.message) × AreRead 262144 turns octets
 StopsAt _ turns octets left old new = ⊥
 
 -- octets were read, and it stops so
@@ -133,4 +133,5 @@ pub record Reaches (turns : ℕ) (i : IntakeState) (given left : Option (List �
   pub taken : Consumes given left octets
   pub all : OffersAll octets messages i.framing.fault i.framing.pending old new
   pub many : turns ≤ length octets + i.turns
-  pub few : length octets + 65536 * i.turns ≤ 65536 * turns
+  pub most : i.most ≡ 262144
+  pub few : length octets + 262144 * i.turns ≤ 262144 * turns

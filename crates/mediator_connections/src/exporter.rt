@@ -179,7 +179,7 @@ fn offer_stream<E: EntryLedger, H: RecordLedger, R: Source, O: Reception, T: Thr
     ensures fails { IfErr result (λ e. R.has_failed reader.new ≡ fails_reader e) }
 {
     let before = handle.kept().len();
-    let mut intake = Intake::new(alloc, pace.turns)?;
+    let mut intake = Intake::widening(alloc, pace.turns)?;
     let mut workers = Workers::new(alloc, pace.workers).ok();
     'reads: loop {
         let Some(messages) = intake.next(reader)? else {

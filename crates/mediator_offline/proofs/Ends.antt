@@ -61,7 +61,7 @@ running_starts d job before o = record {
   handed = subst (AreHandedOut [] []) (sym parts_none) none_handed_out;
 }
 
-pub reading_starts : {Q : Type 0} (d : OfflineRun Q) (i : IntakeState) (job : OfflineJob) (before : Ports) → IsRunOpened d job → i ≡ nothing_read job.turns → IsAfter d i job before before
+pub reading_starts : {Q : Type 0} (d : OfflineRun Q) (i : IntakeState) (job : OfflineJob) (before : Ports) → IsRunOpened d job → i ≡ nothing_read 65536 job.turns → IsAfter d i job before before
 reading_starts d i job before o new = record {
   octets = [];
   messages = [];
@@ -69,6 +69,7 @@ reading_starts d i job before o new = record {
   running = running_starts d job before.outputs o;
   framed = subst (λ x. IsFramed [] [] x.framing.fault x.framing.pending) (sym new) nothing_framed;
   many = omega (arith, ap (λ x. x.turns) new);
+  most = ap (λ x. x.most) new;
   few = omega (arith, ap (λ x. x.turns) new);
 }
 
@@ -81,8 +82,9 @@ reads_on d e i k job before mid after out so takes handles = record {
   taken = Consumes-trans before.left mid.left after.left so.octets takes.piece so.taken takes.is_piece.read;
   running = handles.running job so.messages before.outputs so.running;
   framed = takes.goes_on.after so.octets so.messages so.framed;
-  many = omega (arith, so.many, takes.is_piece.some, takes.turn, length-append so.octets takes.piece);
-  few = omega (arith, so.few, takes.is_piece.few, takes.turn, length-append so.octets takes.piece);
+  many = omega (arith, so.many, takes.is_piece.some, takes.turn.0, length-append so.octets takes.piece);
+  most = takes.turn.1 ∙ so.most;
+  few = omega (arith, so.few, so.most, takes.is_piece.few, takes.turn.0, length-append so.octets takes.piece);
 }
 
 pub runs_after : {Q : Type 0} (d : OfflineRun Q) (i : IntakeState) (job : OfflineJob) (before after : Ports) → IsAfter d i job before after → RunsSomewhere d after.outputs
@@ -99,8 +101,8 @@ message_stops e d i k job before mid after out so takes stop = record { octets =
     taken : Consumes before.left after.left octets
     taken = Consumes-trans before.left mid.left after.left so.octets takes.piece so.taken takes.is_piece.read
 
-    few : AreRead job.turns octets
-    few = omega (arith, so.few, takes.is_piece.few, takes.turn, length-append so.octets takes.piece)
+    few : AreRead 65536 job.turns octets
+    few = omega (arith, so.few, so.most, takes.is_piece.few, takes.turn.0, length-append so.octets takes.piece)
 
     there : Filters job (so.messages ++ stop.done) (due job (so.messages ++ stop.done))
         × StopsAtMessage e job (so.messages ++ stop.done) (due job (so.messages ++ stop.done)) stop.message before.outputs after.outputs
@@ -143,7 +145,7 @@ record ReadsFault (w : DecodeError) (job : OfflineJob) (before : Ports) (left : 
   octets : List ℕ
   messages : List (List ℕ)
   taken : Consumes before.left left octets
-  few : AreRead job.turns octets
+  few : AreRead 65536 job.turns octets
   done : IsFiltered job octets messages (Some w) [] before.outputs after
 
 faulty : {Q : Type 0} (w : DecodeError) (d : OfflineRun Q) (i k : IntakeState) (job : OfflineJob) (before mid : Ports) (left : Option (List ℕ)) → IsAfter d i job before mid → StreamHasFault w i mid.left left k
@@ -160,7 +162,7 @@ faulty w d i k job before mid left so (inr now) = record {
   octets = so.octets ++ now.piece;
   messages = so.messages ++ [];
   taken = Consumes-trans before.left mid.left left so.octets now.piece so.taken now.is_piece.read;
-  few = omega (arith, so.few, now.is_piece.few, now.turn, length-append so.octets now.piece);
+  few = omega (arith, so.few, so.most, now.is_piece.few, now.turn.0, length-append so.octets now.piece);
   done = filtered_of d job (so.octets ++ now.piece) (so.messages ++ []) (Some w) [] before.outputs mid.outputs
       (subst (λ ms. IsRunning d job ms before.outputs mid.outputs) (sym (append-nil so.messages)) so.running)
       (emptied w (so.octets ++ now.piece) (so.messages ++ []) k.framing.pending (subst (λ x. IsFramed (so.octets ++ now.piece) (so.messages ++ []) x k.framing.pending) now.fault_is (now.goes_on.after so.octets so.messages so.framed)));
@@ -172,7 +174,7 @@ pub intake_stops : {Q : Type 0} (w : IntakeFault) (d : OfflineRun Q) (i k : Inta
 intake_stops intake.Read d i k job before mid left failed so stops fails = record {
   octets = so.octets;
   taken = same_read before.left mid.left left so.octets so.taken stops.read;
-  stops = ((so.messages, i.framing.pending, done_after d i job before mid so stops.sound), omega (arith, so.few, stops.turn), fails);
+  stops = ((so.messages, i.framing.pending, done_after d i job before mid so stops.sound), omega (arith, so.few, stops.turn.0), fails);
 }
 intake_stops (intake.Framing framing.BadVersion) d i k job before mid left failed so stops fails =
     let f = faulty frame.BadVersion d i k job before mid left so stops in record { octets = f.octets; taken = f.taken; stops = ((f.messages, f.done), f.few) }
@@ -181,7 +183,7 @@ intake_stops (intake.Framing framing.BadLength) d i k job before mid left failed
 intake_stops (intake.Framing framing.CutOff) d i k job before mid left failed so stops fails = record {
   octets = so.octets;
   taken = same_read before.left mid.left left so.octets so.taken stops.read;
-  stops = ((so.messages, i.framing.pending, done_after d i job before mid so stops.sound, stops.pending), omega (arith, so.few, stops.turn), stops.end);
+  stops = ((so.messages, i.framing.pending, done_after d i job before mid so stops.sound, stops.pending), omega (arith, so.few, stops.turn.0), stops.end);
 }
 intake_stops intake.Turns d i k job before mid left failed so stops fails = record {
   octets = so.octets;
@@ -197,12 +199,12 @@ intake_stops intake.OutOfMemory d i k job before mid left failed so stops fails 
       fed = so.octets;
       piece = stops.piece;
       parts = refl;
-      few = stops.is_piece.few;
+      few = omega (arith, so.most, stops.is_piece.few);
       messages = so.messages;
       pending = i.framing.pending;
       done = done_after d i job before mid so stops.sound;
     }),
-    omega (arith, so.few, stops.is_piece.few, stops.turn, length-append so.octets stops.piece),
+    omega (arith, so.few, so.most, stops.is_piece.few, stops.turn.0, length-append so.octets stops.piece),
   );
 }
 
@@ -221,7 +223,7 @@ stream_ends d i k job before mid left failed so ends = record {
   taken = same_read before.left mid.left left so.octets so.taken ends.read;
   end = ends.end;
   framed = subst (λ x. IsFramed so.octets so.messages x.fault x.pending) ends.whole so.framed;
-  turns = omega (arith, so.few, ends.turn);
+  turns = omega (arith, so.few, ends.turn.0);
   running = so.running;
 }
 

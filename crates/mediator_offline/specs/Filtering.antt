@@ -50,7 +50,7 @@ pub record FiltersAll (job : OfflineJob) (report : OfflineReport) (before after 
   pub messages : List (List ℕ)
   pub taken : Consumes before.left after.left octets
   pub end : IsAtEnd after.left
-  pub turns : AreReadBut job.turns octets
+  pub turns : AreReadBut 65536 job.turns octets
   pub done : IsFiltered job octets messages None [] before.outputs after.outputs
   pub counted : report.messages ≡ length messages
   pub recorded : report.records ≡ length (accepted (history_of job messages))
@@ -110,15 +110,15 @@ pub record LosesLastPiece (why : MediatorFault) (job : OfflineJob) (octets : Lis
 -- where a run stops that has read these octets, and by what cause
 abbrev pub StopsHere : Fault → OfflineJob → List ℕ → Ports → Ports → Type 0
 StopsHere Read job octets before after =
-    ((messages : List (List ℕ)) × (pending : List ℕ) × IsFiltered job octets messages None pending before.outputs after.outputs) × AreReadBut job.turns octets × (after.reader_failed ≡ true)
+    ((messages : List (List ℕ)) × (pending : List ℕ) × IsFiltered job octets messages None pending before.outputs after.outputs) × AreReadBut 65536 job.turns octets × (after.reader_failed ≡ true)
 StopsHere Turns job octets before after =
-    ((messages : List (List ℕ)) × (pending : List ℕ) × IsFiltered job octets messages None pending before.outputs after.outputs) × (job.turns ≤ length octets) × AreRead job.turns octets
+    ((messages : List (List ℕ)) × (pending : List ℕ) × IsFiltered job octets messages None pending before.outputs after.outputs) × (job.turns ≤ length octets) × AreRead 65536 job.turns octets
 StopsHere (Framing framing.CutOff) job octets before after =
-    ((messages : List (List ℕ)) × (pending : List ℕ) × IsFiltered job octets messages None pending before.outputs after.outputs × (0 < length pending)) × AreReadBut job.turns octets × IsAtEnd after.left
-StopsHere (Framing framing.BadVersion) job octets before after = ((messages : List (List ℕ)) × IsFiltered job octets messages (Some frame.BadVersion) [] before.outputs after.outputs) × AreRead job.turns octets
-StopsHere (Framing framing.BadLength) job octets before after = ((messages : List (List ℕ)) × IsFiltered job octets messages (Some frame.BadLength) [] before.outputs after.outputs) × AreRead job.turns octets
-StopsHere (Mediator why) job octets before after = (StopsAtOne (Mediator why) job octets before.outputs after.outputs ⊎ LosesLastPiece why job octets before.outputs after.outputs) × AreRead job.turns octets
-StopsHere e job octets before after = StopsAtOne e job octets before.outputs after.outputs × AreRead job.turns octets
+    ((messages : List (List ℕ)) × (pending : List ℕ) × IsFiltered job octets messages None pending before.outputs after.outputs × (0 < length pending)) × AreReadBut 65536 job.turns octets × IsAtEnd after.left
+StopsHere (Framing framing.BadVersion) job octets before after = ((messages : List (List ℕ)) × IsFiltered job octets messages (Some frame.BadVersion) [] before.outputs after.outputs) × AreRead 65536 job.turns octets
+StopsHere (Framing framing.BadLength) job octets before after = ((messages : List (List ℕ)) × IsFiltered job octets messages (Some frame.BadLength) [] before.outputs after.outputs) × AreRead 65536 job.turns octets
+StopsHere (Mediator why) job octets before after = (StopsAtOne (Mediator why) job octets before.outputs after.outputs ⊎ LosesLastPiece why job octets before.outputs after.outputs) × AreRead 65536 job.turns octets
+StopsHere e job octets before after = StopsAtOne e job octets before.outputs after.outputs × AreRead 65536 job.turns octets
 
 -- the job is refused, and nothing was read or written
 pub record RefusesAll (e : Fault) (job : OfflineJob) (before after : Ports) : Type 0 where

@@ -56,6 +56,7 @@ pub record IsAfter {Q : Type 0} (d : OfflineRun Q) (i : IntakeState) (job : Offl
   pub running : IsRunning d job messages before.outputs after.outputs
   pub framed : IsFramed octets messages i.framing.fault i.framing.pending
   pub many : job.turns ≤ length octets + i.turns
+  pub most : i.most ≡ 65536
   pub few : length octets + 65536 * i.turns ≤ 65536 * job.turns
 
 -- all was read, and all messages were handled
@@ -65,5 +66,5 @@ pub record ReachesEnd {Q : Type 0} (d : OfflineRun Q) (job : OfflineJob) (before
   pub taken : Consumes before.left after.left octets
   pub end : IsAtEnd after.left
   pub framed : IsFramed octets messages None []
-  pub turns : AreReadBut job.turns octets
+  pub turns : AreReadBut 65536 job.turns octets
   pub running : IsRunning d job messages before.outputs after.outputs

@@ -137,7 +137,7 @@ impl<'a, Q: AuditQueue + Drop> OfflineRun<'a, Q> {
         audit_writer: &mut A,
     ) -> Result<(), Fault>
         requires opened { IsRunOpened self.old self.old.job }
-        requires intake { intake.old ≡ nothing_read self.old.job.turns }
+        requires intake { intake.old ≡ nothing_read 65536 self.old.job.turns }
         requires reader { R.has_failed reader.old ≡ false }
         requires asked { self.old.job.audit ≡ Q.KEEPS }
         // The stream was read to its end, and each message was handled.

@@ -1,4 +1,5 @@
-//! Streams that are read in pieces of seven octets, to their end and to each fault.
+//! Streams that are read in pieces of seven octets, to their end and to each fault; and a long one, in pieces as great as
+//! they may be.
 use ipfix_reader::{Fault as IntakeFault, FramingFault, Intake};
 use octet_io::Device;
 use std::alloc::Global;
@@ -80,6 +81,36 @@ fn ends_and_faults(rt: HostRuntime) -> Result<(), Fail> {
     ];
     for case in cases {
         expect(&rt, rt.alloc(), case)?;
+    }
+    Ok(())
+}
+
+/// How many messages of 16 octets each of four reads of a long stream brings.
+fn brought(alloc: Global, intake: &mut Intake) -> Result<Vec<usize>, Fail> {
+    let mut octets = Vec::new(alloc);
+    for _ in 0..65_536 {
+        octets.extend_from_slice(&TWO[..16])?;
+    }
+    let mut device = Device::new(octets.as_slice());
+    let mut counts = Vec::new(alloc);
+    for _ in 0..4 {
+        let Ok(Some(found)) = intake.next(&mut device) else {
+            return Err(Fail::new("no messages"));
+        };
+        counts.push(found.len())?;
+    }
+    Ok(counts)
+}
+
+#[test]
+fn reads_widen(rt: HostRuntime) -> Result<(), Fail> {
+    let alloc = rt.alloc();
+    let cases = [
+        (Intake::new(alloc, 4)?, [4096, 4096, 4096, 4096]),
+        (Intake::widening(alloc, 4)?, [4096, 8192, 16_384, 16_384]),
+    ];
+    for (mut intake, counts) in cases {
+        assert_eq!(rt; brought(alloc, &mut intake)?.as_slice(), &counts[..]);
     }
     Ok(())
 }

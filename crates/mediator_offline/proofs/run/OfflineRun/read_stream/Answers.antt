@@ -73,7 +73,7 @@ returns-in_err-handle_all-clause-fails g c =
     (only_then e c.in_err-handle_all.field-0.0 (g.W.Sink.has_failed c.args.writer.now) (g.W.Sink.has_failed c.reads.writer) (g.A.Sink.has_failed c.args.audit_writer.now) (g.A.Sink.has_failed c.reads.audit_writer) false (g.W.Sink.has_failed c.handle_all.new.writer) (g.A.Sink.has_failed c.handle_all.new.audit_writer) is c.reads.invariant.2 c.reads.invariant.3 c.in_err-handle_all.ensures.fails))
 
 pub reads-smaller : goal.reads-smaller
-reads-smaller g c = let t = (subst (λ o. MatchOption o (Ends c.reads.intake (g.R.Source.remaining c.reads.reader) (g.R.Source.remaining c.next.new.reader) c.next.new.self) (λ out. Yields c.reads.intake (g.R.Source.remaining c.reads.reader) (g.R.Source.remaining c.next.new.reader) out.items c.next.new.self)) c.in-Some.is c.in_ok-messages.ensures.ok) in omega (arith, t.turn)
+reads-smaller g c = let t = (subst (λ o. MatchOption o (Ends c.reads.intake (g.R.Source.remaining c.reads.reader) (g.R.Source.remaining c.next.new.reader) c.next.new.self) (λ out. Yields c.reads.intake (g.R.Source.remaining c.reads.reader) (g.R.Source.remaining c.next.new.reader) out.items c.next.new.self)) c.in-Some.is c.in_ok-messages.ensures.ok) in omega (arith, t.turn.0)
 
 pub reads-preserved : goal.reads-preserved
 reads-preserved g c = (
