@@ -85,7 +85,7 @@ ready_without s d subs is [] [] ready none = tt
 ready_without s d subs is [] (t ∷ ts) ready none = absurd ready
 ready_without s d subs is (r ∷ rs) [] ready none = absurd ready
 ready_without s d subs is (r ∷ rs) (t ∷ ts) ready none = (
-  (ap (λ (ks : List ℕ). slice_get ks r.0) is.places ∙ ready.0.0, one (is_in t.0 subs) refl),
+  (λ some. ap (λ (ks : List ℕ). slice_get ks r.0) is.places ∙ ready.0.0 some, one (is_in t.0 subs) refl),
   ready_without s d subs is rs ts ready.1 (λ q on. (none_both (cond (t.0 == q) t.1 []) (added_to q ts) (none q on)).1),
 ) where
   none_both : (xs ys : List Count) → xs ++ ys ≡ [] → (xs ≡ []) × (ys ≡ [])

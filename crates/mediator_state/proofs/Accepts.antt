@@ -163,7 +163,7 @@ left_ready d e cuts g [] [] row uncut made = tt
 left_ready d e cuts g [] (n ∷ ns) row uncut made = absurd made
 left_ready d e cuts g (r ∷ rs) [] row uncut made = absurd made
 left_ready d e cuts g (r ∷ rs) (n ∷ ns) row uncut made = (
-  (ap (λ (ks : List ℕ). slice_get ks r.0) row.places ∙ made.0.0, subst (λ (h : HeldGroups). AreReadyToAdd h r.1 (g n)) (sym (row.groups n ∙ ap (λ (b : Bool). cond b nothing_held (held_at d.groups n)) uncut.0)) made.0.1),
+  (λ some. ap (λ (ks : List ℕ). slice_get ks r.0) row.places ∙ made.0.0 some, subst (λ (h : HeldGroups). AreReadyToAdd h r.1 (g n)) (sym (row.groups n ∙ ap (λ (b : Bool). cond b nothing_held (held_at d.groups n)) uncut.0)) made.0.1),
   left_ready d e cuts g rs ns row uncut.1 made.1,
 )
 

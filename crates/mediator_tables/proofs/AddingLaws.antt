@@ -1,5 +1,5 @@
 -- What a message adds to running groups, one subscription after another: made ready, and then added.
-use Rattle.std.proofs.Common.{◌≡◌, ◌≢◌, ℕ, ◌+◌, ◌<◌, ◌≤◌, Bool, true, false, cond, eqb, List, [], ◌∷◌, ◌++◌, length, map, take, drop, slice_get, refl, sym, ap, ◌∙◌, subst, arith, append_assoc, append-nil, length-append}
+use Rattle.std.proofs.Common.{◌≡◌, ◌≢◌, ℕ, ◌+◌, ◌<◌, ◌≤◌, Bool, true, false, cond, eqb, List, [], ◌∷◌, ◌++◌, length, map, take, drop, slice_get, true≢false, refl, sym, ap, ◌∙◌, subst, arith, append_assoc, append-nil, length-append}
 use Rattle.std.specs.Prelude.{get_or, ◌==◌, if◌then◌else◌}
 use Rattle.std.specs.List.{AllByRecursion, flat_map}
 use Rattle.std.specs.Map.{keys_of}
@@ -10,9 +10,9 @@ use Rattle.std.proofs.lemmas.List.Concat.{flat_map-cons}
 use Rattle.std.proofs.lemmas.Slice.Zip.{all_zipped_more}
 use Rattle.flow_aggregate.specs.declared.addition.Addition.{Addition}
 use Rattle.flow_aggregate.specs.Counts.{Count, count_of}
-use Rattle.flow_aggregate.specs.Groups.{Sample}
-use Rattle.flow_aggregate.specs.Additions.{AreReadyToAdd}
-use Rattle.flow_aggregate.specs.Running.{HeldGroups, SumsStand}
+use Rattle.flow_aggregate.specs.Groups.{Group, Sample}
+use Rattle.flow_aggregate.specs.Additions.{AreReadyToAdd, groups_in, is_group_among}
+use Rattle.flow_aggregate.specs.Running.{HeldGroups, SumsStand, nothing_held}
 use Rattle.mediator_tables.specs.GroupTable.{held_at, groups_at, IsHeldAt}
 use Rattle.mediator_tables.specs.Adding.{IsReadyFor, AllReady, NoneTwice, AreCountable, added_to}
 
@@ -47,7 +47,7 @@ ready_stays sub es es2 [] [] places others apart ready = tt
 ready_stays sub es es2 [] (t ∷ ts) places others apart ready = absurd ready
 ready_stays sub es es2 (r ∷ rs) [] places others apart ready = absurd ready
 ready_stays sub es es2 (r ∷ rs) (t ∷ ts) places others apart ready =
-    ((places r.0 t.0 ready.0.0, subst (λ (h : HeldGroups). AreReadyToAdd h r.1 t.1) (sym (others t.0 apart.0)) ready.0.1), ready_stays sub es es2 rs ts places others apart.1 ready.1)
+    ((λ some. places r.0 t.0 (ready.0.0 some), subst (λ (h : HeldGroups). AreReadyToAdd h r.1 t.1) (sym (others t.0 apart.0)) ready.0.1), ready_stays sub es es2 rs ts places others apart.1 ready.1)
 
 none_added : (q : ℕ) (ts : List (ℕ × List Count)) → AllByRecursion (λ o. o.0 ≢ q) ts → added_to q ts ≡ []
 none_added q [] apart = refl
@@ -72,6 +72,46 @@ apart_none (t ∷ ts) = (tt, apart_none ts)
 none_of : (more : List Sample) → [] ≡ map count_of more → more ≡ []
 none_of [] is = refl
 none_of (c ∷ cs) is = absurd cc
+
+-- ---- where nothing is added
+
+no_counts : (held : HeldGroups) (counts : List Count) → AreReadyToAdd held [] counts → counts ≡ []
+no_counts held [] made = refl
+no_counts held (c ∷ cs) made = absurd made.each
+
+none_among : (ready : List Group) → AllByRecursion (λ g. is_group_among (groups_in []) g ≡ true) ready → ready ≡ []
+none_among [] wanted = refl
+none_among (g ∷ gs) wanted = absurd (true≢false (sym wanted.0))
+
+-- no group was made for it
+pub nothing_ready : (held : HeldGroups) (additions : List Addition) (counts : List Count) → additions ≡ [] → AreReadyToAdd held additions counts → held.ready ≡ []
+nothing_ready held additions counts none made =
+    let here : AreReadyToAdd held [] counts = subst (λ (made : List Addition). AreReadyToAdd held made counts) none made in
+    none_among held.ready (subst (AreReadyToAdd held []) (no_counts held counts here) here).wanted
+
+-- and what was counted stays
+pub nothing_counted : (held : HeldGroups) (additions : List Addition) (before more : List Sample) → additions ≡ [] → AreReadyToAdd held additions (map count_of more)
+    → SumsStand held.groups before → SumsStand held.groups (before ++ more)
+nothing_counted held additions before more none made stands =
+    let here : AreReadyToAdd held [] (map count_of more) = subst (λ (made : List Addition). AreReadyToAdd held made (map count_of more)) none made in
+    subst (SumsStand held.groups) (sym (ap (λ (l : List Sample). before ++ l) (none_of more (sym (no_counts held (map count_of more) here))) ∙ append-nil before)) stands
+
+-- what is made ready then, for a subscription that holds nothing
+pub nothing_made : (groups : List (ℕ × HeldGroups)) (sub place : ℕ) (counts : List Count) (additions : List Addition) → held_at groups sub ≡ nothing_held → counts ≡ [] → additions ≡ [] → IsReadyFor groups (place, additions) (sub, counts)
+nothing_made groups sub place counts additions none few empty = (
+  λ some. absurd (some empty),
+  subst (λ (h : HeldGroups). AreReadyToAdd h additions counts) (sym none)
+      (subst (AreReadyToAdd nothing_held additions) (sym few) (subst (λ (made : List Addition). AreReadyToAdd nothing_held made []) (sym empty) (record { each = tt; wanted = tt }))),
+)
+
+-- nothing is added where there is none
+pub none_added_where : (additions : List Addition) → (length additions == 0) ≡ true → additions ≡ []
+none_added_where [] none = refl
+none_added_where (a ∷ additions) none = absurd (omega (arith, eqb-true (length (a ∷ additions)) 0 none))
+
+-- something is added where it isn't none
+pub some_added : (additions : List Addition) → (length additions == 0) ≡ false → additions ≢ []
+some_added additions some none = true≢false (sym (ap (λ (made : List Addition). length made == 0) none) ∙ some)
 
 pub counting_start : (groups : List (ℕ × HeldGroups)) (all left : List (ℕ × List Addition)) → all ≡ left → CountsOn groups groups all left
 counting_start groups all left is tallies ready apart = record {
@@ -105,11 +145,11 @@ abbrev pub Adds : List (ℕ × HeldGroups) → List (ℕ × HeldGroups) → ℕ 
 Adds now now2 r = (sub : ℕ) (before more : List Sample) → IsReadyFor now r (sub, map count_of more) → SumsStand (groups_at now sub) before → SumsStand (groups_at now2 sub) (before ++ more)
 
 abbrev pub OthersStay : List (ℕ × HeldGroups) → List (ℕ × HeldGroups) → ℕ × List Addition → Type 0
-OthersStay now now2 r = (sub q : ℕ) → IsHeldAt now r.0 sub → q ≢ sub → held_at now2 q ≡ held_at now q
+OthersStay now now2 r = (sub q : ℕ) (counts : List Count) → IsReadyFor now r (sub, counts) → q ≢ sub → held_at now2 q ≡ held_at now q
 
 -- nothing is ready any more where it adds
 abbrev pub Spends : List (ℕ × HeldGroups) → List (ℕ × HeldGroups) → ℕ × List Addition → Type 0
-Spends now now2 r = (sub : ℕ) → IsHeldAt now r.0 sub → (held_at now2 sub).ready ≡ []
+Spends now now2 r = (sub : ℕ) (counts : List Count) → IsReadyFor now r (sub, counts) → (held_at now2 sub).ready ≡ []
 
 -- nor where it was added before
 spent_stays : (sub : ℕ) (now now2 : List (ℕ × HeldGroups)) (done : List (ℕ × List Count)) → ((q : ℕ) → q ≢ sub → held_at now2 q ≡ held_at now q) → AllByRecursion (λ o. o.0 ≢ sub) done
@@ -136,11 +176,11 @@ one_counted old now now2 left all done rest r t split each spent first behind ap
   rest = rest;
   split = split ∙ sym (append_assoc done (t ∷ []) rest);
   each = λ q before more stands counts. by_number q before more stands (sym (added_push q done t) ∙ counts) behind.0 (t.0 == q) refl;
-  spent = all_push (λ d. (held_at now2 d.0).ready ≡ []) done t (spent_stays t.0 now now2 done (λ q other. others t.0 q ready.0.0 other) behind.0 spent) (spends t.0 ready.0.0);
-  others = λ q none. let ends = all_front (λ d. d.0 ≢ q) done t none in others t.0 q ready.0.0 (λ same. ends.1 (sym same)) ∙ first q ends.0;
+  spent = all_push (λ d. (held_at now2 d.0).ready ≡ []) done t (spent_stays t.0 now now2 done (λ q other. others t.0 q t.1 ready.0 other) behind.0 spent) (spends t.0 t.1 ready.0);
+  others = λ q none. let ends = all_front (λ d. d.0 ≢ q) done t none in others t.0 q t.1 ready.0 (λ same. ends.1 (sym same)) ∙ first q ends.0;
   behind = apart_more done t rest behind.1 apart.0;
   apart = apart.1;
-  ready = ready_stays t.0 now now2 left rest places (λ q other. others t.0 q ready.0.0 other) apart.0 ready.1;
+  ready = ready_stays t.0 now now2 left rest places (λ q other. others t.0 q t.1 ready.0 other) apart.0 ready.1;
 }
   where
     by_number : (q : ℕ) (before more : List Sample) → SumsStand (groups_at old q) before → (added_to q done ++ (if t.0 == q then t.1 else [])) ≡ map count_of more
@@ -155,7 +195,7 @@ one_counted old now now2 left all done rest r t split each spent first behind ap
         (adds t.0 before more made (subst (λ (n : ℕ). SumsStand (groups_at now n) before) (sym same) (subst (SumsStand (groups_at now q)) (append-nil before) (each q before [] stands none))))
     by_number q before more stands counts first false is =
         let other : q ≢ t.0 = λ e. eqb-false t.0 q is (sym e) in
-        subst (λ (h : HeldGroups). SumsStand h.groups (before ++ more)) (sym (others t.0 q ready.0.0 other))
+        subst (λ (h : HeldGroups). SumsStand h.groups (before ++ more)) (sym (others t.0 q t.1 ready.0 other))
         (each q before more stands (sym (append-nil (added_to q done)) ∙ ap (λ (b : Bool). added_to q done ++ cond b t.1 []) (sym is) ∙ counts))
 
 pub counting_next : (old now now2 : List (ℕ × HeldGroups)) (all left left2 : List (ℕ × List Addition)) (r : ℕ × List Addition) → left ≡ r ∷ left2

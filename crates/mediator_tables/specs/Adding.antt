@@ -17,9 +17,9 @@ tallied t = (t.sub, t.counts.items)
 abbrev pub reserved_for : Reserved → ℕ × List Addition
 reserved_for r = (r.place, r.additions.items)
 
--- that is what is added to a subscription's groups, and there they stand
+-- that is what is added to a subscription's groups; where anything is, there they stand
 abbrev pub IsReadyFor : List (ℕ × HeldGroups) → ℕ × List Addition → ℕ × List Count → Type 0
-IsReadyFor groups reserved tally = IsHeldAt groups reserved.0 tally.0 × AreReadyToAdd (held_at groups tally.0) reserved.1 tally.1
+IsReadyFor groups reserved tally = (reserved.1 ≢ [] → IsHeldAt groups reserved.0 tally.0) × AreReadyToAdd (held_at groups tally.0) reserved.1 tally.1
 
 -- so it is for each
 abbrev pub AllReady : List (ℕ × HeldGroups) → List (ℕ × List Addition) → List (ℕ × List Count) → Type 0

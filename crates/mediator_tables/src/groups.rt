@@ -1,5 +1,5 @@
 //! The table of the groups that are still open.
-ghost use Rattle.std.specs.Prelude.{◌≡◌, ◌≢◌, ◌≤◌, ◌+◌, ◌++◌, ℕ, List, [], length, map, eqb, IfOk, OnErr};
+ghost use Rattle.std.specs.Prelude.{◌≡◌, ◌≢◌, ◌≤◌, ◌+◌, ◌++◌, ℕ, false, List, [], length, map, eqb, IfOk, OnErr};
 ghost use Rattle.std.specs.List.{AllByRecursion, IsDistinct};
 ghost use Rattle.std.specs.Map.{keys_of};
 ghost use Rattle.flow_aggregate.specs.Groups.{Sample};
@@ -230,7 +230,8 @@ impl RunningGroups {
         Ok(reserved)
     }
 
-    /// Makes ready for what is added to the groups of one subscription. What was reserved for it before is so no more.
+    /// Makes ready for what is added to the groups of one subscription. What was reserved for it before is so no more. Where
+    /// nothing is added, and it has no place, it gets none.
     fn reserve_one(&mut self, tally: &Tally) -> Result<Reserved, AllocError>
         ensures unchanged { (q : ℕ) → groups_at self.new q ≡ groups_at self.old q }
         // What it adds has its place, and no more groups are made than it has counts.
@@ -242,6 +243,12 @@ impl RunningGroups {
         ensures others { (q : ℕ) → q ≢ tally.now.sub → held_at self.new q ≡ held_at self.old q }
         ensures places { (place q : ℕ) → IsHeldAt self.old place q → IsHeldAt self.new place q }
     {
+        if tally.counts.is_empty() && !self.is_kept(tally.sub) {
+            return Ok(Reserved {
+                place: 0,
+                additions: Vec::new(self.alloc),
+            });
+        }
         let place = self.place_of(tally.sub)?;
         match self.by_number.get_index_mut(place) {
             Some(groups) => {
@@ -249,6 +256,16 @@ impl RunningGroups {
                 Ok(Reserved { place, additions })
             }
             None => unreachable!(),
+        }
+    }
+
+    /// Whether a subscription has a place: one that has none has no group.
+    fn is_kept(&self, sub: u64) -> bool
+        ensures { result ≡ false → held_at self.now sub ≡ nothing_held }
+    {
+        match self.by_number.get(&sub) {
+            Some(_) => true,
+            None => false,
         }
     }
 
@@ -270,7 +287,7 @@ impl RunningGroups {
         }
     }
 
-    /// Adds to the groups of the subscription at a place.
+    /// Adds to the groups of the subscription at a place, where anything is added.
     fn add_one(&mut self, reserved: Reserved)
         requires { (sub : ℕ)
             × (counts : List Count) × IsReadyFor self.old (reserved_for reserved) (sub, counts) }
@@ -279,13 +296,18 @@ impl RunningGroups {
             → SumsStand (groups_at self.old sub) before
             → SumsStand (groups_at self.new sub) (before ++ more) }
         // Nothing is ready then for this subscription, and others are held as before.
-        ensures ready { (sub : ℕ) → IsHeldAt self.old reserved.place sub
+        ensures ready { (sub : ℕ) (counts : List Count)
+            → IsReadyFor self.old (reserved_for reserved) (sub, counts)
             → (held_at self.new sub).ready ≡ [] }
-        ensures others { (sub q : ℕ) → IsHeldAt self.old reserved.place sub
+        ensures others { (sub q : ℕ) (counts : List Count)
+            → IsReadyFor self.old (reserved_for reserved) (sub, counts)
             → q ≢ sub → held_at self.new q ≡ held_at self.old q }
         ensures places { keys_of self.new ≡ keys_of self.old }
     {
         let Reserved { place, additions } = reserved;
+        if additions.is_empty() {
+            return;
+        }
         if let Some(groups) = self.by_number.get_index_mut(place) {
             groups.add_reserved(additions);
         }
