@@ -1,5 +1,5 @@
 -- A stream that is read piece by piece, and where it stops.
-use Rattle.std.proofs.Common.{◌≡◌, inl, inr, ℕ, ◌+◌, Bool, false, List, [], ◌∷◌, ◌++◌, length, Option, Some, None, refl, sym, ap, ◌∙◌, subst, append-nil, append_assoc, arith, length-append}
+use Rattle.std.proofs.Common.{◌≡◌, inl, inr, ℕ, ◌+◌, ◌≤◌, Bool, false, List, [], ◌∷◌, ◌++◌, length, Option, Some, None, refl, sym, ap, ◌∙◌, subst, append-nil, append_assoc, arith, length-append}
 use Rattle.std.specs.Io.KnownBytes.{Consumes}
 use Rattle.std.proofs.KnownBytes.{Consumes-trans, Consumes-nil}
 use Rattle.ipfix_message.specs.declared.fault.Fault.{Fault as DecodeError}
@@ -8,7 +8,8 @@ use Rattle.ipfix_message.specs.Framing.{IsFramed}
 use Rattle.ipfix_reader.specs.declared.fault.FramingFault.TheVariants as framing
 use Rattle.ipfix_reader.specs.declared.fault.Fault.{Fault as IntakeFault}
 use Rattle.ipfix_reader.specs.declared.fault.Fault.TheVariants as intake
-use Rattle.ipfix_reader.specs.Intake.{IntakeState, nothing_read, Yields, Ends, StopsIntake, StreamHasFault, reader_after as intake_reader}
+use Rattle.ipfix_message.specs.FramerState.{nothing_fed}
+use Rattle.ipfix_reader.specs.Intake.{IntakeState, Yields, Ends, StopsIntake, StreamHasFault, reader_after as intake_reader}
 use Rattle.shared_mediator.specs.Locked.{Exporting}
 use Rattle.mediator_connections.specs.declared.fault.Fault.{Fault}
 use Rattle.mediator_connections.specs.declared.fault.Fault.TheVariants.{Read, Write, Framing, Turns, TooWide, TooManyCounts, Mediator}
@@ -34,15 +35,15 @@ same_read given mid left octets taken none = subst (Consumes given left) (append
 
 -- ---- on the way
 
-pub reading_starts : (turns : ℕ) (i : IntakeState) (given : Option (List ℕ)) (d : Exporting) → i ≡ nothing_read 262144 turns → Reaches turns i given given d d
-reading_starts turns i given d new = record {
+pub reading_starts : (turns : ℕ) (i : IntakeState) (given : Option (List ℕ)) (d : Exporting) → i.framing ≡ nothing_fed → i.turns ≡ turns → i.most ≤ 262144 → Reaches turns i given given d d
+reading_starts turns i given d framing is most = record {
   octets = [];
   messages = [];
   taken = Consumes-nil given;
-  all = record { framed = subst (λ x. IsFramed [] [] x.framing.fault x.framing.pending) (sym new) nothing_framed; offers = offers_none d };
-  many = omega (arith, ap (λ x. x.turns) new);
-  most = ap (λ x. x.most) new;
-  few = omega (arith, ap (λ x. x.turns) new);
+  all = record { framed = subst (λ x. IsFramed [] [] x.fault x.pending) (sym framing) nothing_framed; offers = offers_none d };
+  many = omega (arith, is);
+  most = most;
+  few = omega (arith, is);
 }
 
 -- a piece was read, and the messages that it made whole were offered
@@ -53,7 +54,7 @@ reads_on turns i k given mid left old d e out so takes offers = record {
   taken = Consumes-trans given mid left so.octets takes.piece so.taken takes.is_piece.read;
   all = record { framed = takes.goes_on.after so.octets so.messages so.all.framed; offers = offers_then old d e so.messages out so.all.offers offers };
   many = omega (arith, so.many, takes.is_piece.some, takes.turn.0, length-append so.octets takes.piece);
-  most = takes.turn.1 ∙ so.most;
+  most = omega (arith, takes.turn.1, so.most);
   few = omega (arith, so.few, so.most, takes.is_piece.few, takes.turn.0, length-append so.octets takes.piece);
 }
 

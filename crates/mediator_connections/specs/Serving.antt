@@ -133,5 +133,5 @@ pub record Reaches (turns : ℕ) (i : IntakeState) (given left : Option (List �
   pub taken : Consumes given left octets
   pub all : OffersAll octets messages i.framing.fault i.framing.pending old new
   pub many : turns ≤ length octets + i.turns
-  pub most : i.most ≡ 262144
+  pub most : i.most ≤ 262144
   pub few : length octets + 262144 * i.turns ≤ 262144 * turns

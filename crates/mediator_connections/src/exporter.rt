@@ -1,6 +1,7 @@
 //! Serves an exporter's stream: reads its messages, prepares them without the lock, and offers them to the mediator.
-ghost use Rattle.std.specs.Prelude.{◌≡◌, ◌-◌, ◌++◌, ◌∷◌, [], ℕ, List, false, length, IfOk, IfErr, IfSome, OnOk, OnErr, IsTrue};
+ghost use Rattle.std.specs.Prelude.{◌≡◌, ◌≤◌, ◌-◌, ◌++◌, ◌∷◌, [], ℕ, List, false, length, IfOk, IfErr, IfSome, OnOk, OnErr, IsTrue};
 ghost use Rattle.std.specs.Vec.Iter.{into_iter_items};
+ghost use Rattle.ipfix_message.specs.FramerState.{nothing_fed};
 ghost use Rattle.event_journal.specs.declared.entry.Entry.TheVariants.{Message};
 ghost use Rattle.prepared_message.specs.Holding.{CountsTooMany, IsAheadOf};
 ghost use Rattle.mediator_connections.specs.Serving.{IsRefusalOf, IsTooWideAt, Offers, RefusesAmong, Reaches, StopsServing, Serves};
@@ -179,7 +180,7 @@ fn offer_stream<E: EntryLedger, H: RecordLedger, R: Source, O: Reception, T: Thr
     ensures fails { IfErr result (λ e. R.has_failed reader.new ≡ fails_reader e) }
 {
     let before = handle.kept().len();
-    let mut intake = Intake::widening(alloc, pace.turns)?;
+    let mut intake = intake_at(alloc, pace)?;
     let mut workers = Workers::new(alloc, pace.workers).ok();
     'reads: loop {
         let Some(messages) = intake.next(reader)? else {
@@ -187,6 +188,21 @@ fn offer_stream<E: EntryLedger, H: RecordLedger, R: Source, O: Reception, T: Thr
         };
         let answers = prepare_piece(rt, shared, handle, &messages, &mut workers);
         offer_piece(rt, shared, handle, messages, answers, progress, reception)?;
+    }
+}
+
+/// The intake of a stream that is read at this pace. Its reads widen where several workers prepare what one brings.
+///
+/// # Errors
+/// Want of memory.
+fn intake_at(alloc: Global, pace: Pace) -> Result<Intake, AllocError>
+    ensures { IfOk result (λ i. (i.framing ≡ nothing_fed) × (i.turns ≡ pace.turns)
+        × (i.most ≤ 262144)) }
+{
+    if pace.workers > 1 {
+        Intake::widening(alloc, pace.turns)
+    } else {
+        Intake::new(alloc, pace.turns)
     }
 }
 

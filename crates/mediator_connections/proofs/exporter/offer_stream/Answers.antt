@@ -11,7 +11,7 @@ returns-in_err-intake-clause-stops g c =
     err_gives c.from_residual.result c.from_residual.ensures (λ e is. subst (λ x. StopsServing x c.args.pace.turns (g.R.Source.remaining c.args.reader.now) (g.R.Source.remaining c.args.reader.now) c.args.handle.now c.args.handle.now) (sym is) (begins_not c.args.pace.turns (g.R.Source.remaining c.args.reader.now) c.args.handle.now))
 
 pub reads-init : goal.reads-init
-reads-init g c = (reading_starts c.args.pace.turns c.in_ok-intake.intake (g.R.Source.remaining c.args.reader.now) c.args.handle.now c.in_ok-intake.ensures, c.requires.reader, ap length c.kept-before.ensures.value)
+reads-init g c = (reading_starts c.args.pace.turns c.in_ok-intake.intake (g.R.Source.remaining c.args.reader.now) c.args.handle.now c.in_ok-intake.ensures.0 c.in_ok-intake.ensures.1 c.in_ok-intake.ensures.2, c.requires.reader, ap length c.kept-before.ensures.value)
 
 pub returns-in_err-messages-clause-stops : goal.returns-in_err-messages-clause-stops
 returns-in_err-messages-clause-stops g c =
