@@ -8,6 +8,9 @@ use crate::stretch::Stretch;
 use std::alloc::{AllocError, Global};
 use std::marker::Model;
 
+/// For how many stretches of a message there is room at first.
+const FIRST_STRETCHES: usize = 8;
+
 /// Notes in their order. Contracts see their list.
 #[derive(Drop)]
 pub(crate) struct Stretches {
@@ -84,7 +87,7 @@ impl Stretches {
         if from.saturating_add(each.len()) > u32::MAX as usize {
             return Err(AllocError);
         }
-        self.stretches.reserve(2)?;
+        make_room(&mut self.stretches, &mut self.each, each.len())?;
         self.each.extend_from_slice(each)?;
         let (from, len) = (from as u32, each.len() as u32);
         let whole = (most / each.len()) as u32;
@@ -140,4 +143,25 @@ impl Stretches {
         }
         Ok(())
     }
+}
+
+/// Makes room in memory for a stretch behind `stretches`, or two, of which `more` things that are kept back stand behind `each`;
+/// and where it is the first, for some more like it, so that the lists of most messages are made once.
+///
+/// # Errors
+/// Want of memory.
+fn make_room(
+    stretches: &mut Vec<Stretch>,
+    each: &mut Vec<KeptBack>,
+    more: usize,
+) -> Result<(), AllocError>
+    ensures stretches { stretches.new.items ≡ stretches.old.items }
+    ensures each { each.new.items ≡ each.old.items }
+    ensures room { OnOk result (length stretches.new.items + 2 ≤ vec_capacity stretches.new) }
+{
+    if !stretches.is_empty() {
+        return stretches.reserve(2);
+    }
+    stretches.reserve(FIRST_STRETCHES)?;
+    each.reserve(more.saturating_mul(FIRST_STRETCHES))
 }

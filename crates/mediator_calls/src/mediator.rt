@@ -19,7 +19,7 @@ use mediator_tables::{SessionId, Share, SubId};
 use prepared_message::{JudgedAhead, Prepared, Snapshot};
 use std::alloc::{AllocError, Global};
 use std::marker::Model;
-use subscriber_stream::StreamLimits;
+use subscriber_stream::{MessagePieces, StreamLimits};
 
 /// A mediator: sessions of exporters, a policy, subscriptions that are given what the policy discloses to them, and an
 /// audit of what it keeps back. All that it accepted stands in its journal.
@@ -294,6 +294,25 @@ impl Mediator {
         ensures err { IfErr result (λ e. RefusesPull e self.old.history sub.0) }
     {
         self.state.pull(sub, now, target)
+    }
+
+    /// Builds the next message of the live subscription with the number `sub` as [`pull`](Mediator::pull) does with
+    /// `now` and `target`, in pieces: the octets of its records are shared with what else has them, unless its runs are
+    /// many and short.
+    ///
+    /// # Errors
+    /// [`Fault::UnknownSub`] where the subscription isn't live; or [`Fault::OutOfMemory`].
+    pub fn pull_pieces(
+        &mut self,
+        sub: SubId,
+        now: u32,
+        target: u16,
+    ) -> Result<Option<MessagePieces>, Fault>
+        ensures ok { IfOk result (λ answer. Pulls self.old sub.0 now target answer self.new) }
+        ensures unchanged { OnErr result (self.new ≡ self.old) }
+        ensures err { IfErr result (λ e. RefusesPull e self.old.history sub.0) }
+    {
+        self.state.pull_pieces(sub, now, target)
     }
 
     /// How the live subscription with the number `sub` stands. It takes no memory.

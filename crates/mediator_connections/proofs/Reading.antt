@@ -1,5 +1,6 @@
 -- A stream that is read piece by piece, and where it stops.
-use Rattle.std.proofs.Common.{◌≡◌, inl, inr, ℕ, ◌+◌, ◌≤◌, Bool, false, List, [], ◌∷◌, ◌++◌, length, Option, Some, None, refl, sym, ap, ◌∙◌, subst, append-nil, append_assoc, arith, length-append}
+use Rattle.std.proofs.Common.{◌≡◌, inl, inr, ℕ, suc, ◌+◌, ◌*◌, ◌≤◌, Bool, false, List, [], ◌∷◌, ◌++◌, length, Option, Some, None, refl, sym, ap, ◌∙◌, subst, append-nil, append_assoc, arith, length-append}
+use Rattle.std.proofs.Math.Nat.{mul-suc}
 use Rattle.std.specs.Io.KnownBytes.{Consumes}
 use Rattle.std.proofs.KnownBytes.{Consumes-trans, Consumes-nil}
 use Rattle.ipfix_message.specs.declared.fault.Fault.{Fault as DecodeError}
@@ -33,40 +34,46 @@ emptied w octets messages pending framed = subst (IsFramed octets messages (Some
 same_read : (given mid left : Option (List ℕ)) (octets : List ℕ) → Consumes given mid octets → Consumes mid left [] → Consumes given left octets
 same_read given mid left octets taken none = subst (Consumes given left) (append-nil octets) (Consumes-trans given mid left octets [] taken none)
 
+-- one read less
+a_read : (most left turns : ℕ) → left + 1 ≡ turns → most * turns ≡ most * left + most
+a_read most left turns is =
+    let one : turns ≡ suc left = omega (arith, is) in
+    ap (λ n. most * n) one ∙ mul-suc most left
+
 -- ---- on the way
 
-pub reading_starts : (turns : ℕ) (i : IntakeState) (given : Option (List ℕ)) (d : Exporting) → i.framing ≡ nothing_fed → i.turns ≡ turns → i.most ≤ 262144 → Reaches turns i given given d d
-reading_starts turns i given d framing is most = record {
+pub reading_starts : (most turns : ℕ) (i : IntakeState) (given : Option (List ℕ)) (d : Exporting) → i.framing ≡ nothing_fed → i.turns ≡ turns → i.most ≤ most → Reaches most turns i given given d d
+reading_starts most turns i given d framing is widest = record {
   octets = [];
   messages = [];
   taken = Consumes-nil given;
   all = record { framed = subst (λ x. IsFramed [] [] x.fault x.pending) (sym framing) nothing_framed; offers = offers_none d };
   many = omega (arith, is);
-  most = most;
-  few = omega (arith, is);
+  widest = widest;
+  few = omega (arith, ap (λ n. most * n) is);
 }
 
 -- a piece was read, and the messages that it made whole were offered
-pub reads_on : (turns : ℕ) (i k : IntakeState) (given mid left : Option (List ℕ)) (old d e : Exporting) (out : List (List ℕ)) → Reaches turns i given mid old d → Yields i mid left out k → Offers d e out → Reaches turns k given left old e
-reads_on turns i k given mid left old d e out so takes offers = record {
+pub reads_on : (most turns : ℕ) (i k : IntakeState) (given mid left : Option (List ℕ)) (old d e : Exporting) (out : List (List ℕ)) → Reaches most turns i given mid old d → Yields i mid left out k → Offers d e out → Reaches most turns k given left old e
+reads_on most turns i k given mid left old d e out so takes offers = record {
   octets = so.octets ++ takes.piece;
   messages = so.messages ++ out;
   taken = Consumes-trans given mid left so.octets takes.piece so.taken takes.is_piece.read;
   all = record { framed = takes.goes_on.after so.octets so.messages so.all.framed; offers = offers_then old d e so.messages out so.all.offers offers };
   many = omega (arith, so.many, takes.is_piece.some, takes.turn.0, length-append so.octets takes.piece);
-  most = omega (arith, takes.turn.1, so.most);
-  few = omega (arith, so.few, so.most, takes.is_piece.few, takes.turn.0, length-append so.octets takes.piece);
+  widest = omega (arith, takes.turn.1, so.widest);
+  few = omega (arith, so.few, so.widest, takes.is_piece.few, a_read most k.turns i.turns takes.turn.0, length-append so.octets takes.piece);
 }
 
 -- ---- where it ends
 
-pub reading_ends : (turns offered : ℕ) (i k : IntakeState) (given mid left : Option (List ℕ)) (old d : Exporting) → Reaches turns i given mid old d → Ends i mid left k → length d.kept ≡ length old.kept + offered → Serves turns offered given left old d
-reading_ends turns offered i k given mid left old d so ends many = record {
+pub reading_ends : (most turns offered : ℕ) (i k : IntakeState) (given mid left : Option (List ℕ)) (old d : Exporting) → Reaches most turns i given mid old d → Ends i mid left k → length d.kept ≡ length old.kept + offered → Serves most turns offered given left old d
+reading_ends most turns offered i k given mid left old d so ends many = record {
   octets = so.octets;
   messages = so.messages;
   taken = same_read given mid left so.octets so.taken ends.read;
   end = ends.end;
-  turns_made = omega (arith, so.few, ends.turn.0);
+  turns_made = omega (arith, so.few, a_read most k.turns i.turns ends.turn.0);
   all = record { framed = subst (λ x. IsFramed so.octets so.messages x.fault x.pending) ends.whole so.all.framed; offers = so.all.offers };
   counted = omega (arith, many, receipts_count old d so.messages so.all.offers);
 }
@@ -74,8 +81,8 @@ reading_ends turns offered i k given mid left old d so ends many = record {
 -- ---- where it stops
 
 -- no memory was there before the first read
-pub begins_not : (turns : ℕ) (given : Option (List ℕ)) (d : Exporting) → StopsServing out_of_memory turns given given d d
-begins_not turns given d = record {
+pub begins_not : (most turns : ℕ) (given : Option (List ℕ)) (d : Exporting) → StopsServing out_of_memory most turns given given d d
+begins_not most turns given d = record {
   octets = [];
   taken = Consumes-nil given;
   stops = (
@@ -93,9 +100,9 @@ begins_not turns given d = record {
 }
 
 -- one of the messages is refused
-refuses_one : (e : Fault) (turns : ℕ) (i k : IntakeState) (given mid left : Option (List ℕ)) (old d new : Exporting) (out : List (List ℕ)) → (so : Reaches turns i given mid old d) → (takes : Yields i mid left out k) → RefusesAmong e d new out
+refuses_one : (e : Fault) (most turns : ℕ) (i k : IntakeState) (given mid left : Option (List ℕ)) (old d new : Exporting) (out : List (List ℕ)) → (so : Reaches most turns i given mid old d) → (takes : Yields i mid left out k) → RefusesAmong e d new out
     → RefusesOne (so.octets ++ takes.piece) old new
-refuses_one e turns i k given mid left old d new out so takes stop = record {
+refuses_one e most turns i k given mid left old d new out so takes stop = record {
   before = so.messages ++ stop.before;
   message = stop.message;
   later = stop.later;
@@ -106,40 +113,40 @@ refuses_one e turns i k given mid left old d new out so takes stop = record {
   offers = offers_then old d new so.messages stop.before so.all.offers stop.offers;
 }
 
-stops_there : (e : Fault) (turns : ℕ) (octets : List ℕ) (left : Option (List ℕ)) (old new : Exporting) → (one : RefusesOne octets old new) → IsRefusalOf e one.message → AreRead 262144 turns octets → StopsAt e turns octets left old new
-stops_there (Mediator why) turns octets left old new one is few = (inl (one, is), few)
-stops_there TooWide turns octets left old new one is few = ((one, is), few)
-stops_there TooManyCounts turns octets left old new one is few = ((one, is), few)
-stops_there Read turns octets left old new one is few = absurd is
-stops_there (Write sent) turns octets left old new one is few = absurd is
-stops_there (Framing why) turns octets left old new one is few = absurd is
-stops_there Turns turns octets left old new one is few = absurd is
+stops_there : (e : Fault) (most turns : ℕ) (octets : List ℕ) (left : Option (List ℕ)) (old new : Exporting) → (one : RefusesOne octets old new) → IsRefusalOf e one.message → AreRead most turns octets → StopsAt e most turns octets left old new
+stops_there (Mediator why) most turns octets left old new one is few = (inl (one, is), few)
+stops_there TooWide most turns octets left old new one is few = ((one, is), few)
+stops_there TooManyCounts most turns octets left old new one is few = ((one, is), few)
+stops_there Read most turns octets left old new one is few = absurd is
+stops_there (Write sent) most turns octets left old new one is few = absurd is
+stops_there (Framing why) most turns octets left old new one is few = absurd is
+stops_there Turns most turns octets left old new one is few = absurd is
 
-pub message_stops : (e : Fault) (turns : ℕ) (i k : IntakeState) (given mid left : Option (List ℕ)) (old d new : Exporting) (out : List (List ℕ)) → Reaches turns i given mid old d → Yields i mid left out k → RefusesAmong e d new out
-    → StopsServing e turns given left old new
+pub message_stops : (e : Fault) (most turns : ℕ) (i k : IntakeState) (given mid left : Option (List ℕ)) (old d new : Exporting) (out : List (List ℕ)) → Reaches most turns i given mid old d → Yields i mid left out k → RefusesAmong e d new out
+    → StopsServing e most turns given left old new
 unfolding refuses_one
-message_stops e turns i k given mid left old d new out so takes stop = record {
+message_stops e most turns i k given mid left old d new out so takes stop = record {
   octets = so.octets ++ takes.piece;
   taken = Consumes-trans given mid left so.octets takes.piece so.taken takes.is_piece.read;
-  stops = stops_there e turns (so.octets ++ takes.piece) left old new (refuses_one e turns i k given mid left old d new out so takes stop) stop.is
-      (omega (arith, so.few, so.most, takes.is_piece.few, takes.turn.0, length-append so.octets takes.piece));
+  stops = stops_there e most turns (so.octets ++ takes.piece) left old new (refuses_one e most turns i k given mid left old d new out so takes stop) stop.is
+      (omega (arith, so.few, so.widest, takes.is_piece.few, a_read most k.turns i.turns takes.turn.0, length-append so.octets takes.piece));
 }
 
-whole_after : (turns : ℕ) (i : IntakeState) (given left : Option (List ℕ)) (old d : Exporting) → (so : Reaches turns i given left old d) → i.framing.fault ≡ None → OffersWhole so.octets i.framing.pending old d
-whole_after turns i given left old d so sound = record {
+whole_after : (most turns : ℕ) (i : IntakeState) (given left : Option (List ℕ)) (old d : Exporting) → (so : Reaches most turns i given left old d) → i.framing.fault ≡ None → OffersWhole so.octets i.framing.pending old d
+whole_after most turns i given left old d so sound = record {
   messages = so.messages;
   all = record { framed = subst (λ x. IsFramed so.octets so.messages x i.framing.pending) sound so.all.framed; offers = so.all.offers };
 }
 
 -- the octets of a stream with a fault
-record FaultIn (w : DecodeError) (turns : ℕ) (given left : Option (List ℕ)) (old d : Exporting) : Type 0 where
+record FaultIn (w : DecodeError) (most turns : ℕ) (given left : Option (List ℕ)) (old d : Exporting) : Type 0 where
   pub octets : List ℕ
   pub taken : Consumes given left octets
   pub before : OffersBefore w octets old d
-  pub few : AreRead 262144 turns octets
+  pub few : AreRead most turns octets
 
-faulty : (w : DecodeError) (turns : ℕ) (i k : IntakeState) (given mid left : Option (List ℕ)) (old d : Exporting) → Reaches turns i given mid old d → StreamHasFault w i mid left k → FaultIn w turns given left old d
-faulty w turns i k given mid left old d so (inl was) = record {
+faulty : (w : DecodeError) (most turns : ℕ) (i k : IntakeState) (given mid left : Option (List ℕ)) (old d : Exporting) → Reaches most turns i given mid old d → StreamHasFault w i mid left k → FaultIn w most turns given left old d
+faulty w most turns i k given mid left old d so (inl was) = record {
   octets = so.octets;
   taken = same_read given mid left so.octets so.taken was.1.read;
   before = record {
@@ -148,7 +155,7 @@ faulty w turns i k given mid left old d so (inl was) = record {
   };
   few = omega (arith, so.few);
 }
-faulty w turns i k given mid left old d so (inr now) = record {
+faulty w most turns i k given mid left old d so (inr now) = record {
   octets = so.octets ++ now.piece;
   taken = Consumes-trans given mid left so.octets now.piece so.taken now.is_piece.read;
   before = record {
@@ -158,33 +165,33 @@ faulty w turns i k given mid left old d so (inr now) = record {
       offers = subst (Offers old d) (sym (append-nil so.messages)) so.all.offers;
     };
   };
-  few = omega (arith, so.few, so.most, now.is_piece.few, now.turn.0, length-append so.octets now.piece);
+  few = omega (arith, so.few, so.widest, now.is_piece.few, a_read most k.turns i.turns now.turn.0, length-append so.octets now.piece);
 }
 
 -- the intake hands out nothing more
-pub intake_stops : (w : IntakeFault) (turns : ℕ) (i k : IntakeState) (given mid left : Option (List ℕ)) (old d : Exporting) → Reaches turns i given mid old d → StopsIntake w i mid left k → StopsServing (intake_refusal w) turns given left old d
-intake_stops intake.Read turns i k given mid left old d so stops = record {
+pub intake_stops : (w : IntakeFault) (most turns : ℕ) (i k : IntakeState) (given mid left : Option (List ℕ)) (old d : Exporting) → Reaches most turns i given mid old d → StopsIntake w i mid left k → StopsServing (intake_refusal w) most turns given left old d
+intake_stops intake.Read most turns i k given mid left old d so stops = record {
   octets = so.octets;
   taken = same_read given mid left so.octets so.taken stops.read;
-  stops = ((i.framing.pending, whole_after turns i given mid old d so stops.sound), omega (arith, so.few, stops.turn.0));
+  stops = ((i.framing.pending, whole_after most turns i given mid old d so stops.sound), omega (arith, so.few, a_read most k.turns i.turns stops.turn.0));
 }
-intake_stops (intake.Framing framing.BadVersion) turns i k given mid left old d so stops =
-    let f = faulty frame.BadVersion turns i k given mid left old d so stops in
+intake_stops (intake.Framing framing.BadVersion) most turns i k given mid left old d so stops =
+    let f = faulty frame.BadVersion most turns i k given mid left old d so stops in
     record { octets = f.octets; taken = f.taken; stops = (f.before, f.few) }
-intake_stops (intake.Framing framing.BadLength) turns i k given mid left old d so stops =
-    let f = faulty frame.BadLength turns i k given mid left old d so stops in
+intake_stops (intake.Framing framing.BadLength) most turns i k given mid left old d so stops =
+    let f = faulty frame.BadLength most turns i k given mid left old d so stops in
     record { octets = f.octets; taken = f.taken; stops = (f.before, f.few) }
-intake_stops (intake.Framing framing.CutOff) turns i k given mid left old d so stops = record {
+intake_stops (intake.Framing framing.CutOff) most turns i k given mid left old d so stops = record {
   octets = so.octets;
   taken = same_read given mid left so.octets so.taken stops.read;
-  stops = ((i.framing.pending, whole_after turns i given mid old d so stops.sound, stops.pending), omega (arith, so.few, stops.turn.0), stops.end);
+  stops = ((i.framing.pending, whole_after most turns i given mid old d so stops.sound, stops.pending), omega (arith, so.few, a_read most k.turns i.turns stops.turn.0), stops.end);
 }
-intake_stops intake.Turns turns i k given mid left old d so stops = record {
+intake_stops intake.Turns most turns i k given mid left old d so stops = record {
   octets = so.octets;
   taken = same_read given mid left so.octets so.taken stops.2.read;
-  stops = ((i.framing.pending, whole_after turns i given mid old d so stops.0), omega (arith, so.many, stops.1), omega (arith, so.few, stops.1));
+  stops = ((i.framing.pending, whole_after most turns i given mid old d so stops.0), omega (arith, so.many, stops.1), omega (arith, so.few, stops.1));
 }
-intake_stops intake.OutOfMemory turns i k given mid left old d so stops = record {
+intake_stops intake.OutOfMemory most turns i k given mid left old d so stops = record {
   octets = so.octets ++ stops.piece;
   taken = Consumes-trans given mid left so.octets stops.piece so.taken stops.is_piece.read;
   stops = (
@@ -193,11 +200,11 @@ intake_stops intake.OutOfMemory turns i k given mid left old d so stops = record
       fed = so.octets;
       piece = stops.piece;
       parts = refl;
-      few = omega (arith, so.most, stops.is_piece.few);
+      few = omega (arith, so.widest, stops.is_piece.few);
       pending = i.framing.pending;
-      whole = whole_after turns i given mid old d so stops.sound;
+      whole = whole_after most turns i given mid old d so stops.sound;
     }),
-    omega (arith, so.few, so.most, stops.is_piece.few, stops.turn.0, length-append so.octets stops.piece),
+    omega (arith, so.few, so.widest, stops.is_piece.few, a_read most k.turns i.turns stops.turn.0, length-append so.octets stops.piece),
   );
 }
 

@@ -131,7 +131,7 @@ sends_on Shows target sent n old d e more held holds writes so p sends = record 
 -- ---- where it stops
 
 -- behind octets that were written the writer failed inside others
-front_behind : (before due : List ℕ) (front : ℕ) (held holds writes : Option (List ℕ)) (failed : Bool) → Appends held holds before → WritesFront holds writes due front failed
+pub front_behind : (before due : List ℕ) (front : ℕ) (held holds writes : Option (List ℕ)) (failed : Bool) → Appends held holds before → WritesFront holds writes due front failed
     → WritesFront held writes (before ++ due) (length before + front) failed
 front_behind before due front held holds writes failed so stops = record {
   short = omega (arith, stops.short, length-append before due);

@@ -1,6 +1,6 @@
 -- What an exporter's stream adds to the receipts of its handle, and where serving it stops. That a stream is read in pieces, and by so
 -- many reads at most, is this project's own rule; how its octets are cut into messages is the standard's (RFC 7011, section 10.4).
-use Rattle.std.specs.Prelude.{◌≡◌, ◌⊎◌, ℕ, ◌+◌, ◌*◌, ◌<◌, ◌≤◌, List, [], ◌∷◌, ◌++◌, map, length, Option, Some, None}
+use Rattle.std.specs.Prelude.{◌≡◌, ◌⊎◌, ℕ, ◌+◌, ◌*◌, ◌<◌, ◌≤◌, List, [], ◌∷◌, ◌++◌, map, length, Option, Some, None, nat_lt, if◌then◌else◌}
 use Rattle.std.specs.Io.KnownBytes.{Consumes, IsAtEnd}
 use Rattle.ipfix_template.specs.declared.template.Template.{Template}
 use Rattle.ipfix_message.specs.declared.fault.Fault.{Fault as DecodeError}
@@ -36,18 +36,22 @@ pub record Offers (old new : Exporting) (messages : List (List ℕ)) : Type 0 wh
 
 -- ---- what is read
 
+-- the most octets of one read: it may bring four times as many where several threads prepare what it brings
+abbrev pub most_read : ℕ → ℕ
+most_read workers = if nat_lt 1 workers then 262144 else 65536
+
 -- these octets are these messages, and then this fault or these octets that are pending; all of the messages were offered
 pub record OffersAll (octets : List ℕ) (messages : List (List ℕ)) (faulty : Option DecodeError) (pending : List ℕ) (old new : Exporting) : Type 0 where
   pub framed : IsFramed octets messages faulty pending
   pub offers : Offers old new messages
 
 -- all was read within the reads that are allowed, and it is whole messages, which were offered and counted
-pub record Serves (turns offered : ℕ) (given left : Option (List ℕ)) (old new : Exporting) : Type 0 where
+pub record Serves (most turns offered : ℕ) (given left : Option (List ℕ)) (old new : Exporting) : Type 0 where
   pub octets : List ℕ
   pub messages : List (List ℕ)
   pub taken : Consumes given left octets
   pub end : IsAtEnd left
-  pub turns_made : AreReadBut 262144 turns octets
+  pub turns_made : AreReadBut most turns octets
   pub all : OffersAll octets messages None [] old new
   pub counted : offered ≡ length messages
 
@@ -78,32 +82,32 @@ pub record RefusesOne (octets : List ℕ) (old new : Exporting) : Type 0 where
   pub offers : Offers old new before
 
 -- what the last read gave found no memory, or there was none before the first; all whole messages of the octets before that were offered
-pub record LosesLastRead (why : MediatorFault) (octets : List ℕ) (old new : Exporting) : Type 0 where
+pub record LosesLastRead (most : ℕ) (why : MediatorFault) (octets : List ℕ) (old new : Exporting) : Type 0 where
   pub memory : why ≡ fault.OutOfMemory
   pub fed : List ℕ
   pub piece : List ℕ
   pub parts : octets ≡ fed ++ piece
-  pub few : length piece ≤ 262144
+  pub few : length piece ≤ most
   pub pending : List ℕ
   pub whole : OffersWhole fed pending old new
 
 -- where it stops that has read these octets, by what cause, and which of their messages were offered
-abbrev pub StopsAt : Fault → ℕ → List ℕ → Option (List ℕ) → Exporting → Exporting → Type 0
-StopsAt Read turns octets left old new = ((pending : List ℕ) × OffersWhole octets pending old new) × AreReadBut 262144 turns octets
-StopsAt Turns turns octets left old new = ((pending : List ℕ) × OffersWhole octets pending old new) × (turns ≤ length octets) × AreRead 262144 turns octets
-StopsAt (Framing framing.CutOff) turns octets left old new = ((pending : List ℕ) × OffersWhole octets pending old new × (0 < length pending)) × AreReadBut 262144 turns octets × IsAtEnd left
-StopsAt (Framing framing.BadVersion) turns octets left old new = OffersBefore frame.BadVersion octets old new × AreRead 262144 turns octets
-StopsAt (Framing framing.BadLength) turns octets left old new = OffersBefore frame.BadLength octets old new × AreRead 262144 turns octets
-StopsAt (Mediator why) turns octets left old new = ((RefusesOne octets old new × MayRefuseOffer why) ⊎ LosesLastRead why octets old new) × AreRead 262144 turns octets
-StopsAt TooWide turns octets left old new = ((one : RefusesOne octets old new) × IsTooWideAt one.message) × AreRead 262144 turns octets
-StopsAt TooManyCounts turns octets left old new = ((one : RefusesOne octets old new) × CountsTooMany one.message) × AreRead 262144 turns octets
-StopsAt _ turns octets left old new = ⊥
+abbrev pub StopsAt : Fault → ℕ → ℕ → List ℕ → Option (List ℕ) → Exporting → Exporting → Type 0
+StopsAt Read most turns octets left old new = ((pending : List ℕ) × OffersWhole octets pending old new) × AreReadBut most turns octets
+StopsAt Turns most turns octets left old new = ((pending : List ℕ) × OffersWhole octets pending old new) × (turns ≤ length octets) × AreRead most turns octets
+StopsAt (Framing framing.CutOff) most turns octets left old new = ((pending : List ℕ) × OffersWhole octets pending old new × (0 < length pending)) × AreReadBut most turns octets × IsAtEnd left
+StopsAt (Framing framing.BadVersion) most turns octets left old new = OffersBefore frame.BadVersion octets old new × AreRead most turns octets
+StopsAt (Framing framing.BadLength) most turns octets left old new = OffersBefore frame.BadLength octets old new × AreRead most turns octets
+StopsAt (Mediator why) most turns octets left old new = ((RefusesOne octets old new × MayRefuseOffer why) ⊎ LosesLastRead most why octets old new) × AreRead most turns octets
+StopsAt TooWide most turns octets left old new = ((one : RefusesOne octets old new) × IsTooWideAt one.message) × AreRead most turns octets
+StopsAt TooManyCounts most turns octets left old new = ((one : RefusesOne octets old new) × CountsTooMany one.message) × AreRead most turns octets
+StopsAt _ most turns octets left old new = ⊥
 
 -- octets were read, and it stops so
-pub record StopsServing (e : Fault) (turns : ℕ) (given left : Option (List ℕ)) (old new : Exporting) : Type 0 where
+pub record StopsServing (e : Fault) (most turns : ℕ) (given left : Option (List ℕ)) (old new : Exporting) : Type 0 where
   pub octets : List ℕ
   pub taken : Consumes given left octets
-  pub stops : StopsAt e turns octets left old new
+  pub stops : StopsAt e most turns octets left old new
 
 -- ---- what no public clause cites
 
@@ -127,11 +131,11 @@ pub record RefusesAmong (e : Fault) (old new : Exporting) (messages : List (List
   pub offers : Offers old new before
 
 -- how far it has come: all messages that are whole so far were offered
-pub record Reaches (turns : ℕ) (i : IntakeState) (given left : Option (List ℕ)) (old new : Exporting) : Type 0 where
+pub record Reaches (most turns : ℕ) (i : IntakeState) (given left : Option (List ℕ)) (old new : Exporting) : Type 0 where
   pub octets : List ℕ
   pub messages : List (List ℕ)
   pub taken : Consumes given left octets
   pub all : OffersAll octets messages i.framing.fault i.framing.pending old new
   pub many : turns ≤ length octets + i.turns
-  pub most : i.most ≤ 262144
-  pub few : length octets + 262144 * i.turns ≤ 262144 * turns
+  pub widest : i.most ≤ most
+  pub few : length octets + most * i.turns ≤ most * turns

@@ -14,6 +14,7 @@ use shared_mediator::{
 };
 use std::alloc::AllocError;
 use std::sync::Wait;
+use subscriber_stream::MessagePieces;
 
 /// The most octets of a message.
 const LONGEST_MESSAGE: u64 = ipfix_octets::message_format::LONGEST_MESSAGE as u64;
@@ -174,7 +175,7 @@ fn join(messages: &[Handed], piece: &mut Vec<u8>) -> Result<(), AllocError>
 {
     piece.clear();
     'joins: for handed in messages {
-        piece.extend_from_slice(handed.message.as_slice())?;
+        handed.message.append_to(piece)?;
     }
     Ok(())
 }
@@ -193,7 +194,33 @@ fn send_each<W: Sink>(messages: &[Handed], writer: &mut W, mut sent: u64) -> Res
         (W.contents writer.old) (W.contents writer.new) (W.has_failed writer.new)) }
 {
     'sends: for handed in messages {
-        sent = send(handed.message.as_slice(), writer, sent)?;
+        sent = send_chunks(&handed.message, writer, sent)?;
+    }
+    Ok(sent)
+}
+
+/// Writes `message`, a chunk at a time, behind the `sent` octets of those before it, and answers how many octets were sent in
+/// all.
+///
+/// # Errors
+/// The writer failed, and the fault says how many octets were sent in all.
+fn send_chunks<W: Sink>(
+    message: &MessagePieces,
+    writer: &mut W,
+    mut sent: u64,
+) -> Result<u64, Fault>
+    requires fits { sent + length message.now < 2 ^ 64 }
+    ensures ok { IfOk result (λ n.
+        Sends message.now sent n (W.contents writer.old) (W.contents writer.new)) }
+    ensures stays { OnOk result (W.has_failed writer.new ≡ W.has_failed writer.old) }
+    ensures err { IfErr result (λ e. StopsSending e message.now sent
+        (W.contents writer.old) (W.contents writer.new) (W.has_failed writer.new)) }
+{
+    let mut start = 0;
+    'chunks: while start < message.len() {
+        let chunk = message.chunk(start);
+        sent = send(chunk, writer, sent)?;
+        start += chunk.len();
     }
     Ok(sent)
 }

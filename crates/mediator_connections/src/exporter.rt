@@ -4,7 +4,7 @@ ghost use Rattle.std.specs.Vec.Iter.{into_iter_items};
 ghost use Rattle.ipfix_message.specs.FramerState.{nothing_fed};
 ghost use Rattle.event_journal.specs.declared.entry.Entry.TheVariants.{Message};
 ghost use Rattle.prepared_message.specs.Holding.{CountsTooMany, IsAheadOf};
-ghost use Rattle.mediator_connections.specs.Serving.{IsRefusalOf, IsTooWideAt, Offers, RefusesAmong, Reaches, StopsServing, Serves};
+ghost use Rattle.mediator_connections.specs.Serving.{IsRefusalOf, IsTooWideAt, Offers, RefusesAmong, Reaches, StopsServing, Serves, most_read};
 ghost use Rattle.mediator_connections.specs.Preparing.{ArePreparations, IsFrontOf};
 ghost use Rattle.mediator_connections.specs.Faults.{fails_reader};
 
@@ -121,11 +121,11 @@ pub fn serve_exporter<
 ) -> Result<ServedExporter, (Fault, ServedExporter)>
     requires reader { R.has_failed reader.old ≡ false }
     // All of the stream was read, and each of its messages was accepted.
-    ensures serves { IfOk result (λ served. Serves turns served.messages
+    ensures serves { IfOk result (λ served. Serves (most_read workers) turns served.messages
         (R.remaining reader.old) (R.remaining reader.new) handle.old handle.new) }
     ensures sound { OnOk result (R.has_failed reader.new ≡ false) }
     // Where it stopped, and which messages were accepted before.
-    ensures stops { IfErr result (λ e. StopsServing e.0 turns
+    ensures stops { IfErr result (λ e. StopsServing e.0 (most_read workers) turns
         (R.remaining reader.old) (R.remaining reader.new) handle.old handle.new) }
     ensures counted { IfErr result (λ e.
         e.1.messages ≡ length handle.new.kept - length handle.old.kept) }
@@ -171,11 +171,11 @@ fn offer_stream<E: EntryLedger, H: RecordLedger, R: Source, O: Reception, T: Thr
 ) -> Result<u64, Fault>
     requires reader { R.has_failed reader.old ≡ false }
     // All of the stream was read, and each of its messages was accepted.
-    ensures serves { IfOk result (λ offered. Serves pace.turns offered
+    ensures serves { IfOk result (λ offered. Serves (most_read pace.workers) pace.turns offered
         (R.remaining reader.old) (R.remaining reader.new) handle.old handle.new) }
     ensures sound { OnOk result (R.has_failed reader.new ≡ false) }
     // Where it stopped, and which messages were accepted before.
-    ensures stops { IfErr result (λ e. StopsServing e pace.turns
+    ensures stops { IfErr result (λ e. StopsServing e (most_read pace.workers) pace.turns
         (R.remaining reader.old) (R.remaining reader.new) handle.old handle.new) }
     ensures fails { IfErr result (λ e. R.has_failed reader.new ≡ fails_reader e) }
 {
@@ -197,7 +197,7 @@ fn offer_stream<E: EntryLedger, H: RecordLedger, R: Source, O: Reception, T: Thr
 /// Want of memory.
 fn intake_at(alloc: Global, pace: Pace) -> Result<Intake, AllocError>
     ensures { IfOk result (λ i. (i.framing ≡ nothing_fed) × (i.turns ≡ pace.turns)
-        × (i.most ≤ 262144)) }
+        × (i.most ≤ most_read pace.workers)) }
 {
     if pace.workers > 1 {
         Intake::widening(alloc, pace.turns)

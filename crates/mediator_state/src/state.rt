@@ -23,7 +23,7 @@ use policy_text::{Fault as PolicyFault, FaultKind, Name, Policy, is_name};
 use prepared_message::{JudgedAhead, Prepared, Snapshot};
 use std::alloc::{AllocError, Global};
 use std::slice::from_ref;
-use subscriber_stream::StreamLimits;
+use subscriber_stream::{MessagePieces, StreamLimits};
 
 /// How many records may wait for a subscription where nobody sets a limit: 65,536.
 pub const DEFAULT_QUEUE: u32 = 65_536;
@@ -540,6 +540,45 @@ impl<C: Chronicle + Drop, Q: AuditQueue + Drop> State<C, Q> {
         }
         match self.engine.subscriptions.pull(sub, now, target) {
             Ok(message) => Ok(message),
+            Err(AllocError) => Err(Fault::OutOfMemory),
+        }
+    }
+
+    /// Builds the next message of the live subscription with the number `sub` as [`pull`](State::pull) does with `now`
+    /// and `target`, in pieces: the octets of its records are shared with what else has them, unless its runs are many
+    /// and short.
+    ///
+    /// # Errors
+    /// [`Fault::UnknownSub`] where the subscription isn't live; or [`Fault::OutOfMemory`]. Nothing has changed then.
+    pub fn pull_pieces(
+        &mut self,
+        sub: SubId,
+        now: u32,
+        target: u16,
+    ) -> Result<Option<MessagePieces>, Fault>
+        // The limits stay.
+        ensures limits { self.new.engine.limits ≡ self.old.engine.limits }
+        ensures audit_limit { self.new.engine.audit.limit ≡ self.old.engine.audit.limit }
+        // The message is that at the place of the subscription, which moves past it. No other place moves.
+        ensures ok { IfOk result (λ m. ForEachHistory C.tells self.old
+            (PullsAfter self.old.engine self.new.engine sub.0 now target m)) }
+        ensures others { (q : ℕ) → q ≢ sub.0
+            → handed_place self.new.engine q ≡ handed_place self.old.engine q }
+        ensures drained { self.new.engine.audit.standing.drained
+            ≡ self.old.engine.audit.standing.drained }
+        // The history stays in any case, and so do the limits of the journal.
+        ensures keeps { KeepsHistories C.tells self.old self.new }
+        ensures journaled { C.limits self.new.chronicle ≡ C.limits self.old.chronicle }
+        // A refused call changes nothing, and names the first cause.
+        ensures unchanged { OnErr result (StaysSame C.tells C.limits self.old self.new) }
+        ensures err { IfErr result (λ e. ForEachHistory C.tells self.old
+            (λ h. RefusesPull e h sub.0)) }
+    {
+        if !self.engine.is_live(sub) {
+            return Err(Fault::UnknownSub);
+        }
+        match self.engine.subscriptions.pull_pieces(sub, now, target) {
+            Ok(pieces) => Ok(pieces),
             Err(AllocError) => Err(Fault::OutOfMemory),
         }
     }

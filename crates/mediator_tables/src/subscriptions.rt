@@ -17,7 +17,7 @@ use policy_text::Name;
 use std::alloc::{AllocError, Global};
 use std::collections::BTreeMap;
 use std::marker::Model;
-use subscriber_stream::Stream;
+use subscriber_stream::{MessagePieces, Stream};
 
 /// The live subscriptions of a mediator. A look-up by number or by name takes time that grows with the logarithm of how
 /// many there are. What goes over those that are served doesn't go over those that are cut.
@@ -227,6 +227,33 @@ impl Subscriptions {
     {
         match self.by_number.get_mut(&sub.0) {
             Some(kept) => kept.stream.pull(now, target),
+            None => unreachable!(),
+        }
+    }
+
+    /// Builds the next message of the live subscription with the number `sub` as [`pull`](Subscriptions::pull) does
+    /// with `now` and `target`, in pieces: the octets of its records are shared with what else has them, unless its
+    /// runs are many and short.
+    ///
+    /// # Errors
+    /// Want of memory for the list of pieces, and then nothing has changed.
+    pub fn pull_pieces(
+        &mut self,
+        sub: SubId,
+        now: u32,
+        target: u16,
+    ) -> Result<Option<MessagePieces>, AllocError>
+        requires known { IsSome (at self.old sub.0) }
+        // No other subscription changes, nor who is served.
+        ensures others { (q : ℕ) → q ≢ sub.0 → at self.new q ≡ at self.old q }
+        ensures served { self.new.served ≡ self.old.served }
+        // The message is what the stream gives; want of memory changes nothing.
+        ensures ok { IfOk result (λ m.
+            Related (PullsOne now target m) (at self.old sub.0) (at self.new sub.0)) }
+        ensures err { OnErr result (SameTable self.old self.new) }
+    {
+        match self.by_number.get_mut(&sub.0) {
+            Some(kept) => kept.stream.pull_pieces(now, target),
             None => unreachable!(),
         }
     }

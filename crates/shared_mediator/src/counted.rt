@@ -316,7 +316,7 @@ impl CountedMediator {
         if before.queued as u64 > u64::MAX - self.handed {
             return Err(MediatorFault::HandedFull);
         }
-        let message = match self.mediator.pull(sub, now, target) {
+        let message = match self.mediator.pull_pieces(sub, now, target) {
             Ok(message) => message,
             Err(fault) => return Err(fault),
         };

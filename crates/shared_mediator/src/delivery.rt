@@ -31,15 +31,6 @@ pub enum Waited {
     Stopped,
 }
 
-/// How many octets of memory are made ready for what one call pulls: what 46 messages of 1,400 octets take.
-const READY: usize = 66_000;
-
-/// Has the allocator hold memory for the messages of one call, so that the system isn't asked for it while the lock is
-/// held. Where it gives none now, the pull finds that out.
-fn make_ready(alloc: Global) {
-    let _given_back = Vec::from_elem(alloc, 0u8, READY);
-}
-
 /// One subscription's delivery from a shared mediator, with the messages that were pulled through it. It is used with the
 /// mediator that made it.
 ///
@@ -167,7 +158,6 @@ impl<H: RecordLedger> DeliveryHandle<H> {
         ensures unchanged { OnErr result (self.new ≡ self.old) }
         ensures refuses { IfErr result MayRefusePull }
     {
-        make_ready(self.allocator());
         let locked = shared.locked(rt);
         locked.status(self.sub)?;
         let Ok(mut locked) = self.queued(rt, shared, locked) else {

@@ -1,12 +1,12 @@
 //! What a pull of a counted mediator hands out.
 
-use bytes::Bytes;
+use subscriber_stream::MessagePieces;
 
 /// A message that was handed out to a subscription.
-#[derive(Debug, Drop, PartialEq, Eq)]
+#[derive(Drop)]
 pub struct Handed {
     /// The octets of the message.
-    pub message: Bytes,
+    pub message: MessagePieces,
     /// How many Data Records stand in it.
     pub records: u64,
 }

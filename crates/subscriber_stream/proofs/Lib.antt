@@ -1,6 +1,7 @@
 pub mod ShapeLaws
 pub mod TableLaws
 pub mod TextLaws
+pub mod ChunkLaws
 pub mod RunLaws
 pub mod Queues
 pub mod Costs

@@ -2,7 +2,7 @@
 use Rattle.std.proofs.Common.{◌≡◌, ℕ, zero, suc, ◌+◌, ◌-◌, ◌<◌, ◌≤◌, Bool, true, false, cond, leb, List, [], ◌∷◌, ◌++◌, length, get_or, take, drop, refl, sym, ap, ◌∙◌, arith, length-append, length-drop}
 use Rattle.std.specs.List.{concat}
 use Rattle.std.proofs.lemmas.Bool.{le-leb, lt-leb, leb-true}
-use Rattle.std.proofs.lemmas.List.{length-take-le, take_more, drop_more, drop_all}
+use Rattle.std.proofs.lemmas.List.{length-take-le, take_all, take_more, drop_more, drop_all}
 use Rattle.ipfix_records.specs.Pieces.{pieces, AreEnds}
 use Rattle.ipfix_records.proofs.PieceLaws.{length_pieces, take_pieces, concat_pieces, ends_ascend, ends_of_first, end_within}
 use Rattle.subscriber_stream.specs.Texts.{fitting_texts}
@@ -87,6 +87,19 @@ pub all_fitting : (room : ℕ) (texts : List (List ℕ)) (count : ℕ) → AreFi
 all_fitting room texts count are all =
     let none : fitting_texts (room - length (concat (take count texts))) (drop count texts) ≡ 0 = ap (fitting_texts (room - length (concat (take count texts)))) (drop_all count texts all) in
     omega (arith, are.others, none)
+
+-- all fit where they have no more octets together
+whole_fitting : (room : ℕ) (texts : List (List ℕ)) → length (concat texts) ≤ room → fitting_texts room texts ≡ length texts
+whole_fitting room [] le = refl
+whole_fitting room (text ∷ texts) le =
+    let both = length-append text (concat texts) in
+    ap (λ (b : Bool). cond b (suc (fitting_texts (room - length text) texts)) 0) (le-leb (length text) room (omega (arith, both, le))) ∙ ap suc (whole_fitting (room - length text) texts (omega (arith, both, le)))
+
+pub none_left_over : (room : ℕ) (texts : List (List ℕ)) (count octets : ℕ) → count ≡ length texts → octets ≡ length (concat (take count texts)) → octets ≤ room → count ≡ fitting_texts room texts
+none_left_over room texts count octets all is le =
+    let whole : take count texts ≡ texts = take_all count texts (omega (arith, all)) in
+    let few : length (concat texts) ≤ room = omega (arith, is, le, ap (λ (ts : List (List ℕ)). length (concat ts)) whole) in
+    omega (arith, all, whole_fitting room texts few)
 
 -- at most all fit
 pub fitting_few : (room : ℕ) (texts : List (List ℕ)) → fitting_texts room texts ≤ length texts

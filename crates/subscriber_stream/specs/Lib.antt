@@ -18,6 +18,7 @@ pub mod LongestSets
 pub mod Table
 pub mod Items
 pub mod Texts
+pub mod MessagePieces
 pub mod Waiting
 pub mod Standing
 pub mod Steps

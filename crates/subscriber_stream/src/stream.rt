@@ -11,11 +11,12 @@ mod tests;
 use crate::announcing::announced_octets;
 use crate::fitting::fitting;
 use crate::limits::StreamLimits;
+use crate::message_pieces::MessagePieces;
 use crate::room::has_shape_room;
 use crate::shape_table::ShapeTable;
 use crate::texts::Texts;
 use crate::waiting::{Waiting, keep_rest, put_waiting};
-use crate::writing::{message_of, put_message};
+use crate::writing::{message_of, pieces_of, put_message};
 use bytes::Bytes;
 use hash_keys::HashKeys;
 use ipfix_octets::message_format::LEAST_TEMPLATE_ID;
@@ -324,6 +325,36 @@ impl Stream {
         Ok(Some(message))
     }
 
+    /// Builds the next message as [`pull`](Stream::pull) does with `now` and `target`, in pieces: the
+    /// octets of its records are shared with what else has them, and not copied, unless its runs are
+    /// many and short.
+    ///
+    /// # Errors
+    /// Want of memory for the list of pieces, and then the stream is as it was.
+    pub fn pull_pieces(
+        &mut self,
+        now: u32,
+        target: u16,
+    ) -> Result<Option<MessagePieces>, AllocError>
+        // The message is the one that is built at the place where the stream stands, and the stream then
+        // stands after its parts.
+        ensures ok { IfOk result (λ m. GivesNext self.old.standing now target m self.new.standing) }
+        ensures end { IfOk result (λ m. IsNone m ↔ (queue_size self.old.standing ≡ 0)) }
+        // At the end no memory is taken.
+        ensures no_memory { queue_size self.old.standing ≡ 0 → IsOk result }
+        ensures limits { self.new.limits ≡ self.old.limits }
+        ensures spare { self.new.spare ≡ self.old.spare }
+        ensures err { OnErr result (self.new ≡ self.old) }
+    {
+        if self.queue.is_empty() {
+            return Ok(None);
+        }
+        let run = fitting(&self.queue, target);
+        let message = pieces_of(self.alloc, &self.shapes, &self.queue, run, now, self.handed)?;
+        self.hand_out(run.parts);
+        Ok(Some(message))
+    }
+
     /// Builds the next message as [`pull`](Stream::pull) does with `now` and `target`, and puts its
     /// octets in place of those that stand in `message`: so one list serves many messages. The
     /// answer is whether there is one; at the end `message` stays.
@@ -353,7 +384,16 @@ impl Stream {
         }
         let run = fitting(&self.queue, target);
         message.clear();
-        put_message(&self.shapes, &self.queue, run, now, self.handed, message)?;
+        message.reserve(run.octets)?;
+        put_message(
+            self.alloc,
+            &self.shapes,
+            &self.queue,
+            run,
+            now,
+            self.handed,
+            message,
+        )?;
         self.hand_out(run.parts);
         Ok(true)
     }

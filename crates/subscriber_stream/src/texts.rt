@@ -1,5 +1,5 @@
 //! Texts of records that wait.
-ghost use Rattle.std.specs.Prelude.{◌≡◌, ◌≤◌, ◌<◌, ◌+◌, ◌-◌, ◌^◌, ◌∷◌, length, take, drop, slice_index};
+ghost use Rattle.std.specs.Prelude.{◌≡◌, ◌≤◌, ◌<◌, ◌+◌, ◌-◌, ◌^◌, ◌∷◌, length, take, drop, slice_index, IfOk};
 ghost use Rattle.std.specs.List.{concat};
 ghost use Rattle.ipfix_records.specs.Pieces.{pieces, AreEnds};
 
@@ -7,6 +7,7 @@ ghost use Rattle.ipfix_records.specs.Pieces.{pieces, AreEnds};
 mod tests;
 
 use bytes::Bytes;
+use std::alloc::AllocError;
 use std::marker::Model;
 
 /// The texts of records of one template that wait to be handed out, one after another. Contracts see the list of them.
@@ -74,11 +75,27 @@ impl Texts {
         between(&self.octets, self.start, end)
     }
 
+    /// The first `count` of them, one after another, as one owner more of these octets.
+    ///
+    /// # Errors
+    /// Their owners can't be counted.
+    pub(crate) fn shared_front(&self, count: usize) -> Result<Bytes, AllocError>
+        requires { count ≤ length self.now }
+        ensures { IfOk result (λ octets. octets ≡ concat (take count self.now)) }
+    {
+        let end = end_of(&self.ends, self.handed, self.start, count);
+        self.octets.slice(self.start as usize..end as usize)
+    }
+
     /// How many from the front have at most `room` octets together.
     pub(crate) fn fitting(&self, room: usize) -> usize
         ensures { result ≡ fitting_texts room self.now }
     {
         let most = self.len();
+        let all = self.octets(most);
+        if all <= room {
+            return most;
+        }
         for count in 0..most {
             if self.octets(count + 1) > room {
                 return count;

@@ -5,7 +5,7 @@ use ipfix_session::Session;
 use std::alloc::{AllocError, Global};
 use std::process::Abort;
 use std::test::Fail;
-use subscriber_stream::{Stream, StreamLimits};
+use subscriber_stream::{MessagePieces, Stream, StreamLimits};
 
 /// The Export Time of the worked cases.
 const NOW: u32 = 0x6553_f13c;
@@ -434,43 +434,108 @@ fn has_room(alloc: Global, stream: &Stream, given: &[Given]) -> Result<bool, Fai
     Ok(stream.room(&records))
 }
 
-/// Whether its next message has these octets.
-fn pulls(stream: &mut Stream, target: u16, wanted: &[u8]) -> Result<bool, AllocError> {
-    match stream.pull(NOW, target)? {
-        Some(message) => Ok(message.as_slice() == wanted),
-        None => Ok(false),
+/// How a message is pulled.
+#[derive(Clone, Copy, Debug)]
+enum Way {
+    /// By `pull`.
+    Whole,
+    /// By `pull_to`.
+    IntoList,
+    /// By `pull_pieces`, all of which are appended.
+    InPieces,
+    /// By `pull_pieces`, a chunk at a time.
+    InChunks,
+}
+
+const WAYS: [Way; 4] = [Way::Whole, Way::IntoList, Way::InPieces, Way::InChunks];
+
+/// Appends the octets of a message, a chunk at a time.
+fn append_chunks(message: &MessagePieces, octets: &mut Vec<u8>) -> Result<(), AllocError> {
+    let mut start = 0usize;
+    for _ in 0..message.len() {
+        if start >= message.len() {
+            break;
+        }
+        let chunk = message.chunk(start);
+        octets.extend_from_slice(chunk)?;
+        start = start.saturating_add(chunk.len());
     }
+    Ok(())
+}
+
+/// Pulls its next message in this way, puts its octets into `octets`, and answers whether there was one.
+fn pull_by(
+    stream: &mut Stream,
+    way: Way,
+    target: u16,
+    octets: &mut Vec<u8>,
+) -> Result<bool, AllocError> {
+    match way {
+        Way::IntoList => return stream.pull_to(NOW, target, octets),
+        Way::Whole => match stream.pull(NOW, target)? {
+            Some(message) => octets.extend_from_slice(message.as_slice())?,
+            None => return Ok(false),
+        },
+        Way::InPieces => match stream.pull_pieces(NOW, target)? {
+            Some(message) => message.append_to(octets)?,
+            None => return Ok(false),
+        },
+        Way::InChunks => match stream.pull_pieces(NOW, target)? {
+            Some(message) => append_chunks(&message, octets)?,
+            None => return Ok(false),
+        },
+    }
+    Ok(true)
+}
+
+/// Whether its next message has these octets.
+fn pulls(
+    alloc: Global,
+    stream: &mut Stream,
+    way: Way,
+    target: u16,
+    wanted: &[u8],
+) -> Result<bool, AllocError> {
+    let mut octets = Vec::new(alloc);
+    let is_there = pull_by(stream, way, target, &mut octets)?;
+    Ok(is_there && octets.as_slice() == wanted)
 }
 
 /// Whether the next message of a stream, pulled with the target `target`, is `length` octets long.
-fn pulls_octets(stream: &mut Stream, target: u16, length: usize) -> Result<bool, AllocError> {
-    match stream.pull(NOW, target)? {
-        Some(message) => Ok(message.len() == length),
-        None => Ok(false),
-    }
+fn pulls_octets(
+    alloc: Global,
+    stream: &mut Stream,
+    way: Way,
+    target: u16,
+    length: usize,
+) -> Result<bool, AllocError> {
+    let mut octets = Vec::new(alloc);
+    let is_there = pull_by(stream, way, target, &mut octets)?;
+    Ok(is_there && octets.len() == length)
 }
 
 /// Whether nothing waits in it.
-fn is_at_its_end(stream: &mut Stream) -> Result<bool, AllocError> {
-    let none = stream.pull(NOW, 1400)?.is_none();
-    Ok(none && stream.queued() == 0)
+fn is_at_its_end(alloc: Global, stream: &mut Stream, way: Way) -> Result<bool, AllocError> {
+    let mut octets = Vec::new(alloc);
+    let is_there = pull_by(stream, way, 1400, &mut octets)?;
+    Ok(!is_there && stream.queued() == 0)
 }
 
-/// Whether what a step says of the stream is so.
-fn holds(alloc: Global, stream: &mut Stream, step: &Step) -> Result<bool, Fail> {
+/// Whether what a step says of the stream is so, where messages are pulled in this way.
+fn holds(alloc: Global, stream: &mut Stream, way: Way, step: &Step) -> Result<bool, Fail> {
     Ok(match step {
         Step::Give(given) => takes(alloc, stream, given)?,
         Step::GiveMessage(message) => takes_message(alloc, stream, message)?,
         Step::NoRoom(given) => !has_room(alloc, stream, given)?,
         Step::Counts(queued, shapes, handed) => counts(stream) == (*queued, *shapes, *handed),
-        Step::Pull(target, wanted) => pulls(stream, *target, wanted)?,
-        Step::PullLength(target, length) => pulls_octets(stream, *target, *length)?,
-        Step::End => is_at_its_end(stream)?,
+        Step::Pull(target, wanted) => pulls(alloc, stream, way, *target, wanted)?,
+        Step::PullLength(target, length) => pulls_octets(alloc, stream, way, *target, *length)?,
+        Step::End => is_at_its_end(alloc, stream, way)?,
     })
 }
 
-/// That what the steps of a case say is so.
-fn expect_case(rt: &impl Abort, alloc: Global, case: &Case) -> Result<(), Fail> {
+/// That what the steps of a case say is so, where messages are pulled in this way.
+fn expect_case(rt: &impl Abort, alloc: Global, way: Way, case: &Case) -> Result<(), Fail> {
     assert!(rt; case.shapes <= 65_280);
     let limits = StreamLimits {
         queue: case.queue,
@@ -479,8 +544,8 @@ fn expect_case(rt: &impl Abort, alloc: Global, case: &Case) -> Result<(), Fail> 
     let mut stream = Stream::new(alloc, limits);
     for (number, step) in case.steps.iter().enumerate() {
         assert!(rt;
-            holds(alloc, &mut stream, step)?,
-            "step {number} of {}",
+            holds(alloc, &mut stream, way, step)?,
+            "step {number} of {}, {way:?}",
             case.name
         );
     }
@@ -490,7 +555,9 @@ fn expect_case(rt: &impl Abort, alloc: Global, case: &Case) -> Result<(), Fail> 
 #[test]
 fn streams(rt: HostRuntime) -> Result<(), Fail> {
     for case in &CASES {
-        expect_case(&rt, rt.alloc(), case)?;
+        for way in WAYS {
+            expect_case(&rt, rt.alloc(), way, case)?;
+        }
     }
     Ok(())
 }

@@ -1,6 +1,6 @@
 //! Each call of a handle once, by one thread, and what it is refused: what it answers is what the mediator under the lock does.
 use crate::octets::{
-    DISCLOSED, NEXT_RECORD, NOW, ONE_RECORD, PASS, SHORT_HEADER, WITHHOLD, limits,
+    DISCLOSED, NEXT_RECORD, NOW, ONE_RECORD, PASS, SHORT_HEADER, WITHHOLD, limits, octets_of,
 };
 use crate::sharing::{Case, ReturnedHandles, one, share};
 use bytes::Bytes;
@@ -112,8 +112,12 @@ pub(crate) fn expect_message<E: EntryLedger, H: RecordLedger, R: Wait + Abort>(
     message: &[u8],
     records: u64,
 ) {
+    let alloc = delivery.allocator();
     let is_due = match delivery.pull(rt, shared, NOW, TARGET) {
-        Ok(Some(handed)) => handed.message.as_slice() == message && handed.records == records,
+        Ok(Some(handed)) => {
+            let octets = octets_of(alloc, &handed.message).expect(rt, "memory");
+            octets.as_slice() == message && handed.records == records
+        }
         Ok(None) | Err(_) => false,
     };
     assert!(rt; is_due);

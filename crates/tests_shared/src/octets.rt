@@ -1,6 +1,15 @@
 //! Policies, limits, and messages as an exporter sends them and as a subscriber gets them. What an exporter sends has the Export
 //! Time 1700000000 and domain 7; what a subscriber gets has 1700000060 and domain 0.
 use mediator_core::Limits;
+use std::alloc::{AllocError, Global};
+use subscriber_stream::MessagePieces;
+
+/// The octets of a message that was handed out.
+pub(crate) fn octets_of(alloc: Global, message: &MessagePieces) -> Result<Vec<u8>, AllocError> {
+    let mut octets = Vec::new(alloc);
+    message.append_to(&mut octets)?;
+    Ok(octets)
+}
 
 pub(crate) const PASS: &str =
     "policy 1\nrule for * in * from * to * pass\nrule for * in * from * to * element * keep\n";

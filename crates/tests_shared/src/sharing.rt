@@ -4,6 +4,7 @@ ghost use Rattle.shared_mediator.specs.Counted.{handed_live};
 
 use crate::calls::calls;
 use crate::crowd::crowd;
+use crate::octets::octets_of;
 use crate::several::{audit, several};
 use crate::waits::waits;
 use bytes::Bytes;
@@ -159,7 +160,7 @@ fn taken_of<H: RecordLedger>(
 ) -> Result<Taken, AllocError> {
     let mut messages = Vec::new(alloc);
     for handed in delivery.kept() {
-        messages.push(handed.message.clone()?)?;
+        messages.push(Bytes::from_vec(octets_of(alloc, &handed.message)?)?)?;
     }
     Ok(Taken {
         sub: delivery.sub(),

@@ -26,6 +26,10 @@ pub returns-in_err-put_message-clause-no_memory : goal.returns-in_err-put_messag
 returns-in_err-put_message-clause-no_memory c =
     rw (← c.self.view_is) (λ none. absurd (omega (arith, something_in _ c.self.invariant.filled (λ e. eqb-false _ 0 (sym c.is_empty.ensures ∙ c.if-is_empty.false) (c.self.inside.queue.ok.0 ∙ e)), none_followed (items_in c.self.inside.queue.items) c.self.invariant.followed (sym (queued_entries c.self.inside.shapes.shapes (items_in c.self.inside.queue.items)) ∙ none))))
 
+pub returns-in_err-reserve-clause-no_memory : goal.returns-in_err-reserve-clause-no_memory
+returns-in_err-reserve-clause-no_memory c =
+    rw (← c.self.view_is) (λ none. absurd (omega (arith, something_in _ c.self.invariant.filled (λ e. eqb-false _ 0 (sym c.is_empty.ensures ∙ c.if-is_empty.false) (c.self.inside.queue.ok.0 ∙ e)), none_followed (items_in c.self.inside.queue.items) c.self.invariant.followed (sym (queued_entries c.self.inside.shapes.shapes (items_in c.self.inside.queue.items)) ∙ none))))
+
 pulls : (c : goal.After-hand_out) → Pulls c.args.self.now c.self.inside.shapes.shapes (items_in c.self.inside.queue.items) c.self.inside.handed c.args.target c.fitting-run.result.parts
 pulls c = record {
   waiting = ap (λ (k : KeptStream). k.standing.waiting) (sym c.self.view_is);
@@ -38,7 +42,7 @@ pulls c = record {
 
 pub returns-clause-ok : goal.returns-clause-ok
 returns-clause-ok c = record {
-  answers = λ records p at. message_is_next _ _ _ _ c.args.now _ _ _ (pulls c) (behind_none _ _ _ c.clear.ensures.items c.in_ok-put_message.ensures) ∙ next_is_built c.args.self.now.standing records p c.args.now c.args.target at;
+  answers = λ records p at. message_is_next _ _ _ _ c.args.now _ _ _ (pulls c) (behind_none _ _ _ (c.in_ok-reserve.ensures.items ∙ c.clear.ensures.items) c.in_ok-put_message.ensures) ∙ next_is_built c.args.self.now.standing records p c.args.now c.args.target at;
   stands = λ records p at. rw c.hand_out.ensures (stands_after_message c.args.self.now records p c.args.target c.fitting-run.result.parts (run_is _ _ _ _ _ _ (pulls c)) (within_is _ _ _ _ _ _ (pulls c)) at);
 }
 
