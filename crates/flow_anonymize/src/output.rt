@@ -113,7 +113,8 @@ impl Output {
                     records: ends.len(),
                 };
                 let octets = Bytes::from_vec(text)?;
-                self.done.push_run(Run::new(template, octets, ends))
+                let run = Run::new(self.alloc, template, octets, ends)?;
+                self.done.push_run(run)
             }
             None => Ok(()),
         }

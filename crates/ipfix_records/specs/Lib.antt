@@ -5,5 +5,6 @@ pub use Rattle.ipfix_template.specs.DataRecord
 pub use Rattle.ipfix_template.specs.Shown
 pub mod Pieces
 pub mod Runs
+pub mod RunLists
 pub mod Gaps
 pub mod Layout

@@ -25,5 +25,5 @@ pub mod records;
 pub mod run;
 
 pub use layout::Layout;
-pub use records::Records;
-pub use run::Run;
+pub use records::{Records, Runs};
+pub use run::{Run, RunTexts};

@@ -15,9 +15,16 @@ use std::sync::Arc;
 #[derive(Drop)]
 pub struct Run {
     template: Arc<Template>,
-    octets: Bytes,
-    /// Where each record ends in the octets.
-    ends: Vec<u32>,
+    texts: Arc<RunTexts>,
+}
+
+/// The octets of records, one after another, and where each ends in them. Copies of a run share them.
+#[derive(Drop)]
+pub struct RunTexts {
+    /// The octets of all records.
+    pub octets: Bytes,
+    /// Where each record ends in the octets, counted from the first of all.
+    pub ends: Vec<u32>,
 }
 
 impl Model for Run {
@@ -30,10 +37,10 @@ impl Model for Run {
 
     ghost Value = { RunOf };
 
-    ghost view = { λ r. record { template = arc_value r.template; texts = pieces r.octets 0 r.ends.items } };
+    ghost view = { λ r. record { template = arc_value r.template; texts = pieces (arc_value r.texts).octets 0 (arc_value r.texts).ends.items } };
 
-    ghost invariant = { λ r. AreEnds 0 r.ends.items (length r.octets)
-        × AllByRecursion (IsKept (arc_value r.template)) (pieces r.octets 0 r.ends.items) };
+    ghost invariant = { λ r. AreEnds 0 (arc_value r.texts).ends.items (length (arc_value r.texts).octets)
+        × AllByRecursion (IsKept (arc_value r.template)) (pieces (arc_value r.texts).octets 0 (arc_value r.texts).ends.items) };
 }
 
 impl Run {
@@ -42,19 +49,24 @@ impl Run {
     ghost use Rattle.ipfix_records.specs.Runs.{IsKeptRun, run_records};
 
     /// The records of `template` that stand in `octets`, one after another. `ends` says for each
-    /// where it ends, counted from the first octet of all. Nothing is copied, and it takes no
-    /// memory.
-    pub fn new(template: Arc<Template>, octets: Bytes, ends: Vec<u32>) -> Run
+    /// where it ends, counted from the first octet of all. Nothing is copied; what copies share is
+    /// in memory from `alloc`.
+    ///
+    /// # Errors
+    /// Want of memory.
+    pub fn new(
+        alloc: Global,
+        template: Arc<Template>,
+        octets: Bytes,
+        ends: Vec<u32>,
+    ) -> Result<Run, AllocError>
         requires ends { AreEnds 0 ends.items (length octets) }
         requires kept { AllByRecursion (IsKept (arc_value template)) (pieces octets 0 ends.items) }
-        ensures { result
-            ≡ record { template = arc_value template; texts = pieces octets 0 ends.items } }
+        ensures { IfOk result (λ run. run
+            ≡ record { template = arc_value template; texts = pieces octets 0 ends.items }) }
     {
-        Run {
-            template,
-            octets,
-            ends,
-        }
+        let texts = Arc::new(alloc, RunTexts { octets, ends })?;
+        Ok(Run { template, texts })
     }
 
     /// The run of the record `single` alone. Its octets are not copied; the list of ends is in
@@ -73,7 +85,7 @@ impl Run {
         let mut ends = Vec::with_capacity(alloc, 1)?;
         ends.push_reserved(end);
         let (template, octets) = single.into_parts();
-        Ok(Run::new(template, octets, ends))
+        Run::new(alloc, template, octets, ends)
     }
 
     /// How many records there are.
@@ -82,7 +94,7 @@ impl Run {
         ensures value { result ≡ length self.now.texts }
         ensures kept { IsKeptRun self.now }
     {
-        self.ends.len()
+        self.texts.ends.len()
     }
 
     /// Whether there is no record.
@@ -91,7 +103,7 @@ impl Run {
         ensures value { result ≡ (length self.now.texts == 0) }
         ensures kept { IsKeptRun self.now }
     {
-        self.ends.is_empty()
+        self.texts.ends.is_empty()
     }
 
     /// The template of all records of the run.
@@ -116,7 +128,7 @@ impl Run {
         ensures value { result.now ≡ concat self.now.texts }
         ensures kept { IsKeptRun self.now }
     {
-        &self.octets
+        &self.texts.octets
     }
 
     /// Where the first `count` records end, counted from the first octet of all. It takes no longer
@@ -126,7 +138,7 @@ impl Run {
         ensures value { result ≡ length (concat (take count self.now.texts)) }
         ensures within { result ≤ length (concat self.now.texts) }
     {
-        end_of(&self.ends, count)
+        end_of(&self.texts.ends, count)
     }
 
     /// The octets of the record at `index`, counted from 0.
@@ -135,8 +147,8 @@ impl Run {
         ensures value { result.now ≡ slice_index_or self.now.texts index [] }
         ensures kept { IsKept self.now.template result.now }
     {
-        let (start, end) = place_of(&self.octets, &self.ends, index);
-        &self.octets[start..end]
+        let (start, end) = place_of(&self.texts.octets, &self.texts.ends, index);
+        &self.texts.octets[start..end]
     }
 
     /// The record at `index`, counted from 0. Its octets are a part of the run's, and not copied.
@@ -156,8 +168,8 @@ impl Run {
         requires { index < length self.now.texts }
         ensures { result ≡ kept_record self.now.template (slice_index_or self.now.texts index []) }
     {
-        let (start, end) = place_of(&self.octets, &self.ends, index);
-        RecordView::new(&self.template, &self.octets, start, end)
+        let (start, end) = place_of(&self.texts.octets, &self.texts.ends, index);
+        RecordView::new(&self.template, &self.texts.octets, start, end)
     }
 
     /// Puts the records behind those of `list`, in their order. Each is cut out, and not copied.
@@ -173,23 +185,18 @@ impl Run {
         Ok(())
     }
 
-    /// The template, the octets of all records, and for each record where it ends in them. Nothing
-    /// is copied.
+    /// The template, and the octets of all records with where each ends in them. Nothing is copied.
     #[tactic(auto, using(crate::proofs::PieceLaws::whole_pieces))]
-    pub fn into_parts(self) -> (Arc<Template>, Bytes, Vec<u32>)
+    pub fn into_parts(self) -> (Arc<Template>, Arc<RunTexts>)
         ensures template { arc_value result.0 ≡ self.template }
-        ensures texts { pieces result.1 0 result.2.items ≡ self.texts }
+        ensures texts { pieces (arc_value result.1).octets 0 (arc_value result.1).ends.items ≡ self.texts }
         // The octets are those of the records, and no others.
-        ensures octets { result.1 ≡ concat self.texts }
-        ensures ends { AreEnds 0 result.2.items (length result.1) }
+        ensures octets { (arc_value result.1).octets ≡ concat self.texts }
+        ensures ends { AreEnds 0 (arc_value result.1).ends.items (length (arc_value result.1).octets) }
         ensures kept { IsKeptRun self }
     {
-        let Run {
-            template,
-            octets,
-            ends,
-        } = self;
-        (template, octets, ends)
+        let Run { template, texts } = self;
+        (template, texts)
     }
 }
 
@@ -198,12 +205,11 @@ impl Clone for Run {
 
     ghost is_clone = { λ r copy. copy ≡ r };
 
-    /// One more owner of the template and of the octets, with a copy of the ends.
+    /// One more owner of the template and of the texts. It takes no memory.
     fn clone(&self) -> Result<Run, AllocError> {
         Ok(Run {
             template: self.template.clone()?,
-            octets: self.octets.clone()?,
-            ends: self.ends.clone()?,
+            texts: self.texts.clone()?,
         })
     }
 }

@@ -95,7 +95,7 @@ fn run_of(
 {
     if found.is_shortest {
         let octets = content.slice(0..found.used)?;
-        return Ok(Run::new(template.clone()?, octets, found.ends));
+        return Run::new(alloc, template.clone()?, octets, found.ends);
     }
     written_anew(alloc, template, content, &found)
 }
@@ -123,5 +123,5 @@ fn written_anew(
         written.push(octets.len() as u32)?;
         start = end;
     }
-    Ok(Run::new(template.clone()?, Bytes::from_vec(octets)?, written))
+    Run::new(alloc, template.clone()?, Bytes::from_vec(octets)?, written)
 }

@@ -17,17 +17,19 @@ use Rattle.policy_text.specs.Policies.{Aggregate}
 use Rattle.flow_anonymize.specs.declared.disclosure.Disclosure.TheVariants.{Passed, Aggregated, Withheld}
 use Rattle.flow_anonymize.specs.declared.record_classes.RecordClasses.{RecordClasses}
 use Rattle.flow_anonymize.specs.Outcome.{Outcome, Decision, decision_of}
-use Rattle.flow_anonymize.specs.Classes.{classes_of}
+use Rattle.policy_judge.specs.Occurrences.{sources, destinations}
+use Rattle.rule_table.specs.Classes.{class_key}
+use Rattle.rule_table.specs.Near.{HaveSameKeys, HasKeys}
+use Rattle.flow_anonymize.specs.Classes.{both, classes_of}
 use Rattle.flow_anonymize.specs.Parts.{record_at, records_between}
 use Rattle.flow_anonymize.proofs.PartLaws.{part_more, part_none}
 use Rattle.mediator_history.specs.Auditing.{kept_back}
 use Rattle.mediator_history.specs.Counting.{counts}
 use Rattle.mediator_tables.specs.declared.served.Served.{Served}
 use Rattle.mediator_tables.specs.declared.tally.Tally.{Tally}
-use Rattle.mediator_tables.specs.Adding.{tallied}
 use Rattle.mediator_shares.specs.InForce.{InForce}
-use Rattle.mediator_shares.specs.Sharing.{outcome_by, added_by, kept_by, note_of, notes_on, noted_of_each, tallies_of}
-use Rattle.mediator_shares.specs.Adding.{AddsCounts, Counted, Audience, counted_of, audience_of}
+use Rattle.mediator_shares.specs.Sharing.{outcome_by, added_by, note_of, notes_on, noted_of_each, tallies_of}
+use Rattle.mediator_shares.specs.Adding.{AddsCounts, Counted, counted_of, audience_of}
 use Rattle.mediator_shares.specs.Deciding.{decision_for, kept_whatever, kept_from, IsWhatever, AreKeptAlike}
 use Rattle.mediator_shares.proofs.SharingLaws.{as_share, more_served, counted_none, counted_both}
 
@@ -42,24 +44,39 @@ pub record GoesOn (cuts : List ℕ) (run : RunOf) (from to : ℕ) (classes next 
   pub next_is : to < length run.texts → next ≡ classes_of cuts (record_at run to)
   pub over : length run.texts ≤ to → next ≡ None
 
-pub goes_start : (cuts : List ℕ) (run : RunOf) (from : ℕ) (classes next : Option RecordClasses) → from < length run.texts → classes ≡ classes_of cuts (record_at run from)
-    → (from + 1 < length run.texts → next ≡ classes_of cuts (record_at run (from + 1))) → (length run.texts ≤ from + 1 → next ≡ None) → GoesOn cuts run from (from + 1) classes next
-goes_start cuts run from classes next there is value over = record {
-  some = omega arith;
-  within = omega (arith, there);
-  alike = λ i low high. is ∙ ap (λ k. classes_of cuts (record_at run k)) {x = from} {y = i} (omega (arith, low, high));
-  alone = λ none. refl;
+none_is_some : (X : Type 0) → IsSome {T = X} None → ⊥
+none_is_some X some = cc
+
+-- records with the keys of another have its classes
+same_classes : (cuts : List ℕ) (one other : DataRecord) → HaveSameKeys cuts one other → classes_of cuts other ≡ classes_of cuts one
+same_classes cuts one other same =
+    ap (λ key. both key (class_key cuts (destinations other))) (sym same.sources) ∙ ap (both (class_key cuts (sources one))) (sym same.destinations)
+
+classes_known : (from to : Option ℕ) → IsSome from → IsSome to → both from to ≡ None → ⊥
+classes_known None to some other none = none_is_some ℕ some
+classes_known (Some from) None some other none = none_is_some ℕ other
+classes_known (Some from) (Some to) some other none = absurd cc
+
+pub goes_start : (cuts : List ℕ) (run : RunOf) (from to : ℕ) (classes next : Option RecordClasses) → from < to → to ≤ length run.texts → classes ≡ classes_of cuts (record_at run from)
+    → ((i : ℕ) → from ≤ i → i < to → HaveSameKeys cuts (record_at run i) (record_at run from)) → (from + 1 < to → HasKeys cuts (record_at run from))
+    → (to < length run.texts → next ≡ classes_of cuts (record_at run to)) → (length run.texts ≤ to → next ≡ None) → GoesOn cuts run from to classes next
+goes_start cuts run from to classes next some within is same known value over = record {
+  some = some;
+  within = within;
+  alike = λ i low high. is ∙ same_classes cuts (record_at run i) (record_at run from) (same i low high);
+  alone = λ none. is_alone none (cases_lt (from + 1) to);
   next_is = value;
   over = over;
 }
-
-none_is_some : IsSome {T = RecordClasses} None → ⊥
-none_is_some some = cc
+  where
+    is_alone : classes ≡ None → (from + 1 < to) ⊎ (to ≤ from + 1) → to ≡ from + 1
+    is_alone none (inl l) = let keys = known l in absurd (classes_known (class_key cuts (sources (record_at run from))) (class_key cuts (destinations (record_at run from))) keys.sources keys.destinations (sym is ∙ none))
+    is_alone none (inr l) = omega (arith, l, some)
 
 -- where one comes next, there is a record
 there_next : (cuts : List ℕ) (run : RunOf) (from to : ℕ) (classes next : Option RecordClasses) → GoesOn cuts run from to classes next → IsSome next → (to < length run.texts) ⊎ (length run.texts ≤ to) → to < length run.texts
 there_next cuts run from to classes next so some (inl l) = l
-there_next cuts run from to classes next so some (inr l) = absurd (none_is_some (subst IsSome (so.over l) some))
+there_next cuts run from to classes next so some (inr l) = absurd (none_is_some RecordClasses (subst IsSome (so.over l) some))
 
 pub goes_step : (cuts : List ℕ) (run : RunOf) (from to : ℕ) (classes next next2 : Option RecordClasses) → GoesOn cuts run from to classes next → next ≡ classes → IsSome next
     → (to + 1 < length run.texts → next2 ≡ classes_of cuts (record_at run (to + 1))) → (length run.texts ≤ to + 1 → next2 ≡ None) → GoesOn cuts run from (to + 1) classes next2
@@ -67,7 +84,7 @@ goes_step cuts run from to classes next next2 so same some value over = record {
   some = omega (arith, so.some);
   within = omega (arith, there);
   alike = λ i low high. is_alike i low (cases_lt i to) high;
-  alone = λ none. absurd (none_is_some (subst IsSome (same ∙ none) some));
+  alone = λ none. absurd (none_is_some RecordClasses (subst IsSome (same ∙ none) some));
   next_is = value;
   over = over;
 }

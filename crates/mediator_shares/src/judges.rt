@@ -177,7 +177,11 @@ impl Judges {
     {
         // A place behind a record's is a number of this type.
         let _for_proof = run.len();
-        let mut to = from + 1;
+        // It goes by addresses that lie near one another as far as it can, and then by classes.
+        let mut to = match &self.places {
+            Some(places) => self.classes.same_until(places, run, from),
+            None => unreachable!(),
+        };
         let mut next = self.classes_at(run, to);
         'records: while are_same(classes, next) {
             to += 1;

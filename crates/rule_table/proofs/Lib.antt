@@ -15,5 +15,6 @@ pub mod KeyLaws
 pub mod NarrowLaws
 pub mod HeadLaws
 pub mod PlaceLaws
+pub mod NearLaws
 pub mod ClassLaws
 pub mod CoverLaws

@@ -194,7 +194,7 @@ key_at_places cuts r places =
 
 -- ---- the digit of an address of which the template fixes the place
 
-four_digit : (cuts octets : List ℕ) → length octets ≡ 4 → 2 * class_of cuts (be_value octets) + 1 ≡ digit_of cuts octets
+pub four_digit : (cuts octets : List ℕ) → length octets ≡ 4 → 2 * class_of cuts (be_value octets) + 1 ≡ digit_of cuts octets
 unfolding digit_of
 four_digit cuts octets four = rw four refl
 
@@ -206,7 +206,7 @@ sixteen_digit cuts octets sixteen = rw sixteen refl
 part_is : (n from : ℕ) (octets text : List ℕ) → octets ≡ text → take (from + n - from) (drop from octets) ≡ take n (drop from text)
 part_is n from octets text is = let size : from + n - from ≡ n = omega arith in ap (λ (k : ℕ). take k (drop from octets)) size ∙ ap (λ (xs : List ℕ). take n (drop from xs)) is
 
-part_long : (n from : ℕ) (text : List ℕ) → from + n ≤ length text → length (take n (drop from text)) ≡ n
+pub part_long : (n from : ℕ) (text : List ℕ) → from + n ≤ length text → length (take n (drop from text)) ≡ n
 part_long n from text within = length-take-le n (drop from text) (omega (arith, within, length-drop from text))
 
 pub narrow_digit_of : (cuts : List ℕ) (r : DataRecord) (place : Place) (from : ℕ) (octets : List ℕ) (address digit : ℕ) → HasPlace r place → place ≡ Narrow from → octets ≡ text_of r

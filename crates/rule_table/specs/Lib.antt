@@ -21,4 +21,5 @@ pub mod Heads
 pub mod Narrow
 pub mod Spans
 pub mod Places
+pub mod Near
 pub mod Laws

@@ -1,8 +1,9 @@
 //! The keys of a record's addresses, by the places that its template gives them.
-ghost use Rattle.std.specs.Prelude.{◌≡◌, ◌≤◌, ◌<◌, ◌+◌, ◌*◌, ◌∷◌, [], length, map, slice_index_or, IfSome};
+ghost use Rattle.std.specs.Prelude.{◌≡◌, ◌≤◌, ◌<◌, ◌+◌, ◌*◌, ◌∷◌, [], length, map, slice_index_or, ℕ};
 ghost use Rattle.std.specs.List.{All};
 ghost use Rattle.std.specs.Arc.{arc_value};
 ghost use Rattle.sequences.specs.Octets.{be_value};
+ghost use Rattle.ipfix_template.specs.DataRecord.{kept_record};
 ghost use Rattle.policy_judge.specs.declared.occurrences.Side.TheVariants.{Source, Destination};
 ghost use Rattle.policy_judge.specs.Sides.{is_of};
 ghost use Rattle.policy_judge.specs.Occurrences.{values_of};
@@ -10,13 +11,16 @@ ghost use Rattle.rule_table.specs.Cuts.{most_cuts};
 ghost use Rattle.rule_table.specs.Classes.{class_of, digit_of, class_key};
 ghost use Rattle.rule_table.specs.Places.{HasPlace, value_at};
 ghost use Rattle.rule_table.specs.declared.place.Place.TheVariants.{Narrow};
+ghost use Rattle.rule_table.specs.Near.{HaveSameKeys, HasKeys};
 ghost use Rattle.rule_table.specs.Spans.{IsSpan, IsWideSpan, AreSpans};
 
 use crate::classes::{AddressClasses, EMPTY_KEY, narrow_number, wide_number, with_digit};
-use crate::place::Place;
+use crate::near::Near;
+use crate::place::{Place, lone_narrow};
 use crate::places::AddressPlaces;
 use crate::span::{Span, Spans, WideSpan};
 use flow_prefix::{IPV4_OCTETS, IPV6_OCTETS};
+use ipfix_records::Run;
 use ipfix_template::RecordView;
 use std::marker::Model;
 use std::sync::Arc;
@@ -114,23 +118,37 @@ impl RecentClasses {
         );
         (sources, destinations)
     }
+
+    /// How far the record at `from` in `run` and those behind it go on with the same keys, as far as each has one
+    /// address on a side, of IPv4, between the same cuts: the place behind the last of them. `places` says where the
+    /// addresses of the records stand.
+    pub fn same_until(&self, places: &AddressPlaces, run: &Run, from: usize) -> usize
+        requires same { run.now.template ≡ places.now }
+        requires there { from < length run.now.texts }
+        ensures some { from < result }
+        ensures within { result ≤ length run.now.texts }
+        ensures alike { (i : ℕ) → from ≤ i → i < result → HaveSameKeys self.now
+            (kept_record run.now.template (slice_index_or run.now.texts i []))
+            (kept_record run.now.template (slice_index_or run.now.texts from [])) }
+        // A record without a key of one side is alone.
+        ensures known { from + 1 < result → HasKeys self.now
+            (kept_record run.now.template (slice_index_or run.now.texts from [])) }
+    {
+        // A place behind a record's is a number of this type.
+        let _for_proof = run.len();
+        let first = run.view(from);
+        let mut to = from + 1;
+        if let Some(near) = Near::of(&self.classes, places, &first) {
+            'records: while to < run.len() && near.has(&run.view(to)) {
+                to += 1;
+            }
+        }
+        to
+    }
 }
 
 /// The most digits that a key has room for.
 const MOST_DIGITS: usize = 3;
-
-/// Where the address of IPv4 stands, where that is the only place.
-fn lone_narrow(places: &[Place]) -> Option<usize>
-    ensures { IfSome result (λ from. places.now ≡ Narrow from ∷ []) }
-{
-    match places {
-        [place] => match place {
-            Place::Narrow(from) => Some(*from),
-            _ => None,
-        },
-        _ => None,
-    }
-}
 
 /// The key of the address of IPv4 at `from`, which is the only one of these places.
 fn narrow_key(

@@ -33,6 +33,8 @@
 //! - `classes`: [`AddressClasses`], built of rules once; `key` is asked for each record.
 //! - `places`, `place`: [`AddressPlaces`], built of a template once: where the addresses of its records stand.
 //! - `keys`: [`RecentClasses`], the keys of both sides by these places alone, for records one after another.
+//! - `near`: which addresses lie between the same cuts as those of one record, so that the records behind it which have
+//!   such addresses are seen to have its keys.
 //! - `cuts`, `narrow`: the bounds of prefixes, and those among the addresses of IPv4; `heads`: what the first bits of an
 //!   address say of its class; `span`, `wide`: the addresses between two cuts.
 //! - `laws`: [`same_keys`] and [`key_of_three`], proved over the definitions.
@@ -43,10 +45,11 @@
 //!
 //! Proved: `AddressClasses::of_rules` has the bounds of each prefix that the rules name (`HaveCuts`), and `key` is made of
 //! the class of each address of a side (`key_of`); `RecentClasses::keys` answers the two of a record whose template is that
-//! of the places (`sources`, `destinations`), whatever records came before. `same_keys` is what this is for: of values with
-//! one key, each of these prefixes has the same ones inside (`inside`), and two records whose sources have one key, and
-//! whose destinations too, are covered by the same rules (`covers`). Up to three values have a key, and more have none
-//! (`key_of_three`). That there are no cuts but these, and so that classes are few, no clause says.
+//! of the places (`sources`, `destinations`), whatever records came before, and `same_until` goes on only where both keys
+//! are those of the first record (`alike`). `same_keys` is what this is for: of values with one key, each of these prefixes
+//! has the same ones inside (`inside`), and two records whose sources have one key, and whose destinations too, are covered
+//! by the same rules (`covers`). Up to three values have a key, and more have none (`key_of_three`). That there are no cuts
+//! but these, and so that classes are few, no clause says.
 #![tactic(auto)]
 
 mod addresses;
@@ -62,6 +65,7 @@ mod keys;
 mod laws;
 mod marks;
 mod narrow;
+mod near;
 mod place;
 mod places;
 mod rarest;

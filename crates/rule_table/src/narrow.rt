@@ -110,7 +110,10 @@ impl NarrowCuts {
         ensures span { IsSpan self.now result }
         ensures among { IsAmong address result }
     {
-        let class = self.class(address);
+        let class = match self.known_class(address) {
+            Some(class) => class,
+            None => self.class(address),
+        };
         span_at(&self.cuts, class, address)
     }
 }

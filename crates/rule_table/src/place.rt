@@ -1,7 +1,8 @@
 //! Where the values of a side stand in each record of a template.
-ghost use Rattle.std.specs.Prelude.{◌≡◌, ◌≤◌, ◌+◌, ◌*◌, length, IfOk, IfSome};
+ghost use Rattle.std.specs.Prelude.{◌≡◌, ◌≤◌, ◌+◌, ◌*◌, ◌∷◌, [], length, IfOk, IfSome};
 ghost use Rattle.ipfix_template.specs.declared.field.TheConstants.{VARIABLE, MOST_FIELDS};
 ghost use Rattle.rule_table.specs.Places.{ArePlaces, place_at, start_behind};
+ghost use Rattle.rule_table.specs.declared.place.Place.TheVariants.{Narrow};
 
 use flow_prefix::{IPV4_OCTETS, IPV6_OCTETS};
 use ipfix_template::FieldSpec;
@@ -60,6 +61,19 @@ fn start_behind(start: Option<usize>, field: &FieldSpec) -> Option<usize>
     let length = usize::from(field.length);
     match start {
         Some(from) if !field.is_variable() => Some(from + length),
+        _ => None,
+    }
+}
+
+/// Where the address of IPv4 stands, where that is the only place.
+pub(crate) fn lone_narrow(places: &[Place]) -> Option<usize>
+    ensures { IfSome result (λ from. places.now ≡ Narrow from ∷ []) }
+{
+    match places {
+        [place] => match place {
+            Place::Narrow(from) => Some(*from),
+            _ => None,
+        },
         _ => None,
     }
 }

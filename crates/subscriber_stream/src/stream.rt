@@ -20,7 +20,7 @@ use crate::writing::{message_of, pieces_of, put_message};
 use bytes::Bytes;
 use hash_keys::HashKeys;
 use ipfix_octets::message_format::LEAST_TEMPLATE_ID;
-use ipfix_records::{Records, Run};
+use ipfix_records::{Records, Run, Runs};
 use std::alloc::{AllocError, Global};
 use std::collections::VecDeque;
 use std::marker::Model;
@@ -76,7 +76,7 @@ impl Stream {
     ghost use Rattle.subscriber_stream.specs.Standing.{at_start, StandsAt, HasStreamRoom, FitsLimits, queue_size};
     ghost use Rattle.subscriber_stream.specs.Calls.{TakesRecords, GivesNext, message_if};
     ghost use Rattle.subscriber_stream.specs.Steps.{after_given, handed_parts};
-    ghost use Rattle.ipfix_records.specs.Runs.{run_records};
+    ghost use Rattle.ipfix_records.specs.Runs.{run_records, records_of_runs};
 
     /// A stream that was given no record, and that holds at most what `limits` allow. What it comes
     /// to keep is taken from `alloc`. Its templates are hashed with keys that everybody knows.
@@ -208,7 +208,21 @@ impl Stream {
             < 2 ^ 64 }
         ensures { self.new ≡ after_given self.old records }
     {
-        for next in records.into_runs() {
+        match records.into_runs() {
+            Runs::Few(Some(only)) => self.push_run(only),
+            Runs::Few(None) => {}
+            Runs::Many(runs) => self.push_runs(runs),
+        }
+    }
+
+    fn push_runs(&mut self, runs: Vec<Run>)
+        requires room { HasStreamRoom self.old (records_of_runs runs.items) }
+        requires reserved { length (records_of_runs runs.items) ≤ self.old.spare }
+        requires count { self.old.standing.handed + queue_size self.old.standing
+            + length (records_of_runs runs.items) < 2 ^ 64 }
+        ensures { self.new ≡ after_given self.old (records_of_runs runs.items) }
+    {
+        for next in runs {
             self.push_run(next);
         }
     }
@@ -225,11 +239,11 @@ impl Stream {
         if count == 0 {
             return;
         }
-        let (template, octets, ends) = next.into_parts();
+        let (template, texts) = next.into_parts();
         let (place, is_new) = self.shapes.place_reserved(template);
         let id = LEAST_TEMPLATE_ID + place as u16;
         let announced = announced_octets(self.shapes.shape(place), is_new);
-        put_waiting(&mut self.queue, id, announced, Texts::new(octets, ends));
+        put_waiting(&mut self.queue, id, announced, Texts::new(texts));
         self.waiting += count as u32;
         self.spare -= count;
     }

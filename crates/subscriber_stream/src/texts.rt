@@ -1,5 +1,6 @@
 //! Texts of records that wait.
 ghost use Rattle.std.specs.Prelude.{◌≡◌, ◌≤◌, ◌<◌, ◌+◌, ◌-◌, ◌^◌, ◌∷◌, length, take, drop, slice_index, IfOk};
+ghost use Rattle.std.specs.Arc.{arc_value};
 ghost use Rattle.std.specs.List.{concat};
 ghost use Rattle.ipfix_records.specs.Pieces.{pieces, AreEnds};
 
@@ -7,15 +8,16 @@ ghost use Rattle.ipfix_records.specs.Pieces.{pieces, AreEnds};
 mod tests;
 
 use bytes::Bytes;
+use ipfix_records::RunTexts;
 use std::alloc::AllocError;
 use std::marker::Model;
+use std::sync::Arc;
 
 /// The texts of records of one template that wait to be handed out, one after another. Contracts see the list of them.
 #[derive(Drop)]
 pub(crate) struct Texts {
-    octets: Bytes,
-    /// Where each text ends in the octets, also of those that were handed out.
-    ends: Vec<u32>,
+    /// All texts, also those that were handed out. Other streams may share them.
+    texts: Arc<RunTexts>,
     /// How many were handed out.
     handed: usize,
     /// Where the last of these ends.
@@ -24,27 +26,27 @@ pub(crate) struct Texts {
 
 impl Model for Texts {
     ghost use Rattle.std.specs.Prelude.{◌≤◌, ℕ, List, length, drop};
+    ghost use Rattle.std.specs.Arc.{arc_value};
     ghost use Rattle.ipfix_records.specs.Pieces.{pieces, AreEnds};
 
     ghost Value = { List (List ℕ) };
 
-    ghost view = { λ t. pieces t.octets t.start (drop t.handed t.ends.items) };
+    ghost view = { λ t. pieces (arc_value t.texts).octets t.start (drop t.handed (arc_value t.texts).ends.items) };
 
-    ghost invariant = { λ t. AreEnds t.start (drop t.handed t.ends.items) (length t.octets)
-        × (t.handed ≤ length t.ends.items) };
+    ghost invariant = { λ t. AreEnds t.start (drop t.handed (arc_value t.texts).ends.items) (length (arc_value t.texts).octets)
+        × (t.handed ≤ length (arc_value t.texts).ends.items) };
 }
 
 impl Texts {
     ghost use Rattle.subscriber_stream.specs.Texts.{fitting_texts};
 
     /// The texts that end at these places of the octets.
-    pub(crate) fn new(octets: Bytes, ends: Vec<u32>) -> Texts
-        requires { AreEnds 0 ends.items (length octets) }
-        ensures { result ≡ pieces octets 0 ends.items }
+    pub(crate) fn new(texts: Arc<RunTexts>) -> Texts
+        requires { AreEnds 0 (arc_value texts).ends.items (length (arc_value texts).octets) }
+        ensures { result ≡ pieces (arc_value texts).octets 0 (arc_value texts).ends.items }
     {
         Texts {
-            octets,
-            ends,
+            texts,
             handed: 0,
             start: 0,
         }
@@ -54,7 +56,7 @@ impl Texts {
     pub(crate) fn len(&self) -> usize
         ensures { result ≡ length self.now }
     {
-        self.ends.len() - self.handed
+        self.texts.ends.len() - self.handed
     }
 
     /// The octets of the first `count` of them.
@@ -63,7 +65,7 @@ impl Texts {
         ensures exact { result ≡ length (concat (take count self.now)) }
         ensures few { result < 2 ^ 32 }
     {
-        (end_of(&self.ends, self.handed, self.start, count) - self.start) as usize
+        (end_of(&self.texts.ends, self.handed, self.start, count) - self.start) as usize
     }
 
     /// The first `count` of them, one after another.
@@ -71,8 +73,8 @@ impl Texts {
         requires { count ≤ length self.now }
         ensures { result.now ≡ concat (take count self.now) }
     {
-        let end = end_of(&self.ends, self.handed, self.start, count);
-        between(&self.octets, self.start, end)
+        let end = end_of(&self.texts.ends, self.handed, self.start, count);
+        between(&self.texts.octets, self.start, end)
     }
 
     /// The first `count` of them, one after another, as one owner more of these octets.
@@ -83,8 +85,8 @@ impl Texts {
         requires { count ≤ length self.now }
         ensures { IfOk result (λ octets. octets ≡ concat (take count self.now)) }
     {
-        let end = end_of(&self.ends, self.handed, self.start, count);
-        self.octets.slice(self.start as usize..end as usize)
+        let end = end_of(&self.texts.ends, self.handed, self.start, count);
+        self.texts.octets.slice(self.start as usize..end as usize)
     }
 
     /// How many from the front have at most `room` octets together.
@@ -109,7 +111,7 @@ impl Texts {
         requires { count ≤ length self.old }
         ensures { self.new ≡ drop count self.old }
     {
-        self.start = end_of(&self.ends, self.handed, self.start, count);
+        self.start = end_of(&self.texts.ends, self.handed, self.start, count);
         self.handed += count;
     }
 }

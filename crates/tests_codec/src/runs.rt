@@ -1,6 +1,6 @@
 //! What stands in a list of runs of records.
 use crate::records::{Layout, record_of, template_of, values_of};
-use ipfix_records::Records;
+use ipfix_records::{Records, Runs};
 use ipfix_session::Session;
 use ipfix_template::Record;
 use std::alloc::Global;
@@ -37,8 +37,9 @@ fn one_record_more(rt: HostRuntime) -> Result<(), Fail> {
     let mut list = Records::new(rt.alloc());
     assert!(rt; list.is_empty());
     list.push(rt.alloc(), name_record(rt.alloc())?)?;
-    for run in read.records.into_runs() {
-        list.push_run(run)?;
+    match read.records.into_runs() {
+        Runs::Few(Some(run)) => list.push_run(run)?,
+        _ => panic!(rt; "another number of runs"),
     }
     assert_eq!(rt; list.len(), 3);
     assert_eq!(rt; list.runs().len(), 2);

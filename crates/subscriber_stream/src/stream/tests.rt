@@ -7,7 +7,7 @@ use crate::waiting::Waiting;
 use bytes::Bytes;
 use ipfix_element::ElementId;
 use ipfix_octets::message_format::LEAST_TEMPLATE_ID;
-use ipfix_records::Records;
+use ipfix_records::{Records, RunTexts};
 use ipfix_template::{FieldSpec, Fields, Record, Template, Values};
 use std::alloc::{AllocError, Global};
 use std::collections::VecDeque;
@@ -83,7 +83,9 @@ fn three_texts(alloc: Global) -> Result<Texts, AllocError> {
     ends.push_reserved(1);
     ends.push_reserved(3);
     ends.push_reserved(3);
-    Ok(Texts::new(Bytes::from_static(b"abc"), ends))
+    let octets = Bytes::from_static(b"abc");
+    let texts = Arc::new(alloc, RunTexts { octets, ends })?;
+    Ok(Texts::new(texts))
 }
 
 /// The texts after the first `count` of them, one after another.

@@ -2,20 +2,26 @@
 //! compiles.
 use crate::texts::Texts;
 use bytes::Bytes;
+use ipfix_records::RunTexts;
 use std::process::Abort;
+use std::sync::Arc;
 use std::test::Fail;
 
 fn octets_of(texts: &Texts) -> &Bytes {
-    &texts.octets
+    &texts.texts.octets
 }
 
 fn ends_of(texts: &Texts) -> &Vec<u32> {
-    &texts.ends
+    &texts.texts.ends
 }
 
 #[test]
 fn texts_keep_octets_and_where_each_ends(rt: HostRuntime) -> Result<(), Fail> {
-    let texts = Texts::new(Bytes::from_static(b""), Vec::new(rt.alloc()));
+    let kept = RunTexts {
+        octets: Bytes::from_static(b""),
+        ends: Vec::new(rt.alloc()),
+    };
+    let texts = Texts::new(Arc::new(rt.alloc(), kept)?);
     assert!(rt; octets_of(&texts).is_empty());
     assert!(rt; ends_of(&texts).is_empty());
     Ok(())

@@ -1,3 +1,4 @@
+use Rattle.std.proofs.lemmas.Result.{IfOk-weaker}
 use Rattle.std.specs.Arc.{arc_value}
 use Rattle.ipfix_records.specs.Pieces.{pieces}
 use Rattle.ipfix_session.proofs.SetSteps.{cut_ends, run_cut, kept_along}
@@ -13,4 +14,4 @@ pub returns-then-found : goal.returns-then-found
 returns-then-found c =
     let ends = c.args.found.ends.items in
     let cut = cut_ends c.args.content.now c.in_ok-octets.octets ends c.args.found.used c.requires.found.ends c.requires.found.within c.in_ok-octets.ensures.ok in
-    run_cut (arc_value c.args.template.now) (arc_value c.in_ok-clone.field-0) c.args.content.now c.in_ok-octets.octets ends c.new.result c.new.ensures c.in_ok-clone.ensures.cases cut.1
+    IfOk-weaker c.new.result _ _ (λ run is. run_cut (arc_value c.args.template.now) (arc_value c.in_ok-clone.field-0) c.args.content.now c.in_ok-octets.octets ends run is c.in_ok-clone.ensures.cases cut.1) c.new.ensures

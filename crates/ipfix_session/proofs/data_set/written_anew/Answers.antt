@@ -1,4 +1,5 @@
 use Rattle.std.proofs.Common.{get_or, length, ap, arith}
+use Rattle.std.proofs.lemmas.Result.{IfOk-weaker}
 use Rattle.std.specs.Arc.{arc_value}
 use Rattle.ipfix_session.proofs.SetSteps.{next_read, text_along, text_written, few_written, rewrites_more, rewrites_all}
 use Rattle.ipfix_session.proofs.data_set.written_anew.Goals as goal
@@ -47,4 +48,4 @@ loop-end-preserved c =
 
 pub returns : goal.returns
 returns c =
-    rewrites_all (arc_value c.args.template.now) (arc_value c.in_ok-clone-2.field-0) c.args.content.now c.args.found.now.ends.items c.loop-end.octets.items c.in_ok-from_vec.field-0 c.loop-end.written.items c.loop-end.end-index c.loop-end.start c.new.result c.new.ensures c.in_ok-clone-2.ensures.cases c.in_ok-from_vec.ensures.ok (omega arith) c.loop-end.invariant
+    IfOk-weaker c.new.result _ _ (λ run is. rewrites_all (arc_value c.args.template.now) (arc_value c.in_ok-clone-2.field-0) c.args.content.now c.args.found.now.ends.items c.loop-end.octets.items c.in_ok-from_vec.field-0 c.loop-end.written.items c.loop-end.end-index c.loop-end.start run is c.in_ok-clone-2.ensures.cases c.in_ok-from_vec.ensures.ok (omega arith) c.loop-end.invariant) c.new.ensures

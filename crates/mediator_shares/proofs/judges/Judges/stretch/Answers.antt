@@ -1,4 +1,5 @@
-use Rattle.std.proofs.Common.{◌+◌, ap, ◌∙◌, arith}
+use Rattle.std.proofs.Common.{◌+◌, ◌<◌, ◌≤◌, ℕ, ap, subst, ◌∙◌, arith}
+use Rattle.rule_table.specs.Near.{HaveSameKeys, HasKeys}
 use Rattle.flow_anonymize.specs.Classes.{classes_of}
 use Rattle.flow_anonymize.specs.Parts.{record_at}
 use Rattle.mediator_shares.specs.Judges.{Judges}
@@ -6,13 +7,19 @@ use Rattle.mediator_shares.proofs.StretchLaws.{goes_start, goes_step, is_there, 
 use Rattle.mediator_shares.proofs.judges.Judges.stretch.Goals as goal
 
 pub records-init : goal.records-init
-records-init c = (
-  goes_start c.args.self.now.cuts c.args.run.now c.args.from c.args.classes c.classes_at-next.result c.requires.there c.requires.classes c.classes_at-next.ensures.value c.classes_at-next.ensures.over,
-  c.classes_at-next.ensures.unchanged,
-)
+records-init c =
+    let run = c.args.run.now in
+    let from = c.args.from in
+    let to = c.same_until-to.result in
+    let cuts = ap (λ (j : Judges). j.cuts) c.self.view_is in (
+      goes_start c.args.self.now.cuts run from to c.args.classes c.classes_at-next.result c.same_until-to.ensures.some c.same_until-to.ensures.within c.requires.classes
+          (subst (λ cuts. (i : ℕ) → from ≤ i → i < to → HaveSameKeys cuts (record_at run i) (record_at run from)) cuts c.same_until-to.ensures.alike)
+          (subst (λ cuts. from + 1 < to → HasKeys cuts (record_at run from)) cuts c.same_until-to.ensures.known) c.classes_at-next.ensures.value c.classes_at-next.ensures.over,
+      c.classes_at-next.ensures.unchanged,
+    )
 
-pub overflow_add-to-in-records : goal.overflow_add-to-in-records
-overflow_add-to-in-records c =
+pub overflow_add-to : goal.overflow_add-to
+overflow_add-to c =
     let there = is_there c.args.self.now.cuts c.args.run.now c.args.from c.records.to c.args.classes c.records.next c.records.invariant.0 (c.are_same.ensures.some c.records-test.true) in
     omega (arith, there, c.len-for_proof.ensures.value)
 

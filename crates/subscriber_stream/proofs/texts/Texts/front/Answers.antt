@@ -1,20 +1,22 @@
 use Rattle.std.proofs.Common.{◌≤◌, drop, length, ap, ◌∙◌, arith, length-drop}
+use Rattle.std.specs.Arc.{arc_value}
+use Rattle.ipfix_records.specs.declared.run.RunTexts.{RunTexts}
 use Rattle.subscriber_stream.proofs.TextLaws.{is_front, count_few}
 use Rattle.subscriber_stream.proofs.texts.Texts.front.Goals as goal
 
-few : (c : goal.After-deref) → c.args.count ≤ length (drop c.self.inside.handed c.self.inside.ends.items)
-few c = count_few c.self.inside.octets c.self.inside.start _ c.args.count (rw (← c.self.view_is) at c.requires)
+few : (c : goal.After-deref-2) → c.args.count ≤ length (drop c.self.inside.handed (arc_value c.self.inside.texts).ends.items)
+few c = count_few (arc_value c.self.inside.texts).octets c.self.inside.start _ c.args.count (rw (← c.self.view_is) at c.requires)
 
 pub end_of-end-requires : goal.end_of-end-requires
 end_of-end-requires c =
-    omega (arith, few c, length-drop c.self.inside.handed c.self.inside.ends.items, ap length c.deref.ensures.value, c.self.invariant.1)
+    omega (arith, few c, length-drop c.self.inside.handed (arc_value c.self.inside.texts).ends.items, ap length (c.deref-2.ensures.value ∙ ap (λ (t : RunTexts). t.ends.items) c.deref.ensures), c.self.invariant.1)
 
 pub between-requires : goal.between-requires
 between-requires c =
-    let front = is_front c.self.inside.octets c.self.inside.start (drop c.self.inside.handed c.self.inside.ends.items) c.args.count c.end_of-end.result (count_few c.self.inside.octets c.self.inside.start _ c.args.count (rw (← c.self.view_is) at c.requires)) c.self.invariant.0 (rw c.deref.ensures.value at c.end_of-end.ensures) in
-    record { order = front.behind; within = rw c.deref-2.ensures front.within }
+    let front = is_front (arc_value c.self.inside.texts).octets c.self.inside.start (drop c.self.inside.handed (arc_value c.self.inside.texts).ends.items) c.args.count c.end_of-end.result (count_few (arc_value c.self.inside.texts).octets c.self.inside.start _ c.args.count (rw (← c.self.view_is) at c.requires)) c.self.invariant.0 (rw (c.deref-2.ensures.value ∙ ap (λ (t : RunTexts). t.ends.items) c.deref.ensures) at c.end_of-end.ensures) in
+    record { order = front.behind; within = rw (c.deref-4.ensures ∙ ap (λ (t : RunTexts). t.octets) c.deref-3.ensures) front.within }
 
 pub returns : goal.returns
 returns c =
-    let front = is_front c.self.inside.octets c.self.inside.start (drop c.self.inside.handed c.self.inside.ends.items) c.args.count c.end_of-end.result (count_few c.self.inside.octets c.self.inside.start _ c.args.count (rw (← c.self.view_is) at c.requires)) c.self.invariant.0 (rw c.deref.ensures.value at c.end_of-end.ensures) in
-    rw (← c.self.view_is) (c.between.ensures ∙ rw c.deref-2.ensures front.shown)
+    let front = is_front (arc_value c.self.inside.texts).octets c.self.inside.start (drop c.self.inside.handed (arc_value c.self.inside.texts).ends.items) c.args.count c.end_of-end.result (count_few (arc_value c.self.inside.texts).octets c.self.inside.start _ c.args.count (rw (← c.self.view_is) at c.requires)) c.self.invariant.0 (rw (c.deref-2.ensures.value ∙ ap (λ (t : RunTexts). t.ends.items) c.deref.ensures) at c.end_of-end.ensures) in
+    rw (← c.self.view_is) (c.between.ensures ∙ rw (c.deref-4.ensures ∙ ap (λ (t : RunTexts). t.octets) c.deref-3.ensures) front.shown)

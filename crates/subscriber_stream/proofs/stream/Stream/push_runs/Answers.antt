@@ -1,7 +1,7 @@
 use Rattle.std.proofs.Common.{ap}
 use Rattle.ipfix_records.specs.Runs.{run_records, records_of_runs}
 use Rattle.subscriber_stream.proofs.Standings.{IsGiving-next, IsGiving-can}
-use Rattle.subscriber_stream.proofs.stream.Stream.push_all.Goals as goal
+use Rattle.subscriber_stream.proofs.stream.Stream.push_runs.Goals as goal
 
 pub push_run-requires-clause-room : goal.push_run-requires-clause-room
 push_run-requires-clause-room c =
