@@ -40,7 +40,8 @@ impl Model for Run {
     ghost view = { λ r. record { template = arc_value r.template; texts = pieces (arc_value r.texts).octets 0 (arc_value r.texts).ends.items } };
 
     ghost invariant = { λ r. AreEnds 0 (arc_value r.texts).ends.items (length (arc_value r.texts).octets)
-        × AllByRecursion (IsKept (arc_value r.template)) (pieces (arc_value r.texts).octets 0 (arc_value r.texts).ends.items) };
+        × AllByRecursion (IsKept (arc_value r.template))
+        (pieces (arc_value r.texts).octets 0 (arc_value r.texts).ends.items) };
 }
 
 impl Run {
@@ -48,9 +49,8 @@ impl Run {
     ghost use Rattle.ipfix_template.specs.Values.{record_text};
     ghost use Rattle.ipfix_records.specs.Runs.{IsKeptRun, run_records};
 
-    /// The records of `template` that stand in `octets`, one after another. `ends` says for each
-    /// where it ends, counted from the first octet of all. Nothing is copied; what copies share is
-    /// in memory from `alloc`.
+    /// The records of `template` that stand in `octets`, one after another. `ends` says for each where it ends,
+    /// counted from the first octet of all. Nothing is copied; what copies share is in memory from `alloc`.
     ///
     /// # Errors
     /// Want of memory.

@@ -33,8 +33,8 @@ impl Model for Texts {
 
     ghost view = { λ t. pieces (arc_value t.texts).octets t.start (drop t.handed (arc_value t.texts).ends.items) };
 
-    ghost invariant = { λ t. AreEnds t.start (drop t.handed (arc_value t.texts).ends.items) (length (arc_value t.texts).octets)
-        × (t.handed ≤ length (arc_value t.texts).ends.items) };
+    ghost invariant = { λ t. AreEnds t.start (drop t.handed (arc_value t.texts).ends.items)
+        (length (arc_value t.texts).octets) × (t.handed ≤ length (arc_value t.texts).ends.items) };
 }
 
 impl Texts {
