@@ -1,10 +1,15 @@
 """`ipmd offline`: what one subscriber gets of a stream, worked out by hand; streams that are none; and a subscription's cut."""
 import errno
+import os
+import select
 import struct
+import subprocess
+import time
 import unittest
 from typing import NamedTuple
 
-from runs import FLOW, FLOW_PASSED, FLOW_REPORT, NOW, OFFLINE, OFFLINE_HEX, PASS, WITHHOLD, Case, ProgramTest, failed, run
+import program
+from runs import FLOW, FLOW_PASSED, FLOW_REPORT, LONGEST, NOW, OFFLINE, OFFLINE_HEX, PASS, WITHHOLD, Case, ProgramTest, failed, run
 
 KEEP = "rule for * in * from * to * element * keep"
 
@@ -351,6 +356,25 @@ def layouts_message(first, count):
     return struct.pack("!HHIII", 10, 16 + len(content), 0, 0, 0) + content
 
 
+# Two messages behind the first.
+FLOW_AT_1, FLOW_AT_2 = (FLOW.replace("6553f100 00000000", f"6553f100 0000000{before}") for before in (1, 2))
+
+# How long a message may take, in seconds, and how long none comes, so that who waits for one sleeps.
+SOON = 20
+REST = 0.2
+
+
+def read_soon(stream, count):
+    """The next octets of a stream, as many as are asked for, or fewer where they don't come."""
+    found = b""
+    while len(found) < count and select.select([stream], [], [], SOON)[0]:
+        piece = os.read(stream.fileno(), count - len(found))
+        if not piece:
+            break
+        found += piece
+    return found
+
+
 class Offline(ProgramTest):
     def test_worked(self):
         """Each stream, in digits and as octets, with an audit and without."""
@@ -380,6 +404,25 @@ class Offline(ProgramTest):
         for length in range(1, len(message)):
             with self.subTest(length=length):
                 self.expect_ran(run(OFFLINE, message[:length]), 1, b"", "ipmd: framing CutOff\n")
+
+    def test_as_it_comes(self):
+        """What a message discloses is written before more comes, also when none came for a while."""
+        words = [*OFFLINE, "--now", NOW]
+        given = [bytes.fromhex(text) for text in (FLOW, FLOW_AT_1, FLOW_AT_2)]
+        wholes = [run(words, b"".join(given[: count + 1])).output for count in range(len(given))]
+        self.assertEqual(wholes[0], bytes.fromhex(FLOW_PASSED))
+        streams = {"stdin": subprocess.PIPE, "stdout": subprocess.PIPE, "stderr": subprocess.PIPE, "bufsize": 0}
+        with subprocess.Popen([program.path(), *words], **streams) as child:
+            written = b""
+            for message, whole in zip(given, wholes):
+                child.stdin.write(message)
+                written += read_soon(child.stdout, len(whole) - len(written))
+                self.assertEqual(written, whole)
+                time.sleep(REST)
+            child.stdin.close()
+            self.assertEqual(child.stdout.read(), b"")
+            self.assertEqual(child.stderr.read(), b"messages 3 records 3 disclosed 3\n")
+            self.assertEqual(child.wait(LONGEST), 0)
 
     def test_misuse(self):
         self.expect_all(MISUSE)

@@ -7,12 +7,14 @@ import resource
 import subprocess
 import unittest
 
+import messages
 import program
-from runs import FLOW, LONGEST, OFFLINE, OFFLINE_HEX, PASS, WITHHOLD, Case, ProgramTest, failed, octets, run
+from runs import FLOW, LONGEST, NOW, OFFLINE, OFFLINE_HEX, PASS, WITHHOLD, Case, ProgramTest, failed, octets, run
 
 CHECK = ["check-policy", "--policy-text", PASS]
 
-WITHHOLD_HEX = ["offline", "--policy-text", WITHHOLD, "--subscriber", "acme", "--hex"]
+WITHHOLD_OCTETS = ["offline", "--policy-text", WITHHOLD, "--subscriber", "acme"]
+WITHHOLD_HEX = [*WITHHOLD_OCTETS, "--hex"]
 
 # Commands that read a file, by its path.
 READERS = [
@@ -74,6 +76,32 @@ UNTOLD = [
     ("a fault", OFFLINE_HEX, "0g", 1),
     ("a refused command line", ["ofline"], "", 2),
 ]
+
+# A policy that passes each record without its source port.
+REMOVE = (
+    "policy 1;rule for * in * from * to * pass;rule for * in * from * to * element sourceTransportPort remove"
+    ";rule for * in * from * to * element * keep"
+)
+
+# A stream of 4 MB, of messages with as many records as fit: many more octets, and lines of an audit, than may wait to be written.
+MANY_MESSAGES, MANY_RECORDS = 80, 5000
+
+# How many octets are taken of what is written.
+TAKEN = 1_000_000
+
+
+def much():
+    """The stream: a message that brings the template, and many of records."""
+    record = messages.FLOW.record(messages.address("192.0.2.77"), 443, 1500)
+    data = messages.FLOW.data(*[record] * MANY_RECORDS)
+    parts = [messages.message(number * MANY_RECORDS, data) for number in range(MANY_MESSAGES)]
+    return messages.message(0, messages.FLOW.octets()) + b"".join(parts)
+
+
+def much_audited(what):
+    """Its audit where each record has this line."""
+    places = [(message, record) for message in range(MANY_MESSAGES) for record in range(MANY_RECORDS)]
+    return "".join(f"{4 + message} {record} 1 {what}\n" for message, record in places).encode()
 
 
 def run_to(words, given, **streams):
@@ -157,6 +185,27 @@ class Streams(ProgramTest):
                 ran = run_to([program.path(), *words], given, stdout=pipe)
             self.expect_unsaid(name, ran, status, fault, errno.EPIPE)
 
+    def test_much_to_full_output(self):
+        """An output that takes nothing, where much is due: that is seen while more is read."""
+        with open("/dev/full", "wb") as full:
+            ran = run_to([program.path(), *OFFLINE], much(), stdout=full)
+        self.expect_said("an output", ran, 3, failed("standard output", errno.ENOSPC))
+
+    def test_much_to_full_audit(self):
+        ran = run_to([program.path(), *WITHHOLD_OCTETS, "--audit", "/dev/full"], much())
+        self.expect_said("an audit", ran, 3, failed("/dev/full", errno.ENOSPC))
+
+    def test_reader_goes(self):
+        """A pipe whose reader goes in the middle has got a front of what is due."""
+        path = self.file("stream", much())
+        words = [program.path(), *OFFLINE, "--now", NOW]
+        with open(path, "rb") as stream, subprocess.Popen(words, stdin=stream, stdout=subprocess.PIPE, stderr=subprocess.PIPE) as child:
+            taken = child.stdout.read(TAKEN)
+            child.stdout.close()
+            said = child.stderr.read().decode()
+            self.assertEqual((said, child.wait(LONGEST)), (failed("standard output", errno.EPIPE), 3))
+        self.assertTrue(run([*OFFLINE, "--now", NOW], much()).output.startswith(taken))
+
     def test_closed_output(self):
         for name, words, given, status, fault in OUTPUTS:
             ran = run_to(["sh", "-c", 'exec "$0" "$@" >&-', program.path(), *words], given)
@@ -211,6 +260,22 @@ class Streams(ProgramTest):
         path = self.file("journal")
         self.expect_fronts(words, "", path, whole)
         self.assertEqual(self.run_short([*words, path], "", len(whole) - 1).stdout, b"")
+
+    def test_short_audit_of_much(self):
+        """An audit's file that takes a front of what is due, where much more is, has that front."""
+        path = self.file("audit")
+        ran = self.run_short([*WITHHOLD_OCTETS, "--audit", path], much(), TAKEN)
+        self.expect_said("an audit", ran, 3, failed(path, errno.EFBIG))
+        self.assertTrue(pathlib.Path(path).read_bytes() == much_audited("withheld 1 rule")[:TAKEN])
+
+    def test_much(self):
+        """An output and an audit that take much get all of it, in order."""
+        path = self.file("audit")
+        ran = run(["offline", "--policy-text", REMOVE, "--subscriber", "acme", "--audit", path], much())
+        count = MANY_MESSAGES * MANY_RECORDS
+        self.assertEqual((ran.errors, ran.status), (f"messages {MANY_MESSAGES + 1} records {count} disclosed {count}\n", 0))
+        self.assertTrue(pathlib.Path(path).read_bytes() == much_audited("removed 1:2"))
+        self.assertTrue(messages.records(ran.output) == [((8, messages.address("192.0.2.77")), (1, (1500).to_bytes(4, "big")))] * count)
 
 
 if __name__ == "__main__":

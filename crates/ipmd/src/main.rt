@@ -44,7 +44,7 @@ mod system;
 
 use crate::replay::replay;
 use crate::serve::serve;
-use crate::system::System;
+use crate::system::Host;
 use ipmd_command_line::{Task, read_command_line};
 use ipmd_commands::{Fault as ProgramFault, Place, check_policy, filter, show, tell};
 use ipmd_explain::explain;
@@ -54,7 +54,6 @@ use octet_io::Device;
 use std::convert::AsStr;
 use std::env;
 use std::io::{self, ErrorKind, IsTerminal, Read, Write};
-use std::net::{Net, TcpListener, TcpStream};
 use std::os::fd::{AsRawFd, RawFd};
 use std::process::ExitCode;
 use std::rt::Env;
@@ -99,14 +98,7 @@ fn words_after_name<R: Env + AllocGlobal>(rt: &R) -> Result<Vec<String>, Program
 /// take is dropped. `descriptor` is that of `errors`, by which a server finds out whether a note would wait. `progress` is told
 /// how far a journal's file was read. All else that is asked of the system goes through `rt`.
 #[tactic(auto, using(crate::proofs::Statuses::no_fault_is_done))]
-pub fn program<
-    R: System + Net<Listener = TcpListener, Stream = TcpStream>,
-    S: AsStr,
-    I: Read + Drop,
-    O: Write,
-    E: Write + Send,
-    P: Progress,
->(
+pub fn program<R: Host, S: AsStr, I: Read + Drop, O: Write, E: Write + Send, P: Progress>(
     rt: &R,
     words: &[S],
     input: I,
@@ -115,6 +107,8 @@ pub fn program<
     descriptor: RawFd,
     progress: &mut P,
 ) -> u8
+where
+    R::File: Send + 'static,
     ensures done { result ≡ 0 → IsDone (map S.text words.now) (I.remaining input)
         (writer_of (O.contents (device_inner output.old)) (O.contents (device_inner output.new)))
         (writer_of (E.contents (device_inner errors.old)) (E.contents (device_inner errors.new)))
@@ -140,14 +134,7 @@ pub fn program<
 /// # Errors
 /// Those of the command.
 #[tactic(auto, using(ipmd_commands::proofs::Lines::kept))]
-fn run<
-    R: System + Net<Listener = TcpListener, Stream = TcpStream>,
-    S: AsStr,
-    I: Read + Drop,
-    O: Write,
-    E: Write + Send,
-    P: Progress,
->(
+fn run<R: Host, S: AsStr, I: Read + Drop, O: Write, E: Write + Send, P: Progress>(
     rt: &R,
     words: &[S],
     input: I,
@@ -156,6 +143,8 @@ fn run<
     descriptor: RawFd,
     progress: &mut P,
 ) -> Result<Option<OfflineReport>, ProgramFault>
+where
+    R::File: Send + 'static,
     ensures ok { IfOk result (λ report. Does (map S.text words.now) report (I.remaining input)
         (O.contents (device_inner output.old)) (O.contents (device_inner output.new))
         errors.old errors.new) }

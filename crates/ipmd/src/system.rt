@@ -1,6 +1,7 @@
 //! The handles by which the program asks the system for anything, under one name.
 
 use std::env::Env;
+use std::net::{Net, TcpListener, TcpStream};
 use std::random::RandomSource;
 use std::rt::Files;
 use std::sync::Wait;
@@ -9,6 +10,35 @@ use std::time::Clock;
 
 /// What the program asks of the system beside connections: files and memory, and for a server threads, locks, the time, the
 /// environment and numbers that nobody knows.
-pub trait System: Files + AllocGlobal + Threads + Wait + Clock + Env + RandomSource + Sync {}
+pub trait System: Files
+    + AllocGlobal
+    + Threads
+    + Wait
+    + Clock
+    + Env
+    + RandomSource
+    + Copy
+    + Send
+    + Sync
+    + Drop
+    + 'static {}
 
-impl<R: Files + AllocGlobal + Threads + Wait + Clock + Env + RandomSource + Sync> System for R {}
+impl<
+    R: Files
+        + AllocGlobal
+        + Threads
+        + Wait
+        + Clock
+        + Env
+        + RandomSource
+        + Copy
+        + Send
+        + Sync
+        + Drop
+        + 'static,
+> System for R {}
+
+/// What the program asks of the system, connections over TCP too.
+pub trait Host: System + Net<Listener = TcpListener, Stream = TcpStream> {}
+
+impl<R: System + Net<Listener = TcpListener, Stream = TcpStream>> Host for R {}

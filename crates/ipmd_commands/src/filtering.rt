@@ -12,12 +12,15 @@ use crate::files::of_file;
 use crate::hex_input::read_hex;
 use crate::output::write_lines;
 use crate::policy_source::policy_text_of;
+use audit_behind::AuditBehind;
 use ipmd_command_line::OfflineOptions;
-use mediator_offline::{Fault as OfflineFault, OfflineJob, OfflineReport, offline};
+use mediator_offline::{AuditSink, Fault as OfflineFault, OfflineJob, OfflineReport, offline};
 use octet_io::Device;
 use std::alloc::Global;
-use std::io::{BufWriter, Read, Write};
+use std::io::{BufWriter, ErrorKind, Read, Write};
 use std::rt::Files;
+use std::sync::Wait;
+use std::thread::Threads;
 use std::{fs, io};
 
 /// How many octets of audit lines are written at once.
@@ -35,12 +38,18 @@ const ANY_NUMBER_OF_READS: u64 = u64::MAX;
 /// be hexadecimal and isn't; and what stops `offline` ([`mediator_offline::offline`]), where `Framing`, `Policy`, `Mediator`,
 /// `Cut` and `OutOfMemory` keep their names, and `Device` is that of what failed. What was accepted before a fault is written.
 #[tactic(auto, using(crate::proofs::Lines::kept))]
-pub fn filter<R: Files + AllocGlobal, I: Read + Drop, O: Write>(
+pub fn filter<
+    R: Files + AllocGlobal + Threads + Wait + Copy + Send + Drop + 'static,
+    I: Read + Drop,
+    O: Write,
+>(
     rt: &R,
     options: &OfflineOptions<'_>,
     input: I,
     output: &mut Device<O>,
 ) -> Result<OfflineReport, Fault>
+where
+    R::File: Send + 'static,
     ensures ok { IfOk result (λ report. FiltersInput options.entry.now report (I.remaining input)
         (O.contents (device_inner output.old)) (O.contents (device_inner output.new))) }
     ensures err { IfErr result (λ e. RefusesToFilter options.entry.now e (I.remaining input)
@@ -69,7 +78,11 @@ pub fn filter<R: Files + AllocGlobal, I: Read + Drop, O: Write>(
 /// # Errors
 /// Those of [`filter`] but for the policy's source.
 #[tactic(auto, using(crate::proofs::Lines::kept))]
-fn filter_to_file<R: Files + AllocGlobal, I: Read + Drop, O: Write>(
+fn filter_to_file<
+    R: Files + AllocGlobal + Threads + Wait + Copy + Send + Drop + 'static,
+    I: Read + Drop,
+    O: Write,
+>(
     rt: &R,
     job: &OfflineJob<'_>,
     hex: bool,
@@ -77,6 +90,8 @@ fn filter_to_file<R: Files + AllocGlobal, I: Read + Drop, O: Write>(
     output: &mut Device<O>,
     path: &str,
 ) -> Result<OfflineReport, Fault>
+where
+    R::File: Send + 'static,
     ensures ok { IfOk result (λ report.
         FinishesWithAudit hex job.entry.now report (I.remaining input)
         (writer_of (O.contents (device_inner output.old)) (O.contents (device_inner output.new)))) }
@@ -91,29 +106,29 @@ fn filter_to_file<R: Files + AllocGlobal, I: Read + Drop, O: Write>(
         path,
         BufWriter::with_capacity(alloc, AUDIT_BUFFER, file),
     )?;
-    let mut audit = Device::new(buffer);
+    let mut audit = AuditBehind::start(*rt, alloc, Device::new(buffer));
     match filter_input(alloc, job, hex, input, output, &mut audit) {
         Ok(report) => Ok(report),
-        Err(fault) => Err(fault.named(alloc, path, audit.why())),
+        Err(fault) => Err(fault.named(alloc, path, why_of(&audit))),
     }
 }
 
 /// Filters `input`, as octets, or as hexadecimal text to lines of it.
 #[tactic(auto, using(crate::proofs::Inputs::finishes_spelled, crate::proofs::Inputs::fails_spelled, crate::proofs::Lines::kept))]
-fn filter_input<I: Read + Drop, O: Write, A: Write>(
+fn filter_input<I: Read + Drop, O: Write, A: AuditSink>(
     alloc: Global,
     job: &OfflineJob<'_>,
     hex: bool,
     input: I,
     output: &mut Device<O>,
-    audit: &mut Device<A>,
+    audit: &mut A,
 ) -> Result<OfflineReport, Fault>
     ensures ok { IfOk result (λ report. FinishesInput hex job.entry.now report (I.remaining input)
         (writer_of (O.contents (device_inner output.old)) (O.contents (device_inner output.new)))
-        (writer_of (A.contents (device_inner audit.old)) (A.contents (device_inner audit.new)))) }
+        (writer_of (A.contents audit.old) (A.contents audit.new))) }
     ensures err { IfErr result (λ e. RefusesInput e hex job.entry.now (I.remaining input)
         (writer_of (O.contents (device_inner output.old)) (O.contents (device_inner output.new)))
-        (writer_of (A.contents (device_inner audit.old)) (A.contents (device_inner audit.new)))) }
+        (writer_of (A.contents audit.old) (A.contents audit.new))) }
 {
     if !hex {
         return filter_octets(alloc, job, input, output, audit);
@@ -123,19 +138,19 @@ fn filter_input<I: Read + Drop, O: Write, A: Write>(
 }
 
 /// Filters octets, and writes each message as a line when all was read.
-fn filter_to_lines<O: Write, A: Write>(
+fn filter_to_lines<O: Write, A: AuditSink>(
     alloc: Global,
     job: &OfflineJob<'_>,
     octets: &[u8],
     output: &mut Device<O>,
-    audit: &mut Device<A>,
+    audit: &mut A,
 ) -> Result<OfflineReport, Fault>
     ensures ok { IfOk result (λ report. FinishesLines job.entry.now report octets.now
         (writer_of (O.contents (device_inner output.old)) (O.contents (device_inner output.new)))
-        (writer_of (A.contents (device_inner audit.old)) (A.contents (device_inner audit.new)))) }
+        (writer_of (A.contents audit.old) (A.contents audit.new))) }
     ensures err { IfErr result (λ e. FailsLines e job.entry.now octets.now
         (writer_of (O.contents (device_inner output.old)) (O.contents (device_inner output.new)))
-        (writer_of (A.contents (device_inner audit.old)) (A.contents (device_inner audit.new)))) }
+        (writer_of (A.contents audit.old) (A.contents audit.new))) }
 {
     let mut stream = Device::new(Vec::new(alloc));
     let report = filter_octets(alloc, job, octets, &mut stream, audit);
@@ -149,31 +164,39 @@ fn filter_to_lines<O: Write, A: Write>(
 
 /// Filters octets, and sees that all that was written has left.
 #[tactic(auto, using(crate::proofs::Lines::kept))]
-fn filter_octets<I: Read + Drop, O: Write, A: Write>(
+fn filter_octets<I: Read + Drop, O: Write, A: AuditSink>(
     alloc: Global,
     job: &OfflineJob<'_>,
     input: I,
     output: &mut Device<O>,
-    audit: &mut Device<A>,
+    audit: &mut A,
 ) -> Result<OfflineReport, Fault>
     ensures ok { IfOk result (λ report. FinishesOn job.entry.now report (I.remaining input)
         (writer_of (O.contents (device_inner output.old)) (O.contents (device_inner output.new)))
-        (writer_of (A.contents (device_inner audit.old)) (A.contents (device_inner audit.new)))) }
+        (writer_of (A.contents audit.old) (A.contents audit.new))) }
     ensures err { IfErr result (λ e. FailsOn e job.entry.now (I.remaining input)
         (writer_of (O.contents (device_inner output.old)) (O.contents (device_inner output.new)))
-        (writer_of (A.contents (device_inner audit.old)) (A.contents (device_inner audit.new)))) }
+        (writer_of (A.contents audit.old) (A.contents audit.new))) }
 {
-    if output.has_failed() || audit.has_failed() {
+    if output.has_failed() || audit.failure().is_some() {
         return Err(failed_one(output));
     }
     let mut reader = Device::new(input);
     let report = offline(alloc, job, &mut reader, output, audit);
-    if output.flush().and(audit.flush()).is_err() {
+    if output.flush().and(audit.flush_lines()).is_err() {
         return Err(failed_one(output));
     }
     match report {
         Ok(report) => Ok(report),
         Err(fault) => Err(fault_of(fault, reader.why(), output.why())),
+    }
+}
+
+/// Why an audit failed, where it has; an error of the kind `Other` where it has not.
+fn why_of<A: AuditSink>(audit: &A) -> io::Error {
+    match audit.failure() {
+        Some(why) => why,
+        None => io::Error::from(ErrorKind::Other),
     }
 }
 

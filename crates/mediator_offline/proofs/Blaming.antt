@@ -4,8 +4,7 @@ use Rattle.mediator_offline.specs.declared.run.OfflineRun.{OfflineRun}
 use Rattle.mediator_state.specs.declared.fault.Fault.TheVariants as fault
 use Rattle.mediator_offline.specs.declared.job.Fault.{Fault}
 use Rattle.mediator_offline.specs.declared.job.Fault.TheVariants.{Write, Mediator, AuditWrite}
-use Rattle.mediator_offline.specs.Failing.{output_after, audit_after, FailsOnly}
-use Rattle.mediator_offline.specs.Recording.{StopsLines}
+use Rattle.mediator_offline.specs.Failing.{output_after, audit_after, FailsOnly, StopsLines}
 use Rattle.mediator_offline.specs.Gathering.{StopsGathered}
 use Rattle.mediator_offline.specs.Pulling.{StopsDelivery, FailsDelivery}
 

@@ -29,7 +29,7 @@ use Rattle.mediator_offline.specs.declared.job.Fault.{Fault}
 use Rattle.mediator_offline.specs.declared.job.Fault.TheVariants.{Write, Mediator, Cut, AuditWrite}
 use Rattle.mediator_offline.specs.Ports.{Outputs, holding}
 use Rattle.mediator_offline.specs.Lines.{lines_for, WritesBeginning, WritesOn}
-use Rattle.mediator_offline.specs.Recording.{Records, StopsLines}
+use Rattle.mediator_offline.specs.Recording.{Records}
 use Rattle.mediator_offline.specs.Offline.{after_message, history_of, disclosed_by, pulled_to_end, due_by, due, audit_due, cuts_by, next_message as next_entry, end_of}
 use Rattle.mediator_offline.specs.Due.{IsWrittenFor}
 use Rattle.mediator_offline.specs.Runs.{sizes_tell, listed, audit_waiting, KeepsAsked, RunHasHistory, RunStands, Small}
@@ -39,6 +39,7 @@ use Rattle.mediator_offline.specs.HandsOut.{HandsOutAll}
 use Rattle.mediator_offline.specs.Gathering.{and_gathered}
 use Rattle.mediator_offline.specs.Pulling.{Delivers, StopsDelivery, FailsDelivery}
 use Rattle.mediator_offline.specs.Filtering.{WritesPart, StopsAtMessage}
+use Rattle.mediator_offline.specs.Failing.{StopsLines}
 use Rattle.mediator_offline.specs.Running.{IsRunning, RunsSomewhere}
 use Rattle.mediator_offline.proofs.GatheringLaws.{front_longer, stops_inside}
 use Rattle.mediator_offline.proofs.Delivering.{streamable_of, stands_on}

@@ -1,7 +1,8 @@
 -- Whether a device has failed after a fault: the one that the fault names has, and each other is as it was.
 use Rattle.std.specs.Prelude.{◌≡◌, Bool, true, false}
+use Rattle.mediator_state.specs.declared.fault.Fault.TheVariants as fault
 use Rattle.mediator_offline.specs.declared.job.Fault.{Fault}
-use Rattle.mediator_offline.specs.declared.job.Fault.TheVariants.{Read, Write, AuditWrite}
+use Rattle.mediator_offline.specs.declared.job.Fault.TheVariants.{Read, Write, AuditWrite, Mediator}
 
 abbrev pub input_after : Fault → Bool → Bool
 input_after Read was = true
@@ -20,3 +21,9 @@ pub record FailsOnly (e : Fault) (writer_had audit_had reader_failed writer_fail
   pub reader : reader_failed ≡ input_after e false
   pub writer : writer_failed ≡ output_after e writer_had
   pub audit : audit_failed ≡ audit_after e audit_had
+
+-- lines stop where their writer failed, or memory ran out
+abbrev pub StopsLines : Fault → Bool → Type 0
+StopsLines AuditWrite failed = failed ≡ true
+StopsLines (Mediator fault.OutOfMemory) failed = Unit {0}
+StopsLines _ failed = ⊥

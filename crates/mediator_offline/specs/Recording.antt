@@ -1,8 +1,5 @@
--- What recording does to a run, and where it stops.
-use Rattle.std.specs.Prelude.{◌≡◌, Bool, true, List, []}
-use Rattle.mediator_state.specs.declared.fault.Fault.TheVariants as fault
-use Rattle.mediator_offline.specs.declared.job.Fault.{Fault}
-use Rattle.mediator_offline.specs.declared.job.Fault.TheVariants.{Mediator, AuditWrite}
+-- What recording does to a run.
+use Rattle.std.specs.Prelude.{◌≡◌, List, []}
 use Rattle.event_journal.specs.declared.entry.Entry.{Entry}
 use Rattle.mediator_state.specs.Calls.{StateStandsFor}
 use Rattle.mediator_state.specs.Seen.{handed_place}
@@ -16,9 +13,3 @@ pub record Records {Q : Type 0} (old new : OfflineRun Q) : Type 0 where
   pub place : handed_place new.state.engine 1 ≡ handed_place old.state.engine 1
   pub stands : (h : List Entry) → StateStandsFor sizes_tell old.state h → StateStandsFor sizes_tell new.state h
   pub quiet : audit_count new ≡ 0
-
--- lines stop where their writer failed, or memory ran out
-abbrev pub StopsLines : Fault → Bool → Type 0
-StopsLines AuditWrite failed = failed ≡ true
-StopsLines (Mediator fault.OutOfMemory) failed = Unit {0}
-StopsLines _ failed = ⊥

@@ -6,6 +6,7 @@ ghost use Rattle.mediator_offline.specs.Gathering.{and_gathered, IsGatheredFor};
 ghost use Rattle.mediator_offline.specs.Running.{RunsSomewhere};
 ghost use Rattle.mediator_offline.specs.Reaching.{HandlesAll, HandlesLast, StopsAmong};
 
+use crate::audit_sink::AuditSink;
 use crate::delivery::write_gathered;
 use crate::job::{Fault, OfflineJob, OfflineReport};
 use crate::run::{OfflineRun, SUBSCRIPTION};
@@ -22,7 +23,7 @@ impl<'a, Q: AuditQueue + Drop> OfflineRun<'a, Q> {
     ///
     /// # Errors
     /// Those of the first that is not handled; or the writer failed.
-    fn handle_all<W: Sink, A: Sink>(
+    fn handle_all<W: Sink, A: AuditSink>(
         &mut self,
         messages: Vec<Bytes>,
         gathered: &mut Vec<u8>,
@@ -64,7 +65,7 @@ impl<'a, Q: AuditQueue + Drop> OfflineRun<'a, Q> {
     ///
     /// # Errors
     /// Those of the first that is not handled.
-    fn handle_each<W: Sink, A: Sink>(
+    fn handle_each<W: Sink, A: AuditSink>(
         &mut self,
         messages: Vec<Bytes>,
         gathered: &mut Vec<u8>,
@@ -129,7 +130,7 @@ impl<'a, Q: AuditQueue + Drop> OfflineRun<'a, Q> {
     /// # Errors
     /// The reader failed, or the stream is faulty, does not end within the reads that are allowed, or ends inside a message; or
     /// those of the first message that is not handled.
-    fn read_stream<R: Source, W: Sink, A: Sink>(
+    fn read_stream<R: Source, W: Sink, A: AuditSink>(
         &mut self,
         intake: &mut Intake,
         reader: &mut R,
@@ -247,7 +248,7 @@ ghost use Rattle.mediator_offline.specs.Filtering.{FiltersAll, FailsToFilter};
 ///     \x00\x02\x00\x0c\x01\x00\x00\x01\x00\x01\x00\x04\x01\x00\x00\x08\x00\x00\x05\xdc";
 /// assert!(rt; writer.into_inner().as_slice() == due);
 /// ```
-pub fn offline<R: Source, W: Sink, A: Sink>(
+pub fn offline<R: Source, W: Sink, A: AuditSink>(
     alloc: Global,
     job: &OfflineJob<'_>,
     reader: &mut R,
@@ -315,7 +316,7 @@ pub fn offline<R: Source, W: Sink, A: Sink>(
 ///
 /// # Errors
 /// Those of [`offline`].
-fn filter<Q: AuditQueue + Drop, R: Source, W: Sink, A: Sink>(
+fn filter<Q: AuditQueue + Drop, R: Source, W: Sink, A: AuditSink>(
     alloc: Global,
     job: &OfflineJob<'_>,
     queue: Q,

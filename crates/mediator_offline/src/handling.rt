@@ -5,6 +5,7 @@ ghost use Rattle.mediator_offline.specs.Failing.{FailsOnly};
 ghost use Rattle.mediator_offline.specs.Gathering.{and_gathered, IsGatheredFor, LeavesGathered};
 ghost use Rattle.mediator_offline.specs.Running.{RunsSomewhere, HandlesOn, StopsOn};
 
+use crate::audit_sink::AuditSink;
 use crate::job::Fault;
 use crate::run::OfflineRun;
 use bytes::Bytes;
@@ -18,7 +19,7 @@ impl<'a, Q: AuditQueue + Drop> OfflineRun<'a, Q> {
     /// # Errors
     /// The message is refused, or cuts the subscription; or a writer failed, or memory ran out. What was gathered before is still
     /// to be written then, unless the writer failed.
-    pub(crate) fn handle<W: Sink, A: Sink>(
+    pub(crate) fn handle<W: Sink, A: AuditSink>(
         &mut self,
         message: Bytes,
         gathered: &mut Vec<u8>,

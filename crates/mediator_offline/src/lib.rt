@@ -31,6 +31,7 @@
 //! name is one, and the journal has room for both. The laws are those above.
 #![tactic(auto)]
 
+mod audit_sink;
 mod delivery;
 mod engine;
 mod handling;
@@ -39,8 +40,10 @@ pub mod laws;
 mod recording;
 mod run;
 
+pub use audit_sink::AuditSink;
 pub use engine::offline;
 pub use ipfix_reader::FramingFault;
 pub use job::{Fault, OfflineJob, OfflineReport};
 pub use laws::{accepted_messages_are_the_history, due_is_built, nothing_closes};
 pub use octet_io::{Device, Failed, Sink, Source};
+pub use recording::audit_lines;

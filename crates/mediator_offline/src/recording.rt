@@ -1,10 +1,10 @@
 //! Writes what the audit names, line by line.
 ghost use Rattle.std.specs.Prelude.{◌≡◌, IfOk, IfErr, OnOk, OnErr};
 ghost use Rattle.std.specs.Io.KnownBytes.{Appends};
-ghost use Rattle.mediator_offline.specs.Failing.{audit_after};
+ghost use Rattle.mediator_offline.specs.Failing.{audit_after, StopsLines};
 ghost use Rattle.mediator_offline.specs.Lines.{audit_text, WritesBeginning};
-ghost use Rattle.mediator_offline.specs.Recording.{StopsLines};
 
+use crate::audit_sink::AuditSink;
 use crate::job::Fault;
 use crate::run::OfflineRun;
 use disclosure_audit::{AuditEntry, AuditQueue, put_lines};
@@ -35,7 +35,7 @@ pub(crate) fn write_lines<A: Sink>(
     ensures err { OnErr result (WritesBeginning (A.contents writer.old) (A.contents writer.new)
         (audit_text entries.now)) }
 {
-    let Ok(text) = lines(alloc, entries) else {
+    let Ok(text) = audit_lines(alloc, entries) else {
         return Err(Fault::Mediator(MediatorFault::OutOfMemory));
     };
     match write_all(writer, text.as_slice()) {
@@ -44,11 +44,11 @@ pub(crate) fn write_lines<A: Sink>(
     }
 }
 
-/// The lines of entries, one after another.
+/// The lines of `entries`, one after another, in memory from `alloc`.
 ///
 /// # Errors
 /// Want of memory.
-fn lines(alloc: Global, entries: &[AuditEntry]) -> Result<Vec<u8>, AllocError>
+pub fn audit_lines(alloc: Global, entries: &[AuditEntry]) -> Result<Vec<u8>, AllocError>
     ensures { IfOk result (λ text. text.items ≡ audit_text entries.now) }
 {
     let mut text = Vec::with_capacity(alloc, entries.len().saturating_mul(LINE_OCTETS))?;
@@ -66,7 +66,7 @@ impl<'a, Q: AuditQueue + Drop> OfflineRun<'a, Q> {
     ///
     /// # Errors
     /// The writer failed, or memory ran out: a front of the lines was written.
-    pub(crate) fn record<A: Sink>(&mut self, writer: &mut A) -> Result<(), Fault>
+    pub(crate) fn record<A: AuditSink>(&mut self, writer: &mut A) -> Result<(), Fault>
         requires known { RunHasHistory self.old }
         requires few { audit_count self.old < 2 ^ 32 }
         requires asked { self.old.job.audit ≡ Q.KEEPS }
@@ -95,6 +95,6 @@ impl<'a, Q: AuditQueue + Drop> OfflineRun<'a, Q> {
         if !self.job.audit {
             return Ok(());
         }
-        write_lines(self.alloc, entries.as_slice(), writer)
+        writer.write_entries(self.alloc, entries)
     }
 }

@@ -1,6 +1,7 @@
 //! `ipmd`'s commands for one stream, one policy and the version, on devices that fail in the middle or take little at a time. What
 //! a closed pipe or a full device does to the process is tested from outside.
 use crate::places::is_at;
+use crate::system::System;
 use ipmd_command_line::{OfflineOptions, PolicySource, Task, read_command_line};
 use ipmd_commands::{Fault as ProgramFault, Place, check_policy, filter, show, tell};
 use mediator_offline::OfflineReport;
@@ -96,12 +97,15 @@ fn is_left(ran: &Ran, flows: &TwoFlows, sent: usize, done: bool, stream: &Place)
 }
 
 /// A run over the flows, whose writer takes at most `most` octets a call and fails after `calls` calls.
-fn run_into<R: Files + AllocGlobal>(
+fn run_into<R: System>(
     rt: &R,
     flows: &TwoFlows,
     most: usize,
     calls: usize,
-) -> Result<Ran, AllocError> {
+) -> Result<Ran, AllocError>
+where
+    R::File: Send + 'static,
+{
     let mut output = Device::new(narrow(rt.alloc(), most, calls)?);
     let answer = filter(rt, &passing(flows.hex), flows.input, &mut output);
     Ok(Ran {
@@ -111,19 +115,25 @@ fn run_into<R: Files + AllocGlobal>(
 }
 
 /// Whether such a writer is sent so much.
-fn sends<R: Files + AllocGlobal>(
+fn sends<R: System>(
     rt: &R,
     flows: &TwoFlows,
     most: usize,
     calls: usize,
     sent: usize,
-) -> Result<bool, AllocError> {
+) -> Result<bool, AllocError>
+where
+    R::File: Send + 'static,
+{
     let ran = run_into(rt, flows, most, calls)?;
     Ok(is_left(&ran, flows, sent, sent == flows.whole.len(), &Place::Output))
 }
 
 /// Whether a write that fails is the end of what is written.
-fn ends_at_a_write<R: Files + AllocGlobal>(rt: &R, flows: &TwoFlows) -> Result<bool, AllocError> {
+fn ends_at_a_write<R: System>(rt: &R, flows: &TwoFlows) -> Result<bool, AllocError>
+where
+    R::File: Send + 'static,
+{
     for (calls, sent) in flows.ends.iter().enumerate() {
         if !sends(rt, flows, ROOM, calls, *sent)? {
             return Ok(false);
@@ -133,7 +143,10 @@ fn ends_at_a_write<R: Files + AllocGlobal>(rt: &R, flows: &TwoFlows) -> Result<b
 }
 
 /// Whether a writer of one octet at a time gets all, and each octet that it took stays.
-fn ends_at_an_octet<R: Files + AllocGlobal>(rt: &R, flows: &TwoFlows) -> Result<bool, AllocError> {
+fn ends_at_an_octet<R: System>(rt: &R, flows: &TwoFlows) -> Result<bool, AllocError>
+where
+    R::File: Send + 'static,
+{
     for sent in 0..=flows.whole.len() {
         if !sends(rt, flows, 1, sent, sent)? {
             return Ok(false);
@@ -143,7 +156,10 @@ fn ends_at_an_octet<R: Files + AllocGlobal>(rt: &R, flows: &TwoFlows) -> Result<
 }
 
 /// Whether each writer of a run is sent what it must; one that takes nothing has failed.
-fn sends_each<R: Files + AllocGlobal>(rt: &R, flows: &TwoFlows) -> Result<bool, AllocError> {
+fn sends_each<R: System>(rt: &R, flows: &TwoFlows) -> Result<bool, AllocError>
+where
+    R::File: Send + 'static,
+{
     Ok(ends_at_a_write(rt, flows)? && ends_at_an_octet(rt, flows)? && sends(rt, flows, 0, ROOM, 0)?)
 }
 
@@ -168,7 +184,10 @@ fn has_failed<T>(answer: &Result<T, ProgramFault>) -> bool {
 }
 
 /// Whether it is seen at the flush that the reader of the messages has gone.
-fn fails_to_filter<R: Files + AllocGlobal>(rt: &R) -> Result<bool, Fail> {
+fn fails_to_filter<R: System>(rt: &R) -> Result<bool, Fail>
+where
+    R::File: Send + 'static,
+{
     let mut output = buffer(rt.alloc())?;
     let answer = filter(rt, &passing(true), AS_LINES.input, &mut output);
     Ok(has_failed(&answer))
@@ -202,7 +221,10 @@ fn flushed(rt: HostRuntime) -> Result<(), Fail> {
 }
 
 /// What a run leaves on an output that has failed before, at its first call alone.
-fn run_behind_a_failure<R: Files + AllocGlobal>(rt: &R) -> Result<Ran, AllocError> {
+fn run_behind_a_failure<R: System>(rt: &R) -> Result<Ran, AllocError>
+where
+    R::File: Send + 'static,
+{
     let mut output = Device::new(narrow(rt.alloc(), ROOM, 0)?);
     let _ = write_all(&mut output, b"0");
     let answer = filter(rt, &passing(false), AS_OCTETS.input, &mut output);
@@ -269,7 +291,10 @@ const READERS: &[Reader] = &[
 ];
 
 /// Whether a run by this reader leaves what it must.
-fn reads<R: Files + AllocGlobal>(rt: &R, case: &Reader) -> bool {
+fn reads<R: System>(rt: &R, case: &Reader) -> bool
+where
+    R::File: Send + 'static,
+{
     let flows = case.flows;
     let input = Sparing::new(flows.input, case.most, case.calls, ConnectionReset);
     let mut output = Device::new(Vec::new(rt.alloc()));
@@ -282,7 +307,10 @@ fn reads<R: Files + AllocGlobal>(rt: &R, case: &Reader) -> bool {
 }
 
 /// That the run leaves what it must by each reader.
-fn expect_readers<R: Files + AllocGlobal + Abort>(rt: &R, cases: &[Reader]) {
+fn expect_readers<R: System + Abort>(rt: &R, cases: &[Reader])
+where
+    R::File: Send + 'static,
+{
     for case in cases {
         assert!(rt; reads(rt, case), "{}", case.name);
     }
@@ -293,7 +321,10 @@ fn expect_readers<R: Files + AllocGlobal + Abort>(rt: &R, cases: &[Reader]) {
 const BEFORE_A_FAILURE: &[usize] = &[0, 0, 0, 0, 0, 0, 0, 0, 0, 96];
 
 /// That the run leaves what it must, whichever of its reads fails.
-fn expect_failing_reads<R: Files + AllocGlobal + Abort>(rt: &R) {
+fn expect_failing_reads<R: System + Abort>(rt: &R)
+where
+    R::File: Send + 'static,
+{
     for (calls, sent) in BEFORE_A_FAILURE.iter().enumerate() {
         let case = Reader {
             name: "a read fails",

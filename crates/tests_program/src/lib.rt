@@ -38,4 +38,6 @@ mod places;
 #[cfg(test)]
 mod settings;
 #[cfg(test)]
+mod system;
+#[cfg(test)]
 mod verifying;

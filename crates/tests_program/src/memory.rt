@@ -1,6 +1,7 @@
 //! `ipmd`'s commands for one stream and one policy, where one allocation is refused: the answer says so, and what was written is a
 //! front of what is due. A run that was refused memory is made again, and gives all. Nothing refuses memory here;
 //! `bench/refuse_allocations tests_program` refuses each allocation in turn.
+use crate::system::System;
 use ipmd_command_line::{OfflineOptions, PolicySource};
 use ipmd_commands::{Fault as ProgramFault, check_policy, filter};
 use octet_io::Device;
@@ -49,7 +50,10 @@ fn was_refused(ran: &Ran, due: &[u8]) -> bool {
     matches!(ran.answer, Err(ProgramFault::OutOfMemory)) && due.starts_with(ran.written.as_slice())
 }
 
-fn filtered<R: Files + AllocGlobal>(rt: &R) -> Result<Ran, AllocError> {
+fn filtered<R: System>(rt: &R) -> Result<Ran, AllocError>
+where
+    R::File: Send + 'static,
+{
     let mut output = Device::new(Vec::with_capacity(rt.alloc(), ROOM)?);
     let answer = match filter(rt, &REMOVE_PORT, FLOW, &mut output) {
         Ok(_) => Ok(()),
@@ -71,7 +75,10 @@ fn counted<R: Files + AllocGlobal>(rt: &R) -> Result<Ran, AllocError> {
 }
 
 /// Whether a stream is filtered, by a second run where the first was refused memory.
-fn filters<R: Files + AllocGlobal>(rt: &R) -> Result<bool, AllocError> {
+fn filters<R: System>(rt: &R) -> Result<bool, AllocError>
+where
+    R::File: Send + 'static,
+{
     let ran = filtered(rt)?;
     Ok(
         is_done(&ran, WITHOUT_PORT)

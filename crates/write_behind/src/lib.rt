@@ -12,7 +12,7 @@
 //! Proved: what the writer holds (`contents`) is what the inner writer held, and behind it all that was handed over, each octet once
 //! and in order; a flush keeps it, and so does a failure, where what the inner writer did not take counts too. `into_inner` gives
 //! the inner writer back exactly where it holds all of that itself. That the thread is there at the same time, and that it ends,
-//! no clause says.
+//! is shown by tests alone.
 #![tactic(auto)]
 
 mod gate;

@@ -9,8 +9,8 @@ pub returns-then-is_err-clause-err : goal.returns-then-is_err-clause-err
 returns-then-is_err-clause-err g c =
     let held = g.O.Write.contents (device_inner c.args.output.now) in
     let holds = g.O.Write.contents (device_inner c.flush.new.self) in
-    let audit_held = g.A.Write.contents (device_inner c.args.audit.now) in
-    let audit_holds = g.A.Write.contents (device_inner c.flush-2.new.self) in
+    let audit_held = g.A.AuditSink.contents c.args.audit.now in
+    let audit_holds = g.A.AuditSink.contents c.flush_lines.new.self in
     inr (
       c.failed_one-then-is_err.ensures,
       inr (subst (λ input. EndsOn c.args.job.now (g.I.Read.remaining input) (writer_of held holds) (writer_of audit_held audit_holds)) c.new-reader.ensures.inner
@@ -20,10 +20,10 @@ returns-then-is_err-clause-err g c =
             reader_failed = device_failed c.offline-report.new.reader;
             outputs = record {
               written = g.O.Write.contents (device_inner c.offline-report.new.writer);
-              audited = g.A.Write.contents (device_inner c.offline-report.new.audit_writer);
+              audited = g.A.AuditSink.contents c.offline-report.new.audit_writer;
               writer_failed = device_failed c.offline-report.new.writer;
-              audit_failed = device_failed c.offline-report.new.audit_writer;
+              audit_failed = g.A.AuditSink.has_failed c.offline-report.new.audit_writer;
             };
           })
-          c.offline-report.ensures.filters c.offline-report.ensures.stops c.flush.ensures.octets c.flush-2.ensures.octets)),
+          c.offline-report.ensures.filters c.offline-report.ensures.stops c.flush.ensures.octets c.flush_lines.ensures.octets)),
     )

@@ -16,11 +16,11 @@ pub returns-clause-filters : goal.returns-clause-filters
 returns-clause-filters g c =
     let before =
     with_left (g.R.Source.remaining c.args.reader.now) (g.R.Source.has_failed c.args.reader.now)
-    (holding (g.W.Sink.contents c.args.writer.now) (g.A.Sink.contents c.args.audit_writer.now) (g.W.Sink.has_failed c.args.writer.now) (g.A.Sink.has_failed c.args.audit_writer.now)) in
+    (holding (g.W.Sink.contents c.args.writer.now) (g.A.AuditSink.contents c.args.audit_writer.now) (g.W.Sink.has_failed c.args.writer.now) (g.A.AuditSink.has_failed c.args.audit_writer.now)) in
     let after =
     with_left (g.R.Source.remaining c.read_stream.new.reader) (g.R.Source.has_failed c.read_stream.new.reader)
-    (holding (g.W.Sink.contents c.read_stream.new.writer) (g.A.Sink.contents c.read_stream.new.audit_writer) (g.W.Sink.has_failed c.read_stream.new.writer) (g.A.Sink.has_failed c.read_stream.new.audit_writer)) in
-    where_unfailed (λ b. FiltersAll c.args.job.now c.report.result b after) (g.R.Source.remaining c.args.reader.now) (g.W.Sink.contents c.args.writer.now) (g.A.Sink.contents c.args.audit_writer.now) (g.R.Source.has_failed c.args.reader.now) (g.W.Sink.has_failed c.args.writer.now) (g.A.Sink.has_failed c.args.audit_writer.now) c.requires.reader c.requires.writer c.requires.audit
+    (holding (g.W.Sink.contents c.read_stream.new.writer) (g.A.AuditSink.contents c.read_stream.new.audit_writer) (g.W.Sink.has_failed c.read_stream.new.writer) (g.A.AuditSink.has_failed c.read_stream.new.audit_writer)) in
+    where_unfailed (λ b. FiltersAll c.args.job.now c.report.result b after) (g.R.Source.remaining c.args.reader.now) (g.W.Sink.contents c.args.writer.now) (g.A.AuditSink.contents c.args.audit_writer.now) (g.R.Source.has_failed c.args.reader.now) (g.W.Sink.has_failed c.args.writer.now) (g.A.AuditSink.has_failed c.args.audit_writer.now) c.requires.reader c.requires.writer c.requires.audit
     (finishes c.read_stream.new.self c.args.job.now c.report.result before after
     (subst (λ j. ReachesEnd c.read_stream.new.self j before after) c.in_ok-run.ensures.ok.job_is c.in_ok-read_stream.ensures.ok)
     c.report.ensures.messages c.report.ensures.records c.report.ensures.disclosed)
@@ -33,7 +33,7 @@ returns-in_err-run-clause-stops g c =
       is = is;
       refuses = c.in_err-run.ensures.err;
       taken = Consumes-nil (g.R.Source.remaining c.args.reader.now);
-      writes = record { stream = Appends-nil (g.W.Sink.contents c.args.writer.now); audit = Appends-nil (g.A.Sink.contents c.args.audit_writer.now) };
+      writes = record { stream = Appends-nil (g.W.Sink.contents c.args.writer.now); audit = Appends-nil (g.A.AuditSink.contents c.args.audit_writer.now) };
     }))
 
 pub returns-in_err-read_stream-clause-stops : goal.returns-in_err-read_stream-clause-stops
@@ -42,11 +42,11 @@ returns-in_err-read_stream-clause-stops g c =
     (λ e is.
     let before =
     with_left (g.R.Source.remaining c.args.reader.now) (g.R.Source.has_failed c.args.reader.now)
-    (holding (g.W.Sink.contents c.args.writer.now) (g.A.Sink.contents c.args.audit_writer.now) (g.W.Sink.has_failed c.args.writer.now) (g.A.Sink.has_failed c.args.audit_writer.now)) in
+    (holding (g.W.Sink.contents c.args.writer.now) (g.A.AuditSink.contents c.args.audit_writer.now) (g.W.Sink.has_failed c.args.writer.now) (g.A.AuditSink.has_failed c.args.audit_writer.now)) in
     let after =
     with_left (g.R.Source.remaining c.read_stream.new.reader) (g.R.Source.has_failed c.read_stream.new.reader)
-    (holding (g.W.Sink.contents c.read_stream.new.writer) (g.A.Sink.contents c.read_stream.new.audit_writer) (g.W.Sink.has_failed c.read_stream.new.writer) (g.A.Sink.has_failed c.read_stream.new.audit_writer)) in
-    where_unfailed (λ b. FailsToFilter e c.args.job.now b after) (g.R.Source.remaining c.args.reader.now) (g.W.Sink.contents c.args.writer.now) (g.A.Sink.contents c.args.audit_writer.now) (g.R.Source.has_failed c.args.reader.now) (g.W.Sink.has_failed c.args.writer.now) (g.A.Sink.has_failed c.args.audit_writer.now) c.requires.reader c.requires.writer c.requires.audit
+    (holding (g.W.Sink.contents c.read_stream.new.writer) (g.A.AuditSink.contents c.read_stream.new.audit_writer) (g.W.Sink.has_failed c.read_stream.new.writer) (g.A.AuditSink.has_failed c.read_stream.new.audit_writer)) in
+    where_unfailed (λ b. FailsToFilter e c.args.job.now b after) (g.R.Source.remaining c.args.reader.now) (g.W.Sink.contents c.args.writer.now) (g.A.AuditSink.contents c.args.audit_writer.now) (g.R.Source.has_failed c.args.reader.now) (g.W.Sink.has_failed c.args.writer.now) (g.A.AuditSink.has_failed c.args.audit_writer.now) c.requires.reader c.requires.writer c.requires.audit
     (inr (subst (λ x. StopsSomewhere x c.args.job.now before after) (sym is) (subst (λ j. StopsSomewhere c.in_err-read_stream.field-0.0 j before after) c.in_ok-run.ensures.ok.job_is c.in_err-read_stream.ensures.err))))
 
 pub returns-clause-sound : goal.returns-clause-sound
@@ -59,7 +59,7 @@ returns-in_err-run-clause-fails g c =
 pub returns-in_err-read_stream-clause-fails : goal.returns-in_err-read_stream-clause-fails
 returns-in_err-read_stream-clause-fails g c =
     err_gives c.from_residual-in_err-read_stream.result c.from_residual-in_err-read_stream.ensures
-    (λ e is. only_then e c.in_err-read_stream.field-0.0 false (g.W.Sink.has_failed c.args.writer.now) false (g.A.Sink.has_failed c.args.audit_writer.now) (g.R.Source.has_failed c.read_stream.new.reader) (g.W.Sink.has_failed c.read_stream.new.writer) (g.A.Sink.has_failed c.read_stream.new.audit_writer) is c.requires.writer c.requires.audit c.in_err-read_stream.ensures.fails)
+    (λ e is. only_then e c.in_err-read_stream.field-0.0 false (g.W.Sink.has_failed c.args.writer.now) false (g.A.AuditSink.has_failed c.args.audit_writer.now) (g.R.Source.has_failed c.read_stream.new.reader) (g.W.Sink.has_failed c.read_stream.new.writer) (g.A.AuditSink.has_failed c.read_stream.new.audit_writer) is c.requires.writer c.requires.audit c.in_err-read_stream.ensures.fails)
 
 pub read_stream-requires-clause-asked : goal.read_stream-requires-clause-asked
 read_stream-requires-clause-asked g c = ap (λ (j : OfflineJob). j.audit) c.in_ok-run.ensures.ok.job_is ∙ c.requires.asked

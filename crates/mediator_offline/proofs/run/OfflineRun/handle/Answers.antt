@@ -3,9 +3,9 @@ use Rattle.mediator_offline.specs.declared.job.OfflineJob.{OfflineJob}
 use Rattle.mediator_offline.specs.Ports.{holding}
 use Rattle.mediator_offline.specs.Offline.{due}
 use Rattle.mediator_offline.specs.Steps.{TakesMessage}
-use Rattle.mediator_offline.specs.Recording.{StopsLines}
 use Rattle.mediator_offline.specs.Gathering.{and_gathered}
 use Rattle.mediator_offline.specs.Pulling.{FailsDelivery}
+use Rattle.mediator_offline.specs.Failing.{StopsLines}
 use Rattle.mediator_offline.specs.Filtering.{StopsAtMessage}
 use Rattle.mediator_offline.proofs.Blaming.{lines_only, delivery_only}
 use Rattle.mediator_offline.proofs.Receiving.{err_gives, on_err}
@@ -17,7 +17,7 @@ pub returns-in_err-receive-clause-err : goal.returns-in_err-receive-clause-err
 returns-in_err-receive-clause-err g c =
     err_gives c.from_residual.result c.from_residual.ensures
     (λ e is.
-    let before = holding (and_gathered (g.W.Sink.contents c.args.writer.now) c.args.gathered.now.items) (g.A.Sink.contents c.args.audit_writer.now) (g.W.Sink.has_failed c.args.writer.now) (g.A.Sink.has_failed c.args.audit_writer.now) in
+    let before = holding (and_gathered (g.W.Sink.contents c.args.writer.now) c.args.gathered.now.items) (g.A.AuditSink.contents c.args.audit_writer.now) (g.W.Sink.has_failed c.args.writer.now) (g.A.AuditSink.has_failed c.args.audit_writer.now) in
     record {
       stops = λ job messages first r. subst (λ x. StopsAtMessage x job messages (due job messages) c.args.message first before) (sym is)
           (stops_refused c.in_err-receive.field-0.0 c.args.self.now job messages c.args.message first before r (c.in_err-receive.ensures.err.after _ r.stands r.small));
@@ -27,20 +27,20 @@ pub returns-in_err-record-clause-err : goal.returns-in_err-record-clause-err
 returns-in_err-record-clause-err g c =
     err_gives c.from_residual-in_err-record.result c.from_residual-in_err-record.ensures
     (λ e is.
-    let before = holding (and_gathered (g.W.Sink.contents c.args.writer.now) c.args.gathered.now.items) (g.A.Sink.contents c.args.audit_writer.now) (g.W.Sink.has_failed c.args.writer.now) (g.A.Sink.has_failed c.args.audit_writer.now) in
+    let before = holding (and_gathered (g.W.Sink.contents c.args.writer.now) c.args.gathered.now.items) (g.A.AuditSink.contents c.args.audit_writer.now) (g.W.Sink.has_failed c.args.writer.now) (g.A.AuditSink.has_failed c.args.audit_writer.now) in
     record {
       stops = λ job messages first r.
-          stops_cut_recording e c.args.self.now c.receive.new.self job messages c.args.message first before (g.A.Sink.contents c.record.new.writer) (g.W.Sink.has_failed c.args.writer.now) (g.A.Sink.has_failed c.record.new.writer) r
+          stops_cut_recording e c.args.self.now c.receive.new.self job messages c.args.message first before (g.A.AuditSink.contents c.record.new.writer) (g.W.Sink.has_failed c.args.writer.now) (g.A.AuditSink.has_failed c.record.new.writer) r
           (was_cut_at c.args.self.now c.receive.new.self job messages c.args.message r (subst (λ b. TakesMessage c.args.self.now c.args.message b c.receive.new.self) c.if-branch.true c.in_ok-receive.ensures.ok) c.in_ok-receive.ensures.job)
-          (subst (λ x. StopsLines x (g.A.Sink.has_failed c.record.new.writer)) (sym is) c.in_err-record.ensures.cause) c.record.ensures.kept c.in_err-record.ensures.err;
+          (subst (λ x. StopsLines x (g.A.AuditSink.has_failed c.record.new.writer)) (sym is) c.in_err-record.ensures.cause) c.record.ensures.kept c.in_err-record.ensures.err;
     })
 
 pub returns-then-branch-clause-err : goal.returns-then-branch-clause-err
 returns-then-branch-clause-err g c =
-    let before = holding (and_gathered (g.W.Sink.contents c.args.writer.now) c.args.gathered.now.items) (g.A.Sink.contents c.args.audit_writer.now) (g.W.Sink.has_failed c.args.writer.now) (g.A.Sink.has_failed c.args.audit_writer.now) in
+    let before = holding (and_gathered (g.W.Sink.contents c.args.writer.now) c.args.gathered.now.items) (g.A.AuditSink.contents c.args.audit_writer.now) (g.W.Sink.has_failed c.args.writer.now) (g.A.AuditSink.has_failed c.args.audit_writer.now) in
     record {
       stops = λ job messages first r.
-          stops_cut c.args.self.now c.receive.new.self job messages c.args.message first before (g.A.Sink.contents c.record.new.writer) (g.W.Sink.has_failed c.args.writer.now) (g.A.Sink.has_failed c.record.new.writer) r
+          stops_cut c.args.self.now c.receive.new.self job messages c.args.message first before (g.A.AuditSink.contents c.record.new.writer) (g.W.Sink.has_failed c.args.writer.now) (g.A.AuditSink.has_failed c.record.new.writer) r
           (was_cut_at c.args.self.now c.receive.new.self job messages c.args.message r (subst (λ b. TakesMessage c.args.self.now c.args.message b c.receive.new.self) c.if-branch.true c.in_ok-receive.ensures.ok) c.in_ok-receive.ensures.job)
           c.record.ensures.kept c.in_ok-record.ensures.written;
     }
@@ -52,7 +52,7 @@ returns-in_err-deliver-clause-err g c =
     let after = and_gathered (g.W.Sink.contents c.deliver.new.writer) c.deliver.new.gathered.items in
     record {
       stops = λ job messages first r.
-          stops_delivering e c.args.self.now c.receive.new.self job messages c.args.message c.args.gathered.now.items first (g.W.Sink.contents c.args.writer.now) (g.A.Sink.contents c.args.audit_writer.now) after (g.W.Sink.has_failed c.args.writer.now) (g.W.Sink.has_failed c.deliver.new.writer) (g.A.Sink.has_failed c.args.audit_writer.now) r
+          stops_delivering e c.args.self.now c.receive.new.self job messages c.args.message c.args.gathered.now.items first (g.W.Sink.contents c.args.writer.now) (g.A.AuditSink.contents c.args.audit_writer.now) after (g.W.Sink.has_failed c.args.writer.now) (g.W.Sink.has_failed c.deliver.new.writer) (g.A.AuditSink.has_failed c.args.audit_writer.now) r
           (subst (λ b. TakesMessage c.args.self.now c.args.message b c.receive.new.self) c.if-branch.false c.in_ok-receive.ensures.ok)
           c.in_ok-receive.ensures.job c.in_ok-receive.ensures.sent c.in_err-deliver.ensures.below
           (subst (λ x. FailsDelivery x c.receive.new.self c.args.gathered.now.items (g.W.Sink.contents c.args.writer.now) after (g.W.Sink.has_failed c.deliver.new.writer)) (sym is) c.in_err-deliver.ensures.err);
@@ -62,13 +62,13 @@ pub returns-in_err-record-2-clause-err : goal.returns-in_err-record-2-clause-err
 returns-in_err-record-2-clause-err g c =
     err_gives c.from_residual-in_err-record-2.result c.from_residual-in_err-record-2.ensures
     (λ e is.
-    let before = holding (and_gathered (g.W.Sink.contents c.args.writer.now) c.args.gathered.now.items) (g.A.Sink.contents c.args.audit_writer.now) (g.W.Sink.has_failed c.args.writer.now) (g.A.Sink.has_failed c.args.audit_writer.now) in
-    let after = holding (and_gathered (g.W.Sink.contents c.deliver.new.writer) c.deliver.new.gathered.items) (g.A.Sink.contents c.record-2.new.writer) (g.W.Sink.has_failed c.deliver.new.writer) (g.A.Sink.has_failed c.record-2.new.writer) in
+    let before = holding (and_gathered (g.W.Sink.contents c.args.writer.now) c.args.gathered.now.items) (g.A.AuditSink.contents c.args.audit_writer.now) (g.W.Sink.has_failed c.args.writer.now) (g.A.AuditSink.has_failed c.args.audit_writer.now) in
+    let after = holding (and_gathered (g.W.Sink.contents c.deliver.new.writer) c.deliver.new.gathered.items) (g.A.AuditSink.contents c.record-2.new.writer) (g.W.Sink.has_failed c.deliver.new.writer) (g.A.AuditSink.has_failed c.record-2.new.writer) in
     record {
       stops = λ job messages first r.
           stops_recording e c.args.self.now c.deliver.new.self job messages c.args.message first before after r
           (delivered c.args.self.now c.receive.new.self c.deliver.new.self job messages c.args.message (and_gathered (g.W.Sink.contents c.deliver.new.writer) c.deliver.new.gathered.items) r (record { receives = (subst (λ b. TakesMessage c.args.self.now c.args.message b c.receive.new.self) c.if-branch.false c.in_ok-receive.ensures.ok); job = c.in_ok-receive.ensures.job; sent = c.in_ok-receive.ensures.sent; below = c.in_ok-deliver.ensures.below; now_below = c.in_ok-deliver.ensures.now_below; delivers = c.in_ok-deliver.ensures.ok }))
-          (subst (λ x. StopsLines x (g.A.Sink.has_failed c.record-2.new.writer)) (sym is) c.in_err-record-2.ensures.cause) c.record-2.ensures.kept c.in_err-record-2.ensures.err;
+          (subst (λ x. StopsLines x (g.A.AuditSink.has_failed c.record-2.new.writer)) (sym is) c.in_err-record-2.ensures.cause) c.record-2.ensures.kept c.in_err-record-2.ensures.err;
     })
 
 pub returns-clause-ok : goal.returns-clause-ok
@@ -86,7 +86,7 @@ returns-in_err-receive-clause-fails g c =
 pub returns-in_err-record-clause-fails : goal.returns-in_err-record-clause-fails
 returns-in_err-record-clause-fails g c =
     err_gives c.from_residual-in_err-record.result c.from_residual-in_err-record.ensures
-    (λ e is. lines_only e c.in_err-record.field-0.0 (g.W.Sink.has_failed c.args.writer.now) (g.W.Sink.has_failed c.args.writer.now) (g.A.Sink.has_failed c.args.audit_writer.now) (g.A.Sink.has_failed c.record.new.writer) is c.in_err-record.ensures.cause c.in_err-record.ensures.fails refl)
+    (λ e is. lines_only e c.in_err-record.field-0.0 (g.W.Sink.has_failed c.args.writer.now) (g.W.Sink.has_failed c.args.writer.now) (g.A.AuditSink.has_failed c.args.audit_writer.now) (g.A.AuditSink.has_failed c.record.new.writer) is c.in_err-record.ensures.cause c.in_err-record.ensures.fails refl)
 
 pub returns-then-branch-clause-fails : goal.returns-then-branch-clause-fails
 returns-then-branch-clause-fails g c = record { reader = refl; writer = refl; audit = c.in_ok-record.ensures.stays }
@@ -94,12 +94,12 @@ returns-then-branch-clause-fails g c = record { reader = refl; writer = refl; au
 pub returns-in_err-deliver-clause-fails : goal.returns-in_err-deliver-clause-fails
 returns-in_err-deliver-clause-fails g c =
     err_gives c.from_residual-in_err-deliver.result c.from_residual-in_err-deliver.ensures
-    (λ e is. delivery_only e c.in_err-deliver.field-0.0 c.receive.new.self c.args.gathered.now.items (g.W.Sink.contents c.args.writer.now) (and_gathered (g.W.Sink.contents c.deliver.new.writer) c.deliver.new.gathered.items) (g.W.Sink.has_failed c.args.writer.now) (g.W.Sink.has_failed c.deliver.new.writer) (g.A.Sink.has_failed c.args.audit_writer.now) is c.in_err-deliver.ensures.err c.in_err-deliver.ensures.fails)
+    (λ e is. delivery_only e c.in_err-deliver.field-0.0 c.receive.new.self c.args.gathered.now.items (g.W.Sink.contents c.args.writer.now) (and_gathered (g.W.Sink.contents c.deliver.new.writer) c.deliver.new.gathered.items) (g.W.Sink.has_failed c.args.writer.now) (g.W.Sink.has_failed c.deliver.new.writer) (g.A.AuditSink.has_failed c.args.audit_writer.now) is c.in_err-deliver.ensures.err c.in_err-deliver.ensures.fails)
 
 pub returns-in_err-record-2-clause-fails : goal.returns-in_err-record-2-clause-fails
 returns-in_err-record-2-clause-fails g c =
     err_gives c.from_residual-in_err-record-2.result c.from_residual-in_err-record-2.ensures
-    (λ e is. lines_only e c.in_err-record-2.field-0.0 (g.W.Sink.has_failed c.args.writer.now) (g.W.Sink.has_failed c.deliver.new.writer) (g.A.Sink.has_failed c.args.audit_writer.now) (g.A.Sink.has_failed c.record-2.new.writer) is c.in_err-record-2.ensures.cause c.in_err-record-2.ensures.fails c.in_ok-deliver.ensures.stays)
+    (λ e is. lines_only e c.in_err-record-2.field-0.0 (g.W.Sink.has_failed c.args.writer.now) (g.W.Sink.has_failed c.deliver.new.writer) (g.A.AuditSink.has_failed c.args.audit_writer.now) (g.A.AuditSink.has_failed c.record-2.new.writer) is c.in_err-record-2.ensures.cause c.in_err-record-2.ensures.fails c.in_ok-deliver.ensures.stays)
 
 pub record-requires-2-clause-known : goal.record-requires-2-clause-known
 record-requires-2-clause-known g c = delivered_history c.args.self.now c.receive.new.self c.deliver.new.self c.args.message (and_gathered (g.W.Sink.contents c.args.writer.now) c.args.gathered.now.items) (and_gathered (g.W.Sink.contents c.deliver.new.writer) c.deliver.new.gathered.items) c.requires.running (subst (λ b. TakesMessage c.args.self.now c.args.message b c.receive.new.self) c.if-branch.false c.in_ok-receive.ensures.ok) c.in_ok-deliver.ensures.ok
@@ -154,7 +154,7 @@ returns-then-branch-clause-left g c = λ some.
     record {
       sent = c.in_ok-record.ensures.sent ∙ c.in_ok-receive.ensures.sent;
       same = refl;
-      outputs = ap (λ a. holding (and_gathered (g.W.Sink.contents c.args.writer.now) c.args.gathered.now.items) (g.A.Sink.contents a) (g.W.Sink.has_failed c.args.writer.now) (g.A.Sink.has_failed a)) (c.in_ok-record.ensures.unasked unasked);
+      outputs = ap (λ a. holding (and_gathered (g.W.Sink.contents c.args.writer.now) c.args.gathered.now.items) (g.A.AuditSink.contents a) (g.W.Sink.has_failed c.args.writer.now) (g.A.AuditSink.has_failed a)) (c.in_ok-record.ensures.unasked unasked);
     }
 
 pub returns-in_err-deliver-clause-left : goal.returns-in_err-deliver-clause-left
@@ -166,8 +166,8 @@ returns-in_err-deliver-clause-left g c =
       sent = k.2 ∙ c.in_ok-receive.ensures.sent;
       same = k.0;
       outputs =
-          ap (λ w. holding (and_gathered (g.W.Sink.contents w) c.deliver.new.gathered.items) (g.A.Sink.contents c.args.audit_writer.now) (g.W.Sink.has_failed w) (g.A.Sink.has_failed c.args.audit_writer.now)) k.1
-          ∙ ap (λ t. holding (and_gathered (g.W.Sink.contents c.args.writer.now) t) (g.A.Sink.contents c.args.audit_writer.now) (g.W.Sink.has_failed c.args.writer.now) (g.A.Sink.has_failed c.args.audit_writer.now)) k.0;
+          ap (λ w. holding (and_gathered (g.W.Sink.contents w) c.deliver.new.gathered.items) (g.A.AuditSink.contents c.args.audit_writer.now) (g.W.Sink.has_failed w) (g.A.AuditSink.has_failed c.args.audit_writer.now)) k.1
+          ∙ ap (λ t. holding (and_gathered (g.W.Sink.contents c.args.writer.now) t) (g.A.AuditSink.contents c.args.audit_writer.now) (g.W.Sink.has_failed c.args.writer.now) (g.A.AuditSink.has_failed c.args.audit_writer.now)) k.0;
     })
 
 pub returns-in_err-record-2-clause-left : goal.returns-in_err-record-2-clause-left

@@ -27,8 +27,8 @@ returns-in_err-handle-clause-err g c =
     err_gives c.from_residual.result c.from_residual.ensures
     (λ e is. one_stops e c.args.self.now c.messages.self c.args.messages.items (into_iter_items c.messages.message-iterator) (into_iter_items c.next.new.self) c.in-Some.message _ _ _ c.in-Some.ensures.steps.0 c.messages.invariant.0
     (subst (λ x. StopsOn x c.messages.self c.in-Some.message
-    (holding (and_gathered (g.W.Sink.contents c.messages.writer) c.messages.gathered.items) (g.A.Sink.contents c.messages.audit_writer) (g.W.Sink.has_failed c.messages.writer) (g.A.Sink.has_failed c.messages.audit_writer))
-    (holding (and_gathered (g.W.Sink.contents c.handle.new.writer) c.handle.new.gathered.items) (g.A.Sink.contents c.handle.new.audit_writer) (g.W.Sink.has_failed c.handle.new.writer) (g.A.Sink.has_failed c.handle.new.audit_writer)))
+    (holding (and_gathered (g.W.Sink.contents c.messages.writer) c.messages.gathered.items) (g.A.AuditSink.contents c.messages.audit_writer) (g.W.Sink.has_failed c.messages.writer) (g.A.AuditSink.has_failed c.messages.audit_writer))
+    (holding (and_gathered (g.W.Sink.contents c.handle.new.writer) c.handle.new.gathered.items) (g.A.AuditSink.contents c.handle.new.audit_writer) (g.W.Sink.has_failed c.handle.new.writer) (g.A.AuditSink.has_failed c.handle.new.audit_writer)))
     (sym is) c.in_err-handle.ensures.err))
 
 pub messages-preserved : goal.messages-preserved
@@ -43,7 +43,7 @@ messages-preserved g c = (
 pub returns-in_err-handle-clause-fails : goal.returns-in_err-handle-clause-fails
 returns-in_err-handle-clause-fails g c =
     err_gives c.from_residual.result c.from_residual.ensures
-    (λ e is. only_then e c.in_err-handle.field-0.0 (g.W.Sink.has_failed c.args.writer.now) (g.W.Sink.has_failed c.messages.writer) (g.A.Sink.has_failed c.args.audit_writer.now) (g.A.Sink.has_failed c.messages.audit_writer) false (g.W.Sink.has_failed c.handle.new.writer) (g.A.Sink.has_failed c.handle.new.audit_writer) is c.messages.invariant.1 c.messages.invariant.2 c.in_err-handle.ensures.fails)
+    (λ e is. only_then e c.in_err-handle.field-0.0 (g.W.Sink.has_failed c.args.writer.now) (g.W.Sink.has_failed c.messages.writer) (g.A.AuditSink.has_failed c.args.audit_writer.now) (g.A.AuditSink.has_failed c.messages.audit_writer) false (g.W.Sink.has_failed c.handle.new.writer) (g.A.AuditSink.has_failed c.handle.new.audit_writer) is c.messages.invariant.1 c.messages.invariant.2 c.in_err-handle.ensures.fails)
 
 pub messages-init : goal.messages-init
 messages-init g c = (none_handled c.args.self.now c.args.messages.items (into_iter_items c.into_iter-message-iterator.result) _ c.into_iter-message-iterator.ensures.into_iter_gives.0, refl, refl, nothing_gathered c.args.self.now c.args.gathered.now.items c.requires.none, λ some. nothing_left c.args.gathered.now.items c.requires.none some)

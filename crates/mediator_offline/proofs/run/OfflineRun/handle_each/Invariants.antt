@@ -9,11 +9,11 @@ use Rattle.mediator_offline.proofs.run.OfflineRun.handle_each.Given as goal
 abbrev pub invariant-messages : goal.invariant-messages
 invariant-messages g l =
     IsHandling l.fn.self l.self l.fn.messages.items (into_iter_items l.message-iterator)
-    (holding (and_gathered (g.W.Sink.contents l.fn.writer) l.fn.gathered.items) (g.A.Sink.contents l.fn.audit_writer) (g.W.Sink.has_failed l.fn.writer) (g.A.Sink.has_failed l.fn.audit_writer))
-    (holding (and_gathered (g.W.Sink.contents l.writer) l.gathered.items) (g.A.Sink.contents l.audit_writer) (g.W.Sink.has_failed l.writer) (g.A.Sink.has_failed l.audit_writer))
-    × (g.W.Sink.has_failed l.writer ≡ g.W.Sink.has_failed l.fn.writer) × (g.A.Sink.has_failed l.audit_writer ≡ g.A.Sink.has_failed l.fn.audit_writer)
+    (holding (and_gathered (g.W.Sink.contents l.fn.writer) l.fn.gathered.items) (g.A.AuditSink.contents l.fn.audit_writer) (g.W.Sink.has_failed l.fn.writer) (g.A.AuditSink.has_failed l.fn.audit_writer))
+    (holding (and_gathered (g.W.Sink.contents l.writer) l.gathered.items) (g.A.AuditSink.contents l.audit_writer) (g.W.Sink.has_failed l.writer) (g.A.AuditSink.has_failed l.audit_writer))
+    × (g.W.Sink.has_failed l.writer ≡ g.W.Sink.has_failed l.fn.writer) × (g.A.AuditSink.has_failed l.audit_writer ≡ g.A.AuditSink.has_failed l.fn.audit_writer)
     × IsGatheredFor l.self l.gathered.items
     × (0 < length l.gathered.items
     → HandlesLast l.fn.self l.self.sent l.fn.messages.items
-    (holding (and_gathered (g.W.Sink.contents l.fn.writer) l.fn.gathered.items) (g.A.Sink.contents l.fn.audit_writer) (g.W.Sink.has_failed l.fn.writer) (g.A.Sink.has_failed l.fn.audit_writer))
-    (holding (and_gathered (g.W.Sink.contents l.writer) l.gathered.items) (g.A.Sink.contents l.audit_writer) (g.W.Sink.has_failed l.writer) (g.A.Sink.has_failed l.audit_writer)))
+    (holding (and_gathered (g.W.Sink.contents l.fn.writer) l.fn.gathered.items) (g.A.AuditSink.contents l.fn.audit_writer) (g.W.Sink.has_failed l.fn.writer) (g.A.AuditSink.has_failed l.fn.audit_writer))
+    (holding (and_gathered (g.W.Sink.contents l.writer) l.gathered.items) (g.A.AuditSink.contents l.audit_writer) (g.W.Sink.has_failed l.writer) (g.A.AuditSink.has_failed l.audit_writer)))

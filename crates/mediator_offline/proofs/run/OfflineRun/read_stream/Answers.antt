@@ -20,10 +20,10 @@ returns-in_err-messages-clause-err g c =
     (λ e is.
     let before =
     with_left (g.R.Source.remaining c.args.reader.now) (g.R.Source.has_failed c.args.reader.now)
-    (holding (g.W.Sink.contents c.args.writer.now) (g.A.Sink.contents c.args.audit_writer.now) (g.W.Sink.has_failed c.args.writer.now) (g.A.Sink.has_failed c.args.audit_writer.now)) in
+    (holding (g.W.Sink.contents c.args.writer.now) (g.A.AuditSink.contents c.args.audit_writer.now) (g.W.Sink.has_failed c.args.writer.now) (g.A.AuditSink.has_failed c.args.audit_writer.now)) in
     let mid =
     with_left (g.R.Source.remaining c.reads.reader) (g.R.Source.has_failed c.reads.reader)
-    (holding (g.W.Sink.contents c.reads.writer) (g.A.Sink.contents c.reads.audit_writer) (g.W.Sink.has_failed c.reads.writer) (g.A.Sink.has_failed c.reads.audit_writer)) in
+    (holding (g.W.Sink.contents c.reads.writer) (g.A.AuditSink.contents c.reads.audit_writer) (g.W.Sink.has_failed c.reads.writer) (g.A.AuditSink.has_failed c.reads.audit_writer)) in
     subst (λ x. StopsSomewhere x c.args.self.now.job before (with_left (g.R.Source.remaining c.next.new.reader) (g.R.Source.has_failed c.next.new.reader) mid.outputs)) (sym is)
     (intake_stops c.in_err-messages.field-0.0 c.reads.self c.reads.intake c.next.new.self c.args.self.now.job before mid (g.R.Source.remaining c.next.new.reader) (g.R.Source.has_failed c.next.new.reader) c.reads.invariant.0 c.in_err-messages.ensures.err
     (c.in_err-messages.ensures.fails ∙ ap (intake_reader c.in_err-messages.field-0.0) c.reads.invariant.1)))
@@ -31,7 +31,7 @@ returns-in_err-messages-clause-err g c =
 pub returns-in_err-messages-clause-fails : goal.returns-in_err-messages-clause-fails
 returns-in_err-messages-clause-fails g c =
     err_gives c.from_residual.result c.from_residual.ensures
-    (λ e is. intake_only c.in_err-messages.field-0.0 e (g.W.Sink.has_failed c.args.writer.now) (g.W.Sink.has_failed c.reads.writer) (g.A.Sink.has_failed c.args.audit_writer.now) (g.A.Sink.has_failed c.reads.audit_writer) (g.R.Source.has_failed c.next.new.reader) is (c.in_err-messages.ensures.fails ∙ ap (intake_reader c.in_err-messages.field-0.0) c.reads.invariant.1) c.reads.invariant.2 c.reads.invariant.3)
+    (λ e is. intake_only c.in_err-messages.field-0.0 e (g.W.Sink.has_failed c.args.writer.now) (g.W.Sink.has_failed c.reads.writer) (g.A.AuditSink.has_failed c.args.audit_writer.now) (g.A.AuditSink.has_failed c.reads.audit_writer) (g.R.Source.has_failed c.next.new.reader) is (c.in_err-messages.ensures.fails ∙ ap (intake_reader c.in_err-messages.field-0.0) c.reads.invariant.1) c.reads.invariant.2 c.reads.invariant.3)
 
 pub returns-in_default-clause-ok : goal.returns-in_default-clause-ok
 returns-in_default-clause-ok g c =
@@ -62,15 +62,15 @@ returns-in_err-handle_all-clause-err g c =
     (λ e is. message_stops e c.reads.self c.reads.intake c.next.new.self c.args.self.now.job _ _ _ c.in-Some.messages.items c.reads.invariant.0
     (subst (λ o. MatchOption o (Ends c.reads.intake (g.R.Source.remaining c.reads.reader) (g.R.Source.remaining c.next.new.reader) c.next.new.self) (λ out. Yields c.reads.intake (g.R.Source.remaining c.reads.reader) (g.R.Source.remaining c.next.new.reader) out.items c.next.new.self)) c.in-Some.is c.in_ok-messages.ensures.ok)
     (subst (λ x. StopsAmong x c.reads.self c.in-Some.messages.items
-    (holding (g.W.Sink.contents c.reads.writer) (g.A.Sink.contents c.reads.audit_writer) (g.W.Sink.has_failed c.reads.writer) (g.A.Sink.has_failed c.reads.audit_writer))
-    (holding (g.W.Sink.contents c.handle_all.new.writer) (g.A.Sink.contents c.handle_all.new.audit_writer) (g.W.Sink.has_failed c.handle_all.new.writer) (g.A.Sink.has_failed c.handle_all.new.audit_writer)))
+    (holding (g.W.Sink.contents c.reads.writer) (g.A.AuditSink.contents c.reads.audit_writer) (g.W.Sink.has_failed c.reads.writer) (g.A.AuditSink.has_failed c.reads.audit_writer))
+    (holding (g.W.Sink.contents c.handle_all.new.writer) (g.A.AuditSink.contents c.handle_all.new.audit_writer) (g.W.Sink.has_failed c.handle_all.new.writer) (g.A.AuditSink.has_failed c.handle_all.new.audit_writer)))
     (sym is) c.in_err-handle_all.ensures.err))
 
 pub returns-in_err-handle_all-clause-fails : goal.returns-in_err-handle_all-clause-fails
 returns-in_err-handle_all-clause-fails g c =
     err_gives c.from_residual-in_err-handle_all.result c.from_residual-in_err-handle_all.ensures
-    (λ e is. subst (λ r. FailsOnly e (g.W.Sink.has_failed c.args.writer.now) (g.A.Sink.has_failed c.args.audit_writer.now) r (g.W.Sink.has_failed c.handle_all.new.writer) (g.A.Sink.has_failed c.handle_all.new.audit_writer)) (sym (c.in_ok-messages.ensures.sound ∙ c.reads.invariant.1))
-    (only_then e c.in_err-handle_all.field-0.0 (g.W.Sink.has_failed c.args.writer.now) (g.W.Sink.has_failed c.reads.writer) (g.A.Sink.has_failed c.args.audit_writer.now) (g.A.Sink.has_failed c.reads.audit_writer) false (g.W.Sink.has_failed c.handle_all.new.writer) (g.A.Sink.has_failed c.handle_all.new.audit_writer) is c.reads.invariant.2 c.reads.invariant.3 c.in_err-handle_all.ensures.fails))
+    (λ e is. subst (λ r. FailsOnly e (g.W.Sink.has_failed c.args.writer.now) (g.A.AuditSink.has_failed c.args.audit_writer.now) r (g.W.Sink.has_failed c.handle_all.new.writer) (g.A.AuditSink.has_failed c.handle_all.new.audit_writer)) (sym (c.in_ok-messages.ensures.sound ∙ c.reads.invariant.1))
+    (only_then e c.in_err-handle_all.field-0.0 (g.W.Sink.has_failed c.args.writer.now) (g.W.Sink.has_failed c.reads.writer) (g.A.AuditSink.has_failed c.args.audit_writer.now) (g.A.AuditSink.has_failed c.reads.audit_writer) false (g.W.Sink.has_failed c.handle_all.new.writer) (g.A.AuditSink.has_failed c.handle_all.new.audit_writer) is c.reads.invariant.2 c.reads.invariant.3 c.in_err-handle_all.ensures.fails))
 
 pub reads-smaller : goal.reads-smaller
 reads-smaller g c = let t = (subst (λ o. MatchOption o (Ends c.reads.intake (g.R.Source.remaining c.reads.reader) (g.R.Source.remaining c.next.new.reader) c.next.new.self) (λ out. Yields c.reads.intake (g.R.Source.remaining c.reads.reader) (g.R.Source.remaining c.next.new.reader) out.items c.next.new.self)) c.in-Some.is c.in_ok-messages.ensures.ok) in omega (arith, t.turn.0)
