@@ -30,6 +30,8 @@
 ghost use Rattle.std.specs.Prelude.{◌≡◌, ◌≢◌, map, IfErr, IfOk};
 ghost use Rattle.octet_io.specs.Device.{device_failed, device_inner};
 ghost use Rattle.octet_io.specs.Moments.{writer_of};
+ghost use Rattle.std.specs.Io.KnownBytes.{Keeps};
+ghost use Rattle.write_behind.specs.Holding.{held_in};
 ghost use Rattle.ipmd_commands.specs.Status.{status_of};
 ghost use Rattle.ipmd_commands.specs.declared.fault.Fault.{Fault as ProgramFault};
 ghost use Rattle.ipmd.specs.Program.{Does, FailsFor, IsDone, IsFault};
@@ -44,37 +46,80 @@ mod system;
 
 use crate::replay::replay;
 use crate::serve::serve;
-use crate::system::Host;
+use crate::system::System;
 use ipmd_command_line::{Task, read_command_line};
 use ipmd_commands::{Fault as ProgramFault, Place, check_policy, filter, show, tell};
 use ipmd_explain::explain;
 use ipmd_verify::{OnTerminal, Progress, verify};
 use mediator_offline::OfflineReport;
 use octet_io::Device;
+use std::alloc::Global;
 use std::convert::AsStr;
 use std::env;
 use std::io::{self, ErrorKind, IsTerminal, Read, Write};
+use std::net::{Net, TcpListener, TcpStream};
 use std::os::fd::{AsRawFd, RawFd};
 use std::process::ExitCode;
 use std::rt::Env;
+use std::sync::Wait;
+use std::thread::Threads;
+use write_behind::WriteBehind;
 
 /// The exit status of a run that did what was asked.
 const DONE: u8 = 0;
 
 fn main(rt: HostRuntime) -> ExitCode {
+    let mut errors = Device::new(rt.stderr());
     let status = match words_after_name(&rt) {
-        Ok(words) => program(
-            &rt,
-            words.as_slice(),
-            rt.stdin(),
-            &mut Device::new(rt.stdout()),
-            &mut Device::new(rt.stderr()),
-            rt.stderr().as_raw_fd(),
-            &mut OnTerminal::new(Device::new(rt.stderr()), rt.stderr().is_terminal()),
-        ),
-        Err(fault) => fault.report(rt.alloc(), &mut Device::new(rt.stderr())),
+        Ok(words) => {
+            let mut output = Device::new(output_for(rt, words.as_slice(), rt.stdout()));
+            let status = program(
+                &rt,
+                words.as_slice(),
+                rt.stdin(),
+                &mut output,
+                &mut errors,
+                rt.stderr().as_raw_fd(),
+                &mut OnTerminal::new(Device::new(rt.stderr()), rt.stderr().is_terminal()),
+            );
+            finish(rt.alloc(), status, output.into_inner(), &mut errors)
+        }
+        Err(fault) => fault.report(rt.alloc(), &mut errors),
     };
     ExitCode::from(status)
+}
+
+/// What is written to `output` for these words: those of `ipmd offline`, which may be long, in a thread of its own.
+fn output_for<
+    R: AllocGlobal + Threads + Wait + Copy + Send + Drop + 'static,
+    W: Write + Send + Drop + 'static,
+>(rt: R, words: &[String], output: W) -> WriteBehind<W, R>
+    ensures { Keeps (W.contents output) (held_in W.contents result) }
+{
+    match words.first() {
+        Some(word) if word.as_str() == "offline" => WriteBehind::start(rt, rt.alloc(), output),
+        _ => WriteBehind::new(rt, output),
+    }
+}
+
+/// Sees that all has left that was written to `output`, where `status` says that what was asked is done, and answers the status
+/// that the process ends with.
+#[tactic(auto, using(crate::proofs::Statuses::no_fault_is_done))]
+fn finish<W: Write + Drop, R: Threads + Drop, E: Write>(
+    alloc: Global,
+    status: u8,
+    output: WriteBehind<W, R>,
+    errors: &mut Device<E>,
+) -> u8
+    ensures { result ≡ 0 → status ≡ 0 }
+{
+    if status != DONE {
+        return status;
+    }
+    match output.into_inner() {
+        Ok(_) => DONE,
+        Err(why) => ProgramFault::failed(Place::Output, why).report(alloc, errors),
+    }
 }
 
 /// The words of the command line after the program's name.
@@ -98,7 +143,7 @@ fn words_after_name<R: Env + AllocGlobal>(rt: &R) -> Result<Vec<String>, Program
 /// take is dropped. `descriptor` is that of `errors`, by which a server finds out whether a note would wait. `progress` is told
 /// how far a journal's file was read. All else that is asked of the system goes through `rt`.
 #[tactic(auto, using(crate::proofs::Statuses::no_fault_is_done))]
-pub fn program<R: Host, S: AsStr, I: Read + Drop, O: Write, E: Write + Send, P: Progress>(
+pub fn program<R: System, S: AsStr, I: Read + Drop, O: Write, E: Write + Send, P: Progress>(
     rt: &R,
     words: &[S],
     input: I,
@@ -108,6 +153,7 @@ pub fn program<R: Host, S: AsStr, I: Read + Drop, O: Write, E: Write + Send, P: 
     progress: &mut P,
 ) -> u8
 where
+    R: Net<Listener = TcpListener, Stream = TcpStream>,
     R::File: Send + 'static,
     ensures done { result ≡ 0 → IsDone (map S.text words.now) (I.remaining input)
         (writer_of (O.contents (device_inner output.old)) (O.contents (device_inner output.new)))
@@ -134,7 +180,7 @@ where
 /// # Errors
 /// Those of the command.
 #[tactic(auto, using(ipmd_commands::proofs::Lines::kept))]
-fn run<R: Host, S: AsStr, I: Read + Drop, O: Write, E: Write + Send, P: Progress>(
+fn run<R: System, S: AsStr, I: Read + Drop, O: Write, E: Write + Send, P: Progress>(
     rt: &R,
     words: &[S],
     input: I,
@@ -144,6 +190,7 @@ fn run<R: Host, S: AsStr, I: Read + Drop, O: Write, E: Write + Send, P: Progress
     progress: &mut P,
 ) -> Result<Option<OfflineReport>, ProgramFault>
 where
+    R: Net<Listener = TcpListener, Stream = TcpStream>,
     R::File: Send + 'static,
     ensures ok { IfOk result (λ report. Does (map S.text words.now) report (I.remaining input)
         (O.contents (device_inner output.old)) (O.contents (device_inner output.new))
@@ -153,30 +200,13 @@ where
         errors.old errors.new) }
 {
     match read_command_line(rt.alloc(), words)? {
-        Task::Offline(options) => Ok(Some(filter(rt, &options, input, output)?)),
-        Task::CheckPolicy(source) => {
-            check_policy(rt, source, output)?;
-            Ok(None)
-        }
-        Task::Replay(options) => {
-            replay(rt, &options, output)?;
-            Ok(None)
-        }
-        Task::Serve(path) => {
-            serve(rt, path, output, errors, descriptor)?;
-            Ok(None)
-        }
-        Task::Verify(options) => {
-            verify(rt, &options, output, progress)?;
-            Ok(None)
-        }
-        Task::Explain(options) => {
-            explain(rt, &options, output, progress)?;
-            Ok(None)
-        }
-        Task::Show(shown) => {
-            show(rt.alloc(), &shown, output)?;
-            Ok(None)
-        }
+        Task::Offline(options) => return Ok(Some(filter(rt, &options, input, output)?)),
+        Task::CheckPolicy(source) => check_policy(rt, source, output)?,
+        Task::Replay(options) => replay(rt, &options, output)?,
+        Task::Serve(path) => serve(rt, path, output, errors, descriptor)?,
+        Task::Verify(options) => verify(rt, &options, output, progress)?,
+        Task::Explain(options) => explain(rt, &options, output, progress)?,
+        Task::Show(shown) => show(rt.alloc(), &shown, output)?,
     }
+    Ok(None)
 }

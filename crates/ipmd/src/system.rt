@@ -1,7 +1,6 @@
 //! The handles by which the program asks the system for anything, under one name.
 
 use std::env::Env;
-use std::net::{Net, TcpListener, TcpStream};
 use std::random::RandomSource;
 use std::rt::Files;
 use std::sync::Wait;
@@ -37,8 +36,3 @@ impl<
         + Drop
         + 'static,
 > System for R {}
-
-/// What the program asks of the system, connections over TCP too.
-pub trait Host: System + Net<Listener = TcpListener, Stream = TcpStream> {}
-
-impl<R: System + Net<Listener = TcpListener, Stream = TcpStream>> Host for R {}
