@@ -23,7 +23,7 @@ use Rattle.mediator_tables.specs.declared.served.Served.{Served}
 use Rattle.mediator_tables.specs.declared.share.Share.{Share}
 use Rattle.mediator_tables.specs.SubscriptionTable.{shown}
 use Rattle.mediator_shares.specs.InForce.{InForce}
-use Rattle.mediator_shares.specs.Sharing.{outcome_by, given_by, share_of, shares_of}
+use Rattle.mediator_shares.specs.Sharing.{given_by, share_of, shares_of}
 use Rattle.mediator_shares.specs.Deciding.{decision_for}
 use Rattle.mediator_shares.specs.Alike.{is_who, is_told_apart, AreJudgedAlike, IsLed, AreLed, LeadsUnnamed, IsGrouping}
 use Rattle.mediator_shares.proofs.SharingLaws.{as_share, more_served}
@@ -195,6 +195,12 @@ one_leads rules leaders served places who n led many =
       there = ap (λ i. slice_get (leaders ++ who ∷ []) i) many ∙ got_last leaders who;
       alike = record { each = same_each rules who.name.now };
     })
+
+-- one that is served alone leads itself
+pub alone_leads : (rules : List Rule) (served : List Served) → length served ≡ 1 → AreLed rules served served (0 ∷ [])
+alone_leads rules [] one = absurd (omega (arith, one))
+alone_leads rules (who ∷ []) one = one_leads rules [] [] [] who 0 tt refl
+alone_leads rules (who ∷ another ∷ more) one = absurd (omega (arith, one))
 
 pub grouping_named : (rules : List Rule) (leaders served : List Served) (unnamed : Option ℕ) (places : List ℕ) (who : Served) (n : ℕ) → IsGrouping rules leaders unnamed served places → n ≡ length leaders
     → IsGrouping rules (leaders ++ who ∷ []) unnamed (served ++ who ∷ []) (places ++ n ∷ [])

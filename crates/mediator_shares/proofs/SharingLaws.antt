@@ -1,5 +1,5 @@
 -- Shares that grow, one subscription after another and one record after another.
-use Rattle.std.proofs.Common.{◌≡◌, ℕ, zero, suc, ◌+◌, ◌-◌, ◌<◌, false, Result, Ok, Err, List, [], ◌∷◌, ◌++◌, length, map, take, drop, sym, ap, ◌∙◌, subst, arith, refl, length-append, append_assoc, append-nil, ◌≤◌, Some}
+use Rattle.std.proofs.Common.{◌≡◌, ℕ, zero, suc, ◌+◌, ◌-◌, ◌<◌, false, Result, Ok, Err, List, [], ◌∷◌, ◌++◌, length, map, take, drop, sym, ap, ◌∙◌, subst, arith, refl, length-append, append_assoc, append-nil, ◌≤◌}
 use Rattle.std.specs.Prelude.{◌==◌, get_or, set, OnOk}
 use Rattle.std.specs.List.{flat_map, enumerate_from}
 use Rattle.std.proofs.lemmas.List.{map-set, map-append, length-map, take_more, take_all, length-take-le}

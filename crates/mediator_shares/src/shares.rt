@@ -1,5 +1,5 @@
 //! What each subscription is given of one message, what counts in its aggregates, and what the audit notes of it.
-ghost use Rattle.std.specs.Prelude.{◌≡◌, ◌++◌, ◌∷◌, ◌≤◌, ◌<◌, ◌+◌, ◌^◌, ℕ, List, [], Some, None, length, map, IfOk, OnOk};
+ghost use Rattle.std.specs.Prelude.{◌≡◌, ◌++◌, ◌∷◌, ◌≤◌, ◌<◌, ◌+◌, ◌^◌, ℕ, List, [], Some, None, false, length, map, IfOk, OnOk};
 ghost use Rattle.std.specs.List.{flat_map, enumerate_from, AllByRecursion};
 ghost use Rattle.ipfix_template.specs.DataRecord.{DataRecord};
 ghost use Rattle.ipfix_records.specs.Runs.{run_records, records_of_runs};
@@ -70,8 +70,46 @@ impl Shares {
         // The policy and the clock stay.
         ensures unchanged { in_force.new ≡ in_force.old }
     {
+        if served.len() == 1 {
+            return Shares::of_led(
+                alloc, in_force, domain, records, served, most, served, ALONE, false,
+            );
+        }
         let groups = groups_of(alloc, in_force, served)?;
         let (leaders, places) = (groups.leaders.as_slice(), groups.places.as_slice());
+        let has_led = groups.has_led;
+        Shares::of_led(
+            alloc, in_force, domain, records, served, most, leaders, places, has_led,
+        )
+    }
+
+    /// Judges records as [`of_records`](Shares::of_records) does: once for each of `leaders`. Those that lead the
+    /// subscriptions `served` stand at `places` among them. Where `has_led` is false, each leads itself.
+    ///
+    /// # Errors
+    /// Want of memory.
+    fn of_led<'a>(
+        alloc: Global,
+        in_force: &mut InForce,
+        domain: u32,
+        records: &Records,
+        served: &[Served<'a>],
+        most: u64,
+        leaders: &[Served<'a>],
+        places: &[usize],
+        has_led: bool,
+    ) -> Result<Shares, AllocError>
+        requires few { length records.now ≤ 2 ^ 32 }
+        requires led { AreLed in_force.old.policy.rules leaders.now served.now places.now }
+        requires alone { has_led ≡ false → leaders.now ≡ served.now }
+        ensures shares { IfOk result (λ s.
+            map shown s.shares.items ≡ shares_of domain in_force.old records.now served.now) }
+        ensures tallies { IfOk result (λ s.
+            map tallied s.tallies.items ≡ tallies_of domain in_force.old records.now served.now) }
+        ensures notes { IfOk result (λ s.
+            s.notes ≡ kept_notes most (notes_of domain in_force.old records.now served.now)) }
+        ensures unchanged { in_force.new ≡ in_force.old }
+    {
         let runs = records.runs();
         let mut judges = in_force.judges(alloc, domain, runs, leaders)?;
         let mut sums = Sums::of_none(alloc, served, most, judges.lend_room(alloc))?;
@@ -93,7 +131,7 @@ impl Shares {
         } = sums;
         judges.keep_room(room);
         in_force.keep(judges);
-        let shares = if groups.has_led {
+        let shares = if has_led {
             spread(alloc, &given, places, served)?
         } else {
             given
@@ -105,6 +143,9 @@ impl Shares {
         })
     }
 }
+
+/// Where the leader of one subscription stands: it leads itself.
+const ALONE: &[usize] = &[0];
 
 /// The most records side by side that are noted at once. No memory holds as many.
 const MOST_AT_ONCE: usize = u32::MAX as usize;
