@@ -1,8 +1,9 @@
 """`ipmd serve` with several workers: what they read outside the lock is what is read under it."""
+import os
 import unittest
 
 from messages import FLOW, Template, address, message, records, set_of
-from serving import ServeTest
+from serving import ServeTest, wait_until
 
 # Another template under the ID of FLOW: source port and source address.
 TURNED = Template(256, ((7, 2), (8, 4)))
@@ -15,15 +16,10 @@ NUMBERS = (1, 2, 4, 64)
 # How many pieces of 64 messages are sent to count the threads that read them.
 PIECES = 30
 
-# After this number the system's numbers of threads and processes begin anew.
-with open("/proc/sys/kernel/pid_max", encoding="ascii") as file:
-    MOST_THREADS = int(file.read())
 
-
-def last_thread():
-    """The number of the thread or process that the system started last: each has the next one."""
-    with open("/proc/loadavg", encoding="ascii") as file:
-        return int(file.read().split()[-1])
+def threads_of(child):
+    """How many threads a process has."""
+    return len(os.listdir(f"/proc/{child.pid}/task"))
 
 
 def flow(port):
@@ -75,24 +71,31 @@ class Workers(ServeTest):
         due = [FLOW.seen(address("192.0.2.77"), n, 1500) for n in range(1000)]
         self.expect_by_each(messages, due, " messages 1001 records 1000 gaps 0")
 
-    def threads_started(self, workers):
-        """How many threads and processes the system starts while pieces of 64 messages are read, one after another."""
+    def threads(self, workers):
+        """How many threads a server has while pieces of 64 messages are read, one after another: before, at most, and once their exporter is
+        gone."""
         run = self.start(workers=workers)
         collector, exporter = run.collector(), run.exporter()
         run.admin().close()
         exporter.send(message(0, FLOW.octets()))
-        before, octets = last_thread(), b""
+        wait_until(lambda: threads_of(run.child) > 3, "the exporter has a thread")
+        before, most, octets = threads_of(run.child), 0, b""
         for piece in range(PIECES):
             exporter.send(b"".join(message(n, FLOW.data(flow(80))) for n in range(64 * piece, 64 * piece + 64)))
             while len(records(octets)) < 64 * (piece + 1):
                 octets += collector.take_message()
+            most = max(most, threads_of(run.child))
         exporter.close()
-        return (last_thread() - before) % MOST_THREADS
+        return before, most, run
 
     def test_threads(self):
-        """Each piece is read by as many threads as are asked for. What else the system starts meanwhile is far less."""
-        self.assertGreaterEqual(self.threads_started(64), PIECES * 63)
-        self.assertLess(self.threads_started(1), PIECES * 63 // 2)
+        """An exporter is helped by as many threads as are asked for, less its own: from the first piece of several messages, and until it
+        goes."""
+        for workers in NUMBERS:
+            with self.subTest(workers=workers):
+                before, most, run = self.threads(workers)
+                self.assertEqual(most, before + workers - 1)
+                wait_until(lambda: threads_of(run.child) < before, "all of them end")
 
     def test_bad_message(self):
         """A message that is refused ends the stream; those before it in its piece were accepted, those behind it weren't."""

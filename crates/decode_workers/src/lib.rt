@@ -1,27 +1,21 @@
-//! Messages that are prepared by several threads at once.
+//! Threads that prepare messages ahead of the one that offers them.
 //!
-//! It reads no message itself, and waits for nothing but the threads that it started.
+//! - [`workers`]: `Workers`, which is asked for the messages of one piece and hands them back as they were prepared, in their order.
+//! - `helper`: a thread that prepares lists of messages, and its end in the thread that it helps.
+//! - `line`: what these two tell each other.
+//! - `preparing`: how a list of messages is prepared.
 //!
-//! - [`workers`]: `Workers`, which prepare lists of messages and answer them in their order, and keep what they worked out for
-//!   the next list; `prepare_all`, which does so once.
-//! - [`gate`]: `Gate`, which is told what each thread is at, and `NoGate`, which does nothing.
-//! - [`fault`]: `Fault`, why a list is not prepared.
-//! - `run`: the part of the list that one thread prepares, and what the thread promises.
+//! The thread that asks is one of the workers: it prepares the first messages itself, and goes on with these while the others are
+//! prepared. Lists of messages go to the helpers through rings (`rtrb`), and what was prepared of each comes back through others. What
+//! comes back is taken only for the message of which it is, octet by octet: so nothing has to be proved of a helper.
 //!
-//! Each thread prepares a run, messages that stand one after another. The runs are as long as each other, or one longer. So a
-//! slow message holds up its own run alone, and the list of all answers is that of one run behind that of another: this is
-//! what is proved. A counter that threads share would balance better, but no clause could say that each message was taken.
-//!
-//! Proved: for every number of workers `prepare_all` answers each message as `Prepared::prepare` does, in the order of the
-//! messages (`answers`), and BadWorkers exactly where there are none or more than 64 (`workers`). That threads overlap is shown
-//! by a test alone.
+//! Proved: what is handed back for a message is this message, as it was prepared (`Workers::next`). Whether it is prepared at all, that
+//! helpers work at the same time, and that they end, is shown by tests alone.
 #![tactic(auto)]
 
-pub mod fault;
-pub mod gate;
-mod run;
+mod helper;
+mod line;
+mod preparing;
 pub mod workers;
 
-pub use fault::Fault;
-pub use gate::{Gate, NoGate};
-pub use workers::{MOST_WORKERS, Workers, prepare_all};
+pub use workers::{MOST_WORKERS, Workers};

@@ -1,230 +1,191 @@
-//! Workers: lists of messages are prepared by several threads at once, and answered in their order.
-ghost use Rattle.std.specs.Prelude.{◌≡◌, ◌≢◌, ◌+◌, ◌<◌, ◌^◌, ◌++◌, ℕ, List, IfOk, IfErr, IsOk, OnOk, Err, MatchBool, vec_len};
-ghost use Rattle.decode_workers.specs.declared.fault.Fault.TheVariants.{BadWorkers};
-ghost use Rattle.decode_workers.specs.Workers.{Tables, AreAnswers, may_work};
-ghost use Rattle.decode_workers.specs.Owing.{owed_by, KnowAll};
+//! Workers: the messages of one piece are prepared by several threads, and handed back in their order.
+ghost use Rattle.std.specs.Prelude.{◌≡◌, ◌≤◌, IfSome};
 
-use crate::fault::Fault;
-use crate::gate::Gate;
-use crate::run::{Owed, Ran, prepare_run};
+use crate::helper::Helper;
+use crate::preparing::prepare_list;
 use bytes::Bytes;
 use mediator_shares::Workspace;
-use prepared_message::{Fault as PrepareFault, Prepared, Snapshot};
+use prepared_message::{Prepared, Snapshot};
 use std::alloc::{AllocError, Global};
-use std::snapshot::Snapshot as Remembered;
-use std::sync::Wait;
-use std::thread;
-use std::thread::{PromisedHandle, Scope, Threads};
+use std::mem;
+use std::sync::{Arc, Wait};
+use std::thread::Scope;
+use std::vec::IntoIter;
 
 /// The most workers that there may be.
 pub const MOST_WORKERS: u64 = 64;
 
-/// A thread that prepares a run.
-type Worker = PromisedHandle<Result<Ran, AllocError>, Owed>;
+/// How many lists of the messages of one piece each helper is handed: the fewer messages a list has, the sooner the first are
+/// there, and the fewer lists there are, the less is told. All of them have room.
+const LISTS_EACH: usize = 3;
 
-/// A number of workers, 1 to 64. What each has worked out for the messages that it prepared is kept for those to come.
+/// Workers: the thread that has this, and those that help it. What each has worked out for the messages that it prepared is kept for
+/// those to come.
 #[derive(Drop)]
 pub struct Workers {
-    count: u64,
-    idle: Vec<Workspace>,
-}
-
-/// Prepares each of `messages` against `snapshot`, by `workers` workers, 1 to 64, that prepared nothing yet: as
-/// [`Workers::prepare_all`] does. `rt` gives the threads, and `gate` is told of each message.
-///
-/// # Errors
-/// [`Fault::BadWorkers`] where the number of workers is not 1 to 64, and those of [`Workers::prepare_all`].
-pub fn prepare_all<R: Threads + Wait + Sync, G: Gate + Sync>(
-    rt: &R,
-    snapshot: &Snapshot,
-    messages: Vec<Bytes>,
-    workers: u64,
-    gate: &G,
-) -> Result<Vec<Result<Prepared, PrepareFault>>, Fault>
-    // Each message has the answer that `Prepared::prepare` gives it, in the order of the messages.
-    ensures answers { IfOk result (λ v. AreAnswers snapshot.now messages.items v.items) }
-    ensures workers { MatchBool (may_work workers) (IfErr result (λ why. why ≢ BadWorkers))
-        (result ≡ Err BadWorkers) }
-{
-    let mut workers = Workers::new(*messages.allocator(), workers)?;
-    workers.prepare_all(rt, snapshot, messages, gate)
+    alloc: Global,
+    /// How many there are to be once there is work for several: 1 when they were started.
+    wanted: u64,
+    helpers: Vec<Helper>,
+    workspace: Workspace,
+    /// The messages that come next, as they were prepared.
+    next: IntoIter<Option<Prepared>>,
+    /// How many lists were ordered of the helpers, one after another, and how many of these they have answered.
+    ordered: usize,
+    taken: usize,
 }
 
 impl Workers {
-    /// A number `count` of workers, 1 to 64, which prepared nothing yet. What they come to keep is in memory from
-    /// `alloc`; this call takes none.
-    ///
-    /// # Errors
-    /// [`Fault::BadWorkers`] where `count` is not 1 to 64.
-    pub fn new(alloc: Global, count: u64) -> Result<Workers, Fault>
-        ensures { MatchBool (may_work count) (IsOk result) (result ≡ Err BadWorkers) }
-    {
-        if count < 1 || count > MOST_WORKERS {
-            return Err(Fault::BadWorkers);
+    /// A number `count` of workers, 1 to 64, where other numbers are as good as the nearest of these. None is started yet. What they
+    /// come to keep is in memory from `alloc`; this call takes none.
+    pub fn new(alloc: Global, count: u64) -> Workers {
+        Workers {
+            alloc,
+            wanted: count.min(MOST_WORKERS),
+            helpers: Vec::new(alloc),
+            workspace: Workspace::new(),
+            next: Vec::new(alloc).into_iter(),
+            ordered: 0,
+            taken: 0,
         }
-        Ok(Workers {
-            count,
-            idle: Vec::new(alloc),
-        })
     }
 
-    /// Prepares each of `messages` against `snapshot`, and answers the list of what came of each, in the order of the
-    /// messages: what [`Prepared::prepare`] answers for it. `rt` gives the threads, and `gate` is told of each message
-    /// before and after it is prepared. The calling thread is one of the workers, and at most as many work as there are
-    /// messages: with one worker, or one message, no thread is started. It returns once all threads that it started
-    /// have ended, whatever it answers. The lists are in memory from where that of the messages is.
+    /// Asks for `messages` to be prepared against `snapshot`, those of one piece, which [`next`](Workers::next) hands back then. The
+    /// first of them are prepared by this call. What was asked for before and not handed back is forgotten; `rt` waits for that.
+    /// Where there are several messages for the first time, `scope` starts the threads of all workers but one: as many as there are
+    /// threads and memory for. They stay, and wait on `rt`.
     ///
     /// # Errors
-    /// [`Fault::NoThread`] where a thread was refused, or [`Fault::OutOfMemory`] for the lists. A message
-    /// that can't be prepared, also for want of memory, is no error: that is its answer in the list.
-    pub fn prepare_all<R: Threads + Wait + Sync, G: Gate + Sync>(
+    /// Want of memory. Then some of the messages may be prepared.
+    pub fn ask<'s, 'r: 's, X: 's, R: Wait + Sync>(
         &mut self,
-        rt: &R,
-        snapshot: &Snapshot,
+        rt: &'r R,
+        scope: &Scope<'s, X>,
+        snapshot: Snapshot,
         messages: Vec<Bytes>,
-        gate: &G,
-    ) -> Result<Vec<Result<Prepared, PrepareFault>>, Fault>
-        // Each message has the answer that `Prepared::prepare` gives it, in the order of the messages.
-        ensures answers { IfOk result (λ v. AreAnswers snapshot.now messages.items v.items) }
-        ensures err { IfErr result (λ why. why ≢ BadWorkers) }
-    {
-        let alloc = *messages.allocator();
-        let runs = messages.len().min(self.count as usize);
-        let idle = &mut self.idle;
-        if runs <= 1 {
-            let ran = prepare_run(alloc, snapshot, gate, 0, messages, next_idle(idle))?;
-            return Ok(answers_of(ran, idle));
+    ) -> Result<(), AllocError> {
+        self.forget(rt);
+        let snapshot = Arc::new(self.alloc, snapshot)?;
+        let mut messages = messages;
+        if messages.len() > 1 {
+            self.start_helpers(rt, scope);
+            let rest = messages.split_off(self.own(messages.len()))?;
+            self.order(&snapshot, rest)?;
         }
-        thread::scope(thread::scope_env(), rt, |scope| {
-            prepare_in_runs(rt, alloc, snapshot, gate, scope, messages, runs, idle)
-        })
+        let list = prepare_list(self.alloc, &snapshot, messages, &mut self.workspace);
+        self.next = list.into_iter();
+        Ok(())
     }
-}
 
-/// Takes a workspace that is free out of `idle`, or makes a new one.
-fn next_idle(idle: &mut Vec<Workspace>) -> Workspace {
-    match idle.pop() {
-        Some(workspace) => workspace,
-        None => Workspace::new(),
+    /// Has `scope` start the helpers, once.
+    fn start_helpers<'s, 'r: 's, X: 's, R: Wait + Sync>(
+        &mut self,
+        rt: &'r R,
+        scope: &Scope<'s, X>,
+    ) {
+        for _ in 1..self.wanted {
+            let Some(helper) = Helper::start(rt, self.alloc, scope) else {
+                break;
+            };
+            if self.helpers.push(helper).is_err() {
+                break;
+            }
+        }
+        self.wanted = 1;
     }
-}
 
-/// The answers of the run `ran`, whose workspace goes to those in `idle`. Where there is no memory to keep that, it is
-/// dropped.
-fn answers_of(ran: Ran, idle: &mut Vec<Workspace>) -> Vec<Result<Prepared, PrepareFault>>
-    ensures { result ≡ ran.answers }
-{
-    let Ran { answers, workspace } = ran;
-    if idle.reserve(1).is_ok() {
-        idle.push_reserved(workspace);
+    /// How many of this many messages are prepared by the thread that asks: all, where there is no helper, and else fewer than a
+    /// helper is handed at once.
+    fn own(&self, messages: usize) -> usize
+        ensures { result ≤ messages }
+    {
+        if self.helpers.is_empty() {
+            return messages;
+        }
+        let own = messages / self.lists().saturating_add(LISTS_EACH);
+        messages.min(own.saturating_add(1))
     }
-    answers
-}
 
-/// Prepares `messages` against `snapshot` in a number `runs` of runs: the first in this thread, and each other in a
-/// thread of its own, which `scope` starts. Workspaces come from `idle` and go there again.
-///
-/// # Errors
-/// `NoThread` or `OutOfMemory`.
-fn prepare_in_runs<'s, 't: 's, 'g: 's, X: 's, R: Threads, G: Gate + Sync>(
-    rt: &R,
-    alloc: Global,
-    snapshot: &'t Snapshot,
-    gate: &'g G,
-    scope: &Scope<'s, X>,
-    mut messages: Vec<Bytes>,
-    runs: usize,
-    idle: &mut Vec<Workspace>,
-) -> Result<Vec<Result<Prepared, PrepareFault>>, Fault>
-    ensures answers { IfOk result (λ v. AreAnswers snapshot.now messages.items v.items) }
-    ensures err { IfErr result (λ why. why ≢ BadWorkers) }
-{
-    let working = start_all(alloc, snapshot, gate, scope, &mut messages, runs, idle)?;
-    let ran = prepare_run(alloc, snapshot, gate, 0, messages, next_idle(idle))?;
-    let mut answers = answers_of(ran, idle);
-    join_all(rt, working, &mut answers, idle)?;
-    Ok(answers)
-}
-
-/// Takes all runs but the first off `messages`, the last one first, and has `scope` start a thread for each: so of
-/// `runs` runs one is left in `messages`. The answer is the list of these threads, in memory from `alloc`.
-///
-/// # Errors
-/// `NoThread` or `OutOfMemory`.
-fn start_all<'s, 't: 's, 'g: 's, X: 's, G: Gate + Sync>(
-    alloc: Global,
-    snapshot: &'t Snapshot,
-    gate: &'g G,
-    scope: &Scope<'s, X>,
-    messages: &mut Vec<Bytes>,
-    runs: usize,
-    idle: &mut Vec<Workspace>,
-) -> Result<Vec<Worker>, Fault>
-    ensures all { IfOk result (λ v. messages.new.items ++ owed_by v.items ≡ messages.old.items) }
-    ensures known { IfOk result (λ v. KnowAll snapshot.now v.items) }
-    ensures err { IfErr result (λ why. why ≢ BadWorkers) }
-{
-    let mut working = Vec::new(alloc);
-    for started in 1..runs {
-        // The messages that are left are shared out among the runs that are left.
-        let first = messages.len() - messages.len() / (runs - started + 1);
-        let run = messages.split_off(first)?;
-        working.reserve(1)?;
-        let workspace = next_idle(idle);
-        working.push_reserved(start(alloc, snapshot, gate, scope, first as u64, run, workspace)?);
+    /// The next one of the messages that were asked for, `message`, as it was prepared; or `None` where it wasn't. It waits on `rt`
+    /// for the helper that has it.
+    pub fn next<R: Wait>(&mut self, rt: &R, message: &Bytes) -> Option<Prepared>
+        ensures { IfSome result (λ p. p.message ≡ message.now) }
+    {
+        let prepared = self.take(rt)?;
+        if prepared.message() == message {
+            Some(prepared)
+        } else {
+            None
+        }
     }
-    Ok(working)
-}
 
-/// Has `scope` start a thread that prepares the messages of `run` against `snapshot`, of which the first stands at the
-/// place `first` in the list, with what `workspace` has worked out before.
-///
-/// # Errors
-/// `NoThread` where the thread was refused.
-fn start<'s, 't: 's, 'g: 's, X: 's, G: Gate + Sync>(
-    alloc: Global,
-    snapshot: &'t Snapshot,
-    gate: &'g G,
-    scope: &Scope<'s, X>,
-    first: u64,
-    run: Vec<Bytes>,
-    workspace: Workspace,
-) -> Result<Worker, Fault>
-    requires places { first + vec_len run < 2 ^ 64 }
-    ensures owed { IfOk result (λ h. (h.promise.snapshot.value ≡ snapshot.now)
-        × (h.promise.messages.value ≡ run)) }
-    ensures err { IfErr result (λ why. why ≢ BadWorkers) }
-{
-    let owed = Owed {
-        snapshot: Remembered::of(snapshot),
-        messages: Remembered::of(&run),
-    };
-    match scope.spawn_with(owed, move || {
-        prepare_run(alloc, snapshot, gate, first, run, workspace)
-    }) {
-        Ok(worker) => Ok(worker),
-        Err(_refused) => Err(Fault::NoThread),
+    /// How many lists the helpers are handed of one piece.
+    fn lists(&self) -> usize {
+        self.helpers.len().saturating_mul(LISTS_EACH)
     }
-}
 
-/// Waits for the threads `working`, the one that was started last before the others, and puts the answers of each
-/// behind those in `answers`, and its workspace to those in `idle`.
-///
-/// # Errors
-/// Want of memory for a list of answers.
-fn join_all<R: Threads>(
-    rt: &R,
-    mut working: Vec<Worker>,
-    answers: &mut Vec<Result<Prepared, PrepareFault>>,
-    idle: &mut Vec<Workspace>,
-) -> Result<(), AllocError>
-    ensures { OnOk result ((known : Tables) (before : List (List ℕ)) → KnowAll known working.items
-        → AreAnswers known before answers.old.items
-        → AreAnswers known (before ++ owed_by working.items) answers.new.items) }
-{
-    while let Some(worker) = working.pop() {
-        let mut more = answers_of(worker.join(rt)?, idle);
-        answers.append(&mut more)?;
+    /// Hands `messages` to the helpers, in lists of as many messages each, one after another.
+    ///
+    /// # Errors
+    /// Want of memory: some may have been handed over.
+    fn order(&mut self, snapshot: &Arc<Snapshot>, messages: Vec<Bytes>) -> Result<(), AllocError> {
+        let mut rest = messages;
+        let lists = self.lists();
+        let len = (rest.len() / lists.max(1)).saturating_add(1);
+        for _ in 0..lists {
+            let later = rest.split_off(rest.len().min(len))?;
+            let list = mem::replace(&mut rest, later);
+            if list.is_empty() || !self.order_list(snapshot.clone()?, list) {
+                break;
+            }
+        }
+        Ok(())
     }
-    Ok(())
+
+    /// Hands a list to the helper whose turn it is, and answers whether it took it.
+    fn order_list(&mut self, snapshot: Arc<Snapshot>, messages: Vec<Bytes>) -> bool {
+        let Some(place) = self.ordered.checked_rem(self.helpers.len()) else {
+            return false;
+        };
+        let Some(helper) = self.helpers.as_mut_slice().get_mut(place) else {
+            return false;
+        };
+        if !helper.order(snapshot, messages) {
+            return false;
+        }
+        self.ordered = self.ordered.saturating_add(1);
+        true
+    }
+
+    /// The next one of the messages as it was prepared.
+    fn take<R: Wait>(&mut self, rt: &R) -> Option<Prepared> {
+        for _ in rt.forever() {
+            if let Some(prepared) = self.next.next() {
+                return prepared;
+            }
+            self.next = self.take_list(rt)?.into_iter();
+        }
+        None
+    }
+
+    /// What was prepared of the list that was ordered first of those that are not taken; or `None` where all are.
+    fn take_list<R: Wait>(&mut self, rt: &R) -> Option<Vec<Option<Prepared>>> {
+        if self.taken >= self.ordered {
+            return None;
+        }
+        let place = self.taken.checked_rem(self.helpers.len())?;
+        self.taken = self.taken.saturating_add(1);
+        let helper = self.helpers.as_mut_slice().get_mut(place)?;
+        Some(helper.take(rt, self.alloc))
+    }
+
+    /// Takes what was ordered and is not taken yet.
+    fn forget<R: Wait>(&mut self, rt: &R) {
+        for _ in self.taken..self.ordered {
+            let _forgotten = self.take_list(rt);
+        }
+        self.next = Vec::new(self.alloc).into_iter();
+        self.ordered = 0;
+        self.taken = 0;
+    }
 }

@@ -1,18 +1,12 @@
 -- Messages that are offered one after another.
-use Rattle.std.proofs.Common.{◌≡◌, ℕ, zero, suc, ◌+◌, List, [], ◌∷◌, ◌++◌, map, length, take, Result, Ok, Err, refl, sym, ap, ◌∙◌, subst, append-nil, append_assoc, arith, length-append}
-use Rattle.std.specs.Result.{IsErr, IsErrAnd, IfErr, result_ok}
-use Rattle.std.specs.Prelude.{IfOk, IfSome, Option}
-use Rattle.std.specs.List.{AllZip}
+use Rattle.std.proofs.Common.{◌≡◌, ℕ, suc, ◌+◌, List, [], ◌∷◌, ◌++◌, map, length, Result, Ok, Err, refl, sym, ap, ◌∙◌, subst, append-nil, append_assoc, arith, length-append}
+use Rattle.std.specs.Result.{IsErr, IsErrAnd, IfErr}
 use Rattle.std.proofs.lemmas.List.{length-map, map-append}
-use Rattle.prepared_message.specs.declared.fault.Fault.{Fault as PrepareFault}
-use Rattle.prepared_message.specs.Preparation.{Preparation}
-use Rattle.decode_workers.specs.Workers.{Tables, AreAnswers}
 use Rattle.event_journal.specs.declared.entry.Entry.TheVariants.{Message}
 use Rattle.shared_mediator.specs.declared.kept.KeptEntry.{KeptEntry}
 use Rattle.shared_mediator.specs.Locked.{Exporting}
 use Rattle.mediator_connections.specs.declared.fault.Fault.{Fault}
 use Rattle.mediator_connections.specs.Serving.{messages_from, IsRefusalOf, Offers, RefusesAmong}
-use Rattle.mediator_connections.specs.Preparing.{ArePreparations, IsFrontOf}
 
 -- what is known of an error that was handed on
 pub err_gives : {X E : Type 0} {P Q : E → Type 0} (r : Result X E) → IsErr r × IsErrAnd r P → ((e : E) → P e → Q e) → IfErr r Q
@@ -92,53 +86,3 @@ offering_stops e old d all more rest m is here so = record {
 }
 
 -- ---- what was prepared
-
--- the answers of the workers are such
-pub prepared_by : (known : Tables) (ms : List (List ℕ)) (answers : List (Result Preparation PrepareFault)) → AreAnswers known ms answers → ArePreparations ms answers
-prepared_by known [] [] are = tt
-prepared_by known [] (a ∷ others) are = absurd are
-prepared_by known (m ∷ ms) [] are = tt
-prepared_by known (m ∷ ms) (a ∷ others) are = (are.0.whole, prepared_by known ms others are.1)
-
-zip_same : (given copies : List (List ℕ)) → AllZip (λ (b copy : List ℕ). copy ≡ b) given copies → copies ≡ given
-zip_same [] [] same = refl
-zip_same [] (c ∷ cs) same = absurd same
-zip_same (g ∷ gs) [] same = absurd same
-zip_same (g ∷ gs) (c ∷ cs) same = ap (λ (x : List ℕ). x ∷ cs) same.0 ∙ ap (λ (xs : List (List ℕ)). g ∷ xs) (zip_same gs cs same.1)
-
--- what is known of the first messages is known of some of all
-of_front : (count : ℕ) (ms : List (List ℕ)) (answers : List (Result Preparation PrepareFault)) → ArePreparations (take count ms) answers → ArePreparations ms answers
-of_front zero ms [] are = tt
-of_front zero ms (a ∷ others) are = absurd are
-of_front (suc count) [] answers are = are
-of_front (suc count) (m ∷ ms) [] are = tt
-of_front (suc count) (m ∷ ms) (a ∷ others) are = (are.0, of_front count ms others are.1)
-
--- so they are of the messages whose first were handed to them
-pub front_prepared : {V E : Type 0} (items : V → List (Result Preparation PrepareFault)) (known : Tables) (given copies : List (List ℕ)) (r : Result V E) (o : Option V) → o ≡ result_ok r → IsFrontOf given copies
-    → IfOk r (λ v. AreAnswers known copies (items v)) → IfSome o (λ v. ArePreparations given (items v))
-front_prepared {V} items known given copies (Ok v) o is front are =
-    subst (λ (x : Option V). IfSome x (λ w. ArePreparations given (items w))) (sym is)
-    (of_front front.0 given (items v) (subst (λ (ms : List (List ℕ)). ArePreparations ms (items v)) front.1 (prepared_by known copies (items v) are)))
-front_prepared {V} items known given copies (Err e) o is front are = subst (λ (x : Option V). IfSome x (λ w. ArePreparations given (items w))) (sym is) tt
-
--- copies that were cut off are the first messages
-pub front_of_copies : (given copies cut : List (List ℕ)) (count : ℕ) → AllZip (λ (b copy : List ℕ). copy ≡ b) given copies → cut ≡ take count copies → IsFrontOf given cut
-front_of_copies given copies cut count same is = (count, is ∙ ap (take count) (zip_same given copies same))
-
-pub prepared_none : (ms : List (List ℕ)) (answers : List (Result Preparation PrepareFault)) → answers ≡ [] → ArePreparations ms answers
-prepared_none ms answers none = subst (ArePreparations ms) (sym none) tt
-
-pub prepared_start : (all rest : List (List ℕ)) (answers left : List (Result Preparation PrepareFault)) → rest ≡ all → left ≡ answers → ArePreparations all answers → ArePreparations rest left
-prepared_start all rest answers left is here so = subst (ArePreparations rest) (sym here) (subst (λ (ms : List (List ℕ)). ArePreparations ms answers) (sym is) so)
-
-pub prepared_at : (more rest : List (List ℕ)) (m : List ℕ) (answers : List (Result Preparation PrepareFault)) → more ≡ m ∷ rest → ArePreparations more answers → ArePreparations (m ∷ rest) answers
-prepared_at more rest m answers is so = subst (λ (ms : List (List ℕ)). ArePreparations ms answers) is so
-
--- of the next message, and of those behind it
-pub prepared_next : (m : List ℕ) (rest : List (List ℕ)) (answers left : List (Result Preparation PrepareFault)) (a : Result Preparation PrepareFault) (o : Option Preparation) → answers ≡ a ∷ left → o ≡ result_ok a → ArePreparations (m ∷ rest) answers
-    → IfSome o (λ p. p.message ≡ m) × ArePreparations rest left
-prepared_next m rest answers left a o here is so = by a is (subst (ArePreparations (m ∷ rest)) here so) where
-  by : (a : Result Preparation PrepareFault) → o ≡ result_ok a → ArePreparations (m ∷ rest) (a ∷ left) → IfSome o (λ p. p.message ≡ m) × ArePreparations rest left
-  by (Ok p) is so = (subst (λ (x : Option Preparation). IfSome x (λ p. p.message ≡ m)) (sym is) so.0, so.1)
-  by (Err e) is so = (subst (λ (x : Option Preparation). IfSome x (λ p. p.message ≡ m)) (sym is) tt, so.1)

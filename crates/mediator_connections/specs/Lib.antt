@@ -13,7 +13,6 @@ pub use Rattle.admin_text.specs.Answers as AdminAnswers
 pub mod Faults
 pub mod FaultTexts
 pub mod Serving
-pub mod Preparing
 pub mod Delivering
 pub mod CommandInput
 pub mod Answering

@@ -1,18 +1,16 @@
 //! Serves an exporter's stream: reads its messages, prepares them without the lock, and offers them to the mediator.
 ghost use Rattle.std.specs.Prelude.{◌≡◌, ◌≤◌, ◌-◌, ◌++◌, ◌∷◌, [], ℕ, List, false, length, IfOk, IfErr, IfSome, OnOk, OnErr, IsTrue};
-ghost use Rattle.std.specs.Vec.Iter.{into_iter_items};
 ghost use Rattle.ipfix_message.specs.FramerState.{nothing_fed};
 ghost use Rattle.event_journal.specs.declared.entry.Entry.TheVariants.{Message};
 ghost use Rattle.prepared_message.specs.Holding.{CountsTooMany, IsAheadOf};
 ghost use Rattle.mediator_connections.specs.Serving.{IsRefusalOf, IsTooWideAt, Offers, RefusesAmong, Reaches, StopsServing, Serves, most_read};
-ghost use Rattle.mediator_connections.specs.Preparing.{ArePreparations, IsFrontOf};
 ghost use Rattle.mediator_connections.specs.Faults.{fails_reader};
 
 use crate::control::{Patience, Reception};
 use crate::fault::Fault;
 use crate::room::wait_for_room;
 use bytes::Bytes;
-use decode_workers::{NoGate, Workers};
+use decode_workers::Workers;
 use ipfix_reader::Intake;
 use mediator_shares::Workspace;
 use mediator_state::{Fault as MediatorFault, Receipt};
@@ -21,8 +19,7 @@ use prepared_message::{Fault as PrepareFault, JudgedAhead, Prepared, Snapshot};
 use shared_mediator::{EntryLedger, ExporterHandle, RecordLedger, SharedMediator};
 use std::alloc::{AllocError, Global};
 use std::sync::Wait;
-use std::thread::Threads;
-use std::vec::IntoIter;
+use std::thread::Scope;
 
 /// How a stream is read: by how many reads, and what each brings by how many threads.
 #[derive(Clone, Copy, Debug, PartialEq, Eq)]
@@ -86,9 +83,10 @@ impl Progress {
 /// its end, by at most `turns` reads, and offers each of its messages to the mediator of `shared`, through `handle`. Whatever
 /// comes, the handle's session is closed then; where the mediator refuses that, it stays open.
 ///
-/// The messages that one read made whole are prepared without the lock, by as many threads as `workers` says, 1 to 64, which `rt`
-/// starts. Those that can't be prepared are judged without the lock and read under it. Where `workers` is another number, all
-/// are. Memory is taken from `alloc`.
+/// The messages that one read made whole are prepared without the lock, by as many threads as `workers` says, 1 to 64, where other
+/// numbers are as good as the nearest of these; and those that are prepared are offered meanwhile. This thread is one of them. `scope`
+/// starts the others once a read brings several messages, and they stay until the stream ends. All wait on `rt`. Messages that can't
+/// be prepared are judged without the lock and read under it. Memory is taken from `alloc`.
 ///
 /// Before a message is offered, `reception` has it wait for room in the queues of those to whom it would give records, as long as
 /// `reception` has patience. Behind each message that was accepted, `reception` is told of it.
@@ -104,13 +102,16 @@ impl Progress {
 /// aggregates ([`JudgedAhead::counts_too_many`]); or `Mediator` where the mediator refuses a message, or memory ran out. The
 /// messages before that were accepted, and what they brought stands beside the fault.
 pub fn serve_exporter<
+    's,
+    'r: 's,
+    X: 's,
     E: EntryLedger,
     H: RecordLedger,
     R: Source,
     O: Reception,
-    T: Threads + Wait + Sync,
+    T: Wait + Sync,
 >(
-    rt: &T,
+    rt: &'r T,
     alloc: Global,
     shared: &SharedMediator<E, H>,
     handle: &mut ExporterHandle<E>,
@@ -118,6 +119,7 @@ pub fn serve_exporter<
     turns: u64,
     workers: u64,
     reception: &O,
+    scope: &Scope<'s, X>,
 ) -> Result<ServedExporter, (Fault, ServedExporter)>
     requires reader { R.has_failed reader.old ≡ false }
     // All of the stream was read, and each of its messages was accepted.
@@ -134,15 +136,9 @@ pub fn serve_exporter<
     let before = handle.kept().len();
     let mut progress = Progress::none();
     let pace = Pace { turns, workers };
+    let brought = &mut progress;
     let offered = offer_stream(
-        rt,
-        alloc,
-        shared,
-        handle,
-        reader,
-        pace,
-        &mut progress,
-        reception,
+        rt, alloc, shared, handle, reader, pace, brought, reception, scope,
     );
     // Whether the session could be closed changes nothing of what was served.
     let _closed = handle.end(rt, shared);
@@ -155,12 +151,21 @@ pub fn serve_exporter<
     }
 }
 
-/// Reads a stream to its end, offers its messages, and answers how many they are.
+/// Reads a stream to its end, offers its messages, and answers how many they are. The threads that help are started by `scope`.
 ///
 /// # Errors
 /// Those of [`serve_exporter`].
-fn offer_stream<E: EntryLedger, H: RecordLedger, R: Source, O: Reception, T: Threads + Wait + Sync>(
-    rt: &T,
+fn offer_stream<
+    's,
+    'r: 's,
+    X: 's,
+    E: EntryLedger,
+    H: RecordLedger,
+    R: Source,
+    O: Reception,
+    T: Wait + Sync,
+>(
+    rt: &'r T,
     alloc: Global,
     shared: &SharedMediator<E, H>,
     handle: &mut ExporterHandle<E>,
@@ -168,6 +173,7 @@ fn offer_stream<E: EntryLedger, H: RecordLedger, R: Source, O: Reception, T: Thr
     pace: Pace,
     progress: &mut Progress,
     reception: &O,
+    scope: &Scope<'s, X>,
 ) -> Result<u64, Fault>
     requires reader { R.has_failed reader.old ≡ false }
     // All of the stream was read, and each of its messages was accepted.
@@ -181,13 +187,21 @@ fn offer_stream<E: EntryLedger, H: RecordLedger, R: Source, O: Reception, T: Thr
 {
     let before = handle.kept().len();
     let mut intake = intake_at(alloc, pace)?;
-    let mut workers = Workers::new(alloc, pace.workers).ok();
+    let mut workers = Workers::new(alloc, pace.workers);
     'reads: loop {
         let Some(messages) = intake.next(reader)? else {
             return Ok((handle.kept().len() - before) as u64);
         };
-        let answers = prepare_piece(rt, shared, handle, &messages, &mut workers);
-        offer_piece(rt, shared, handle, messages, answers, progress, reception)?;
+        ask_for(rt, shared, handle, &messages, &mut workers, scope);
+        offer_piece(
+            rt,
+            shared,
+            handle,
+            messages,
+            &mut workers,
+            progress,
+            reception,
+        )?;
     }
 }
 
@@ -206,51 +220,23 @@ fn intake_at(alloc: Global, pace: Pace) -> Result<Intake, AllocError>
     }
 }
 
-/// Prepares the messages of one piece without the lock, as far as that succeeds: there may be fewer answers than messages.
-fn prepare_piece<E: EntryLedger, H: RecordLedger, T: Threads + Wait + Sync>(
-    rt: &T,
+/// Asks for the messages of one piece to be prepared without the lock, by `workers`, whose threads `scope` starts. Nothing is asked where
+/// the session has no snapshot to give, or for want of memory.
+fn ask_for<'s, 'r: 's, X: 's, E: EntryLedger, H: RecordLedger, T: Wait + Sync>(
+    rt: &'r T,
     shared: &SharedMediator<E, H>,
     handle: &ExporterHandle<E>,
     messages: &Vec<Bytes>,
-    workers: &mut Option<Workers>,
-) -> Vec<Result<Prepared, PrepareFault>>
-    ensures { ArePreparations messages.now.items result.items }
-{
-    match prepare_by_workers(rt, shared, handle, messages, workers) {
-        Some(answers) => answers,
-        None => Vec::new(*messages.allocator()),
+    workers: &mut Workers,
+    scope: &Scope<'s, X>,
+) {
+    let Ok(snapshot) = handle.snapshot(rt, shared) else {
+        return;
+    };
+    if let Ok(copies) = messages.clone() {
+        // What isn't prepared is judged as it is offered.
+        let _asked = workers.ask(rt, scope, snapshot, copies);
     }
-}
-
-/// Prepares the messages of one piece by the workers. `None` where there are no workers, the session has no snapshot to give, or
-/// the workers are refused.
-fn prepare_by_workers<E: EntryLedger, H: RecordLedger, T: Threads + Wait + Sync>(
-    rt: &T,
-    shared: &SharedMediator<E, H>,
-    handle: &ExporterHandle<E>,
-    messages: &Vec<Bytes>,
-    workers: &mut Option<Workers>,
-) -> Option<Vec<Result<Prepared, PrepareFault>>>
-    ensures { IfSome result (λ answers. ArePreparations messages.now.items answers.items) }
-{
-    let workers = workers.as_mut()?;
-    let snapshot = handle.snapshot(rt, shared).ok()?;
-    let copies = narrow_front(&snapshot, messages)?;
-    workers.prepare_all(rt, &snapshot, copies, &NoGate).ok()
-}
-
-/// Copies of the messages before the first that is too wide, or whose width can't be told for want of memory. Nothing where there
-/// is no memory for them.
-fn narrow_front(snapshot: &Snapshot, messages: &Vec<Bytes>) -> Option<Vec<Bytes>>
-    ensures { IfSome result (λ copies. IsFrontOf messages.now.items copies.items) }
-{
-    let mut copies = messages.clone().ok()?;
-    let narrow = messages
-        .iter()
-        .take_while(|message| matches!(is_too_wide(snapshot, message), Ok(false)))
-        .count();
-    copies.truncate(narrow);
-    Some(copies)
 }
 
 /// Offers the messages of one piece, and wakes the deliveries then: so each wakes once for a piece, and not for each message.
@@ -262,20 +248,19 @@ fn offer_piece<E: EntryLedger, H: RecordLedger, O: Reception>(
     shared: &SharedMediator<E, H>,
     handle: &mut ExporterHandle<E>,
     messages: Vec<Bytes>,
-    answers: Vec<Result<Prepared, PrepareFault>>,
+    workers: &mut Workers,
     progress: &mut Progress,
     reception: &O,
 ) -> Result<(), Fault>
-    requires prepared { ArePreparations messages.items answers.items }
     ensures ok { OnOk result (Offers handle.old handle.new messages.items) }
     ensures err { IfErr result (λ e. RefusesAmong e handle.old handle.new messages.items) }
 {
-    let offered = offer_each(rt, shared, handle, messages, answers, progress, reception);
+    let offered = offer_each(rt, shared, handle, messages, workers, progress, reception);
     shared.wake(rt);
     offered
 }
 
-/// Offers messages, one after another: as they were prepared, or plainly those that weren't.
+/// Offers messages, one after another: as `workers` prepared them, or plainly those that weren't.
 ///
 /// # Errors
 /// The refusal of the first that is refused.
@@ -284,34 +269,22 @@ fn offer_each<E: EntryLedger, H: RecordLedger, O: Reception>(
     shared: &SharedMediator<E, H>,
     handle: &mut ExporterHandle<E>,
     messages: Vec<Bytes>,
-    answers: Vec<Result<Prepared, PrepareFault>>,
+    workers: &mut Workers,
     progress: &mut Progress,
     reception: &O,
 ) -> Result<(), Fault>
-    requires prepared { ArePreparations messages.items answers.items }
     ensures ok { OnOk result (Offers handle.old handle.new messages.items) }
     ensures err { IfErr result (λ e. RefusesAmong e handle.old handle.new messages.items) }
 {
-    let mut answers = answers.into_iter();
     'messages: for message in messages {
         let octets = message.len();
-        let prepared = next_prepared(&mut answers);
+        let prepared = workers.next(rt, &message);
         let workspace = &mut progress.workspace;
         let receipt = offer_one(rt, shared, handle, prepared, message, workspace, reception)?;
         progress.add(&receipt);
         reception.accept(&receipt, octets);
     }
     Ok(())
-}
-
-/// The next message as it was prepared, if it was.
-fn next_prepared(answers: &mut IntoIter<Result<Prepared, PrepareFault>>) -> Option<Prepared>
-    ensures { (message : List ℕ) (messages : List (List ℕ))
-        → ArePreparations (message ∷ messages) (into_iter_items answers.old)
-        → IfSome result (λ p. p.message ≡ message)
-        × ArePreparations messages (into_iter_items answers.new) }
-{
-    answers.next()?.ok()
 }
 
 /// Offers a message as it was prepared, once there is room for what it gives; or with what is judged of it ahead, where it wasn't

@@ -23,7 +23,7 @@ use std::alloc::{AllocError, Global};
 use std::cell::Cell;
 use std::net::{SocketAddr, TcpStream};
 use std::sync::{Mutex, Wait};
-use std::thread::{Scope, Threads};
+use std::thread::{self, Scope, Threads};
 use std::time::{Clock, Duration};
 
 /// How many milliseconds a message waits for room before it is looked again.
@@ -194,14 +194,6 @@ fn serve_stream<E: EntryLedger, H: RecordLedger, R: Threads + Wait + Clock + Log
         let _patient = stream.set_read_timeout(Some(Duration::from_secs(seconds)));
     }
     let why = Cell::new(WhyEnded::ItsOwn);
-    let state = &service.state;
-    let mut reader = ExporterReader {
-        rt,
-        state,
-        stream,
-        why: &why,
-        has_failed: false,
-    };
     let reception = PeerReception {
         rt,
         service,
@@ -209,20 +201,55 @@ fn serve_stream<E: EntryLedger, H: RecordLedger, R: Threads + Wait + Clock + Log
         begun: Cell::new(Duration::from_secs(0)),
         told: Cell::new(None),
     };
-    let ended = serve_exporter(
+    let ended = thread::scope(thread::scope_env(), rt, |scope| {
+        serve_by_workers(rt, service, stream, handle, &why, &reception, scope)
+    });
+    if is_refusal(&ended) {
+        service.state.add_refusal(rt);
+    }
+    notes::exporter_ends(rt, peer, ended, why.get());
+}
+
+/// Serves an exporter's stream by as many workers as the plan says, whose threads `scope` starts, and answers what it brought. `why` is
+/// told why it is read no further.
+///
+/// # Errors
+/// Those of [`serve_exporter`].
+fn serve_by_workers<
+    's,
+    'r: 's,
+    X: 's,
+    E: EntryLedger,
+    H: RecordLedger,
+    O: Reception,
+    R: Wait + Sync,
+>(
+    rt: &'r R,
+    service: &Service<'_, E, H>,
+    stream: &TcpStream,
+    handle: &mut ExporterHandle<E>,
+    why: &Cell<WhyEnded>,
+    reception: &O,
+    scope: &Scope<'s, X>,
+) -> Result<ServedExporter, (ServeFault, ServedExporter)> {
+    let mut reader = ExporterReader {
+        rt,
+        state: &service.state,
+        stream,
+        why,
+        has_failed: false,
+    };
+    serve_exporter(
         rt,
         service.alloc,
         service.shared,
         handle,
         &mut reader,
-        plan.turns,
-        plan.workers,
-        &reception,
-    );
-    if is_refusal(&ended) {
-        state.add_refusal(rt);
-    }
-    notes::exporter_ends(rt, peer, ended, why.get());
+        service.plan.turns,
+        service.plan.workers,
+        reception,
+        scope,
+    )
 }
 
 /// Whether a stream ended with a message that wasn't accepted.

@@ -1,12 +1,11 @@
-//! Three messages by one, two and four workers; how many workers there may be; workers that overlap; the names of the faults.
-//! Where memory is refused a call is made again.
+//! Messages of one piece that workers are asked for: each is handed back as it was prepared, in their order and for itself alone,
+//! by whatever number of workers; those that can't be prepared, and those of a piece that was given up, are not.
 use bytes::Bytes;
-use decode_workers::{Fault as WorkersFault, Gate, NoGate, prepare_all};
+use decode_workers::Workers;
 use ipfix_session::Session;
-use prepared_message::{Fault as PrepareFault, Prepared, Snapshot};
+use prepared_message::Snapshot;
 use std::alloc::{AllocError, Global};
 use std::sync::Wait;
-use std::sync::atomic::{AtomicU64, Ordering};
 use std::test::Fail;
 use std::thread;
 use std::thread::Threads;
@@ -15,7 +14,7 @@ use std::thread::Threads;
 const TEMPLATE: &[u8] = b"\x00\x0a\x00\x24\x65\x53\xf1\x00\x00\x00\x00\x00\x00\x00\x00\x07\
 \x00\x02\x00\x14\x01\x00\x00\x03\x00\x08\x00\x04\x00\x07\x00\x02\x00\x01\x00\x04";
 
-/// One record of it.
+/// One record of it. The last octet differs from message to message.
 const DATA: &[u8] = b"\x00\x0a\x00\x1e\x65\x53\xf1\x00\x00\x00\x00\x00\x00\x00\x00\x07\
 \x01\x00\x00\x0e\xc0\x00\x02\x4d\x01\xbb\x00\x00\x05\xdc";
 
@@ -23,25 +22,14 @@ const DATA: &[u8] = b"\x00\x0a\x00\x1e\x65\x53\xf1\x00\x00\x00\x00\x00\x00\x00\x
 const CUT_SHORT: &[u8] = b"\x00\x0a\x00\x1c\x65\x53\xf1\x00\x00\x00\x00\x00\x00\x00\x00\x07\
 \x01\x00\x00\x0e\xc0\x00\x02\x4d\x01\xbb\x00\x00";
 
-static THREE: [&[u8]; 3] = [DATA, CUT_SHORT, TEMPLATE];
+/// Numbers of workers, of which the first and the last stand for the nearest that there may be.
+const WORKERS: &[u64] = &[0, 1, 2, 4, 64, u64::MAX];
 
-/// The answers to the three: a message, or why it isn't prepared.
-static DUE: [Result<&[u8], PrepareFault>; 3] = [
-    Ok(DATA),
-    Err(PrepareFault::Malformed),
-    Err(PrepareFault::HasTemplates),
-];
+/// How many messages pieces have.
+const LENGTHS: &[usize] = &[0, 1, 2, 3, 50];
 
-static TWO: [&[u8]; 2] = [DATA, DATA];
-
-static WORKERS: [u64; 3] = [1, 2, 4];
-
-static NO_WORKERS: [u64; 3] = [0, 65, u64::MAX];
-
-/// For how many turns a piece is held back at most.
-const TURNS: u64 = 100_000_000;
-
-type Answers = Result<Vec<Result<Prepared, PrepareFault>>, WorkersFault>;
+/// Which messages of a piece can't be prepared: each tenth is cut short, and the one behind it has a template.
+const TURN: usize = 10;
 
 /// A snapshot that has the template.
 fn known(alloc: Global) -> Result<Snapshot, Fail> {
@@ -51,189 +39,100 @@ fn known(alloc: Global) -> Result<Snapshot, Fail> {
     Ok(Snapshot::of(&session)?)
 }
 
-fn list(alloc: Global, texts: &[&[u8]]) -> Result<Vec<Bytes>, AllocError> {
+/// The message at this place of a piece.
+fn message(alloc: Global, place: usize) -> Result<Bytes, AllocError> {
+    match place % TURN {
+        4 => Bytes::copy_from_slice(alloc, CUT_SHORT),
+        5 => Bytes::copy_from_slice(alloc, TEMPLATE),
+        _ => {
+            let mut octets = Vec::new(alloc);
+            octets.extend_from_slice(&DATA[..DATA.len() - 1])?;
+            octets.push(place as u8)?;
+            Bytes::copy_from_slice(alloc, &octets)
+        }
+    }
+}
+
+/// A piece of `length` messages.
+fn piece(alloc: Global, length: usize) -> Result<Vec<Bytes>, AllocError> {
     let mut messages = Vec::new(alloc);
-    for text in texts {
-        messages.push(Bytes::copy_from_slice(alloc, text)?)?;
+    for place in 0..length {
+        messages.push(message(alloc, place)?)?;
     }
     Ok(messages)
 }
 
-fn prepare_once<R: Threads + Wait + Sync, G: Gate + Sync>(
+/// How many messages of a piece are handed back that should be, less those that should not.
+fn handed_back<R: Wait>(
     rt: &R,
-    snapshot: &Snapshot,
-    texts: &[&[u8]],
-    workers: u64,
-    gate: &G,
+    workers: &mut Workers,
     alloc: Global,
-) -> Answers {
-    prepare_all(rt, snapshot, list(alloc, texts)?, workers, gate)
+    length: usize,
+) -> Result<usize, AllocError> {
+    let mut right = 0usize;
+    for place in 0..length {
+        let message = message(alloc, place)?;
+        let is_due = !matches!(place % TURN, 4 | 5);
+        if workers.next(rt, &message).is_some() == is_due {
+            right = right.saturating_add(1);
+        }
+    }
+    Ok(right)
 }
 
-/// Prepares a list, and once more where memory was refused.
-fn prepare<R: Threads + Wait + Sync, G: Gate + Sync>(
+/// Asks a number of workers for a piece, of which nothing is taken, and for one of this length, and answers how many messages of the
+/// second were handed back as they should be.
+fn ask<R: Wait + Sync + Threads>(
     rt: &R,
-    snapshot: &Snapshot,
-    texts: &[&[u8]],
-    workers: u64,
-    gate: &G,
+    snapshots: (Snapshot, Snapshot),
+    count: u64,
+    length: usize,
     alloc: Global,
-) -> Answers {
-    let answers = prepare_once(rt, snapshot, texts, workers, gate, alloc);
-    if was_refused(&answers) {
-        drop(answers);
-        return prepare_once(rt, snapshot, texts, workers, gate, alloc);
-    }
-    answers
-}
-
-/// Whether memory was refused, which a new thread takes too.
-fn was_refused(answers: &Answers) -> bool {
-    match answers {
-        Ok(answers) => answers.iter().any(is_refused),
-        Err(WorkersFault::BadWorkers) => false,
-        Err(WorkersFault::NoThread) => true,
-        Err(WorkersFault::OutOfMemory) => true,
-    }
-}
-
-fn is_refused(answer: &Result<Prepared, PrepareFault>) -> bool {
-    matches!(answer, Err(PrepareFault::OutOfMemory))
-}
-
-fn is_due(
-    answer: &Result<Prepared, PrepareFault>,
-    due: &Result<&'static [u8], PrepareFault>,
-) -> bool {
-    match (answer, due) {
-        (Ok(prepared), Ok(message)) => is_same(prepared.message(), message),
-        (Err(fault), Err(wanted)) => fault == wanted,
-        _ => false,
-    }
-}
-
-fn is_same(message: &[u8], wanted: &[u8]) -> bool {
-    message == wanted
-}
-
-fn are_due(
-    answers: &[Result<Prepared, PrepareFault>],
-    due: &[Result<&'static [u8], PrepareFault>],
-) -> bool {
-    answers.len() == due.len()
-        && answers
-            .iter()
-            .zip(due)
-            .all(|(answer, due)| is_due(answer, due))
+) -> Result<usize, AllocError> {
+    thread::scope(thread::scope_env(), rt, |scope| {
+        let mut workers = Workers::new(alloc, count);
+        workers.ask(rt, scope, snapshots.0, piece(alloc, TURN)?)?;
+        workers.ask(rt, scope, snapshots.1, piece(alloc, length)?)?;
+        handed_back(rt, &mut workers, alloc, length)
+    })
 }
 
 #[test]
-fn three_messages(rt: HostRuntime) -> Result<(), Fail> {
-    let snapshot = known(rt.alloc())?;
-    for workers in &WORKERS {
-        let answers = prepare(&rt, &snapshot, &THREE, *workers, &NoGate, rt.alloc())?;
-        assert!(rt; are_due(answers.as_slice(), &DUE), "{workers}");
+fn pieces(rt: HostRuntime) -> Result<(), Fail> {
+    let alloc = rt.alloc();
+    for count in WORKERS {
+        for length in LENGTHS {
+            let snapshots = (known(alloc)?, known(alloc)?);
+            let right = ask(&rt, snapshots, *count, *length, alloc)?;
+            assert!(rt; right == *length, "{count} workers, {length} messages");
+        }
     }
     Ok(())
 }
 
-#[test]
-fn bad_workers(rt: HostRuntime) -> Result<(), Fail> {
-    let snapshot = known(rt.alloc())?;
-    for workers in &NO_WORKERS {
-        let answers = prepare(&rt, &snapshot, &[], *workers, &NoGate, rt.alloc());
-        assert!(rt;
-            matches!(answers, Err(WorkersFault::BadWorkers)),
-            "{workers}"
-        );
-    }
-    let answers = prepare(&rt, &snapshot, &[], 64, &NoGate, rt.alloc())?;
-    assert!(rt; answers.is_empty());
-    Ok(())
-}
-
-/// Holds piece 0 back until piece 1 came.
-#[derive(Drop)]
-struct Holding {
-    came: AtomicU64,
-    late: AtomicU64,
-    left: AtomicU64,
-}
-
-impl Holding {
-    fn new() -> Holding {
-        Holding {
-            came: AtomicU64::new(0),
-            late: AtomicU64::new(0),
-            left: AtomicU64::new(0),
-        }
-    }
-
-    /// Whether piece 1 comes while this waits.
-    fn sees_the_other(&self) -> bool {
-        for _ in 0..TURNS {
-            if self.came.load(Ordering::SeqCst) != 0 {
-                return true;
-            }
-            thread::yield_now();
-        }
-        false
-    }
-
-    /// Whether piece 1 came while piece 0 was held back, and both were prepared.
-    fn saw_both(&self) -> bool {
-        self.late.load(Ordering::SeqCst) == 0 && self.left.load(Ordering::SeqCst) == 2
-    }
-}
-
-impl Gate for Holding {
-    fn enter(&self, piece: u64) {
-        if piece == 1 {
-            self.came.store(1, Ordering::SeqCst);
-        }
-        if piece == 0 && !self.sees_the_other() {
-            self.late.store(1, Ordering::SeqCst);
-        }
-    }
-
-    fn leave(&self, _piece: u64) {
-        self.left.fetch_add(1, Ordering::SeqCst);
-    }
-}
-
-/// Two messages by two workers of which the first is held back, and whether the gate saw both at once.
-fn prepare_held<R: Threads + Wait + Sync>(
+/// Whether a message is handed back for another one, and then for itself.
+fn mistaken<R: Wait + Sync + Threads>(
     rt: &R,
-    snapshot: &Snapshot,
+    snapshot: Snapshot,
+    count: u64,
     alloc: Global,
-) -> (Answers, bool) {
-    let gate = Holding::new();
-    let answers = prepare_once(rt, snapshot, &TWO, 2, &gate, alloc);
-    (answers, gate.saw_both())
+) -> Result<(bool, bool), AllocError> {
+    thread::scope(thread::scope_env(), rt, |scope| {
+        let mut workers = Workers::new(alloc, count);
+        workers.ask(rt, scope, snapshot, piece(alloc, 2)?)?;
+        let other = message(alloc, 3)?;
+        let mistaken = workers.next(rt, &other).is_some();
+        let second = message(alloc, 1)?;
+        Ok((mistaken, workers.next(rt, &second).is_some()))
+    })
 }
 
 #[test]
-fn workers_overlap(rt: HostRuntime) -> Result<(), Fail> {
-    let snapshot = known(rt.alloc())?;
-    let (mut answers, mut together) = prepare_held(&rt, &snapshot, rt.alloc());
-    if was_refused(&answers) {
-        (answers, together) = prepare_held(&rt, &snapshot, rt.alloc());
-    }
-    assert!(rt; together, "piece 1 did not come");
-    assert!(rt; are_due(answers?.as_slice(), &[Ok(DATA), Ok(DATA)]));
-    Ok(())
-}
-
-static FAULTS: [(WorkersFault, &str); 3] = [
-    (WorkersFault::BadWorkers, "BadWorkers"),
-    (WorkersFault::NoThread, "NoThread"),
-    (WorkersFault::OutOfMemory, "OutOfMemory"),
-];
-
-#[test]
-fn fault_texts(rt: HostRuntime) -> Result<(), Fail> {
-    for (fault, want) in &FAULTS {
-        assert_eq!(rt; format!(in rt.alloc(); "{fault}")?.as_str(), *want);
+fn another_message(rt: HostRuntime) -> Result<(), Fail> {
+    let alloc = rt.alloc();
+    for count in WORKERS {
+        let found = mistaken(&rt, known(alloc)?, *count, alloc)?;
+        assert!(rt; found == (false, true), "{count} workers");
     }
     Ok(())
 }

@@ -120,16 +120,19 @@ pub(crate) fn hold_message<E: EntryLedger, H: RecordLedger, R: Threads + Wait + 
     let delivery = shared.delivery(rt, SubId(1)).expect(rt, "a delivery");
     let patient = Patient::new(rt, shared, delivery, row);
     let mut reader = Device::new(Sparing::new(row.input, 65_536, ENOUGH, ConnectionReset));
-    let served = serve_exporter(
-        rt,
-        alloc,
-        shared,
-        &mut exporter,
-        &mut reader,
-        1000,
-        2,
-        &patient,
-    );
+    let served = thread::scope(thread::scope_env(), rt, |scope| {
+        serve_exporter(
+            rt,
+            alloc,
+            shared,
+            &mut exporter,
+            &mut reader,
+            1000,
+            2,
+            &patient,
+            scope,
+        )
+    });
     assert!(rt; served.is_ok(), "{served:?}");
     expect_held(rt, shared, &admin, &patient);
     returned_handles(alloc, exporter, admin, Some(patient.delivery.into_inner()))
@@ -293,6 +296,7 @@ pub(crate) fn hold_piece<
             1000,
             2,
             &Yielding,
+            scope,
         );
         assert!(rt; served.is_ok(), "{served:?}");
         admin.stop(rt, shared);

@@ -22,6 +22,7 @@ use std::io::ErrorKind::ConnectionReset;
 use std::process::Abort;
 use std::sync::Wait;
 use std::test::Fail;
+use std::thread;
 use std::thread::Threads;
 use test_io::Sparing;
 
@@ -127,16 +128,19 @@ pub(crate) fn serve<E: EntryLedger, H: RecordLedger, R: Threads + Wait + Abort +
     let mut reader = Device::new(Sparing::new(row.stream, row.most, row.reads, ConnectionReset));
     let (turns, workers) = (row.turns, row.workers);
     let told = Told::nothing(alloc, row.stream);
-    let served = serve_exporter(
-        rt,
-        alloc,
-        shared,
-        &mut exporter,
-        &mut reader,
-        turns,
-        workers,
-        &told,
-    );
+    let served = thread::scope(thread::scope_env(), rt, |scope| {
+        serve_exporter(
+            rt,
+            alloc,
+            shared,
+            &mut exporter,
+            &mut reader,
+            turns,
+            workers,
+            &told,
+            scope,
+        )
+    });
     let due = match row.due {
         Ok(()) => Ok(row.brought),
         Err(fault) => Err((fault, row.brought)),

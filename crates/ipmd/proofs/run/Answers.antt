@@ -1,4 +1,4 @@
-use Rattle.std.proofs.Common.{map, refl, subst, sym}
+use Rattle.std.proofs.Common.{map, refl, rules, subst, sym}
 use Rattle.octet_io.specs.Device.{device_inner}
 use Rattle.mediator_offline.proofs.Receiving.{err_gives}
 use Rattle.ipmd.specs.Serving.{FailsToServe}
@@ -6,6 +6,7 @@ use Rattle.ipmd_commands.specs.Runs.{RefusesToFilter}
 use Rattle.ipmd_verify.specs.Verifying.{RefusesToVerifyFile}
 use Rattle.ipmd_explain.specs.Answers.{RefusesToExplainFile}
 use Rattle.ipmd.proofs.Endings.{unexplained, unfiltered, unserved, unverified}
+use Rattle.ipmd.proofs.run.Goals.{in-CheckPolicy+in_ok-check_policy-in-CheckPolicy, in-Replay+in_ok-replay-in-Replay, in-Serve+in_ok-serve-in-Serve, in-Verify+in_ok-verify-in-Verify, in-Explain+in_ok-explain-in-Explain, in-Show+in_ok-show-in-Show+in-Some-1, in-Show+in_ok-show-in-Show+in-None-1}
 use Rattle.ipmd.proofs.run.Goals as goal
 
 pub returns-in_err-serve-in-Serve-clause-err : goal.returns-in_err-serve-in-Serve-clause-err
@@ -46,3 +47,14 @@ returns-in_err-explain-in-Explain-clause-err g c =
     (λ e is. unexplained (map g.S.AsStr.text c.args.words.now) c.in-Explain.options e given held holds c.args.errors.now c.args.errors.now refl
     (rw c.in-Explain.is at c.in_ok-options.ensures.asked)
     (subst (λ x. RefusesToExplainFile c.in-Explain.options x held holds) (sym is) c.in_err-explain-in-Explain.ensures.err))
+
+pub returns-clause-ok : goal.returns-clause-ok
+returns-clause-ok g c = elim c.match-branch-2.branch [
+  | in-CheckPolicy+in_ok-check_policy-in-CheckPolicy w ↦ rw (w.output-is, w.errors-is) (search rules)
+  | in-Replay+in_ok-replay-in-Replay w ↦ rw (w.output-is, w.errors-is) (search rules)
+  | in-Serve+in_ok-serve-in-Serve w ↦ rw (w.output-is, w.errors-is) (search rules)
+  | in-Verify+in_ok-verify-in-Verify w ↦ rw (w.output-is, w.errors-is) (search rules)
+  | in-Explain+in_ok-explain-in-Explain w ↦ rw (w.output-is, w.errors-is) (search rules)
+  | in-Show+in_ok-show-in-Show+in-Some-1 w ↦ rw (w.output-is, w.errors-is) (search rules)
+  | in-Show+in_ok-show-in-Show+in-None-1 w ↦ rw (w.output-is, w.errors-is) (search rules)
+]
