@@ -47,7 +47,7 @@ fn message(alloc: Global, place: usize) -> Result<Bytes, AllocError> {
         _ => {
             let mut octets = Vec::new(alloc);
             octets.extend_from_slice(&DATA[..DATA.len() - 1])?;
-            octets.push(place as u8)?;
+            octets.push((place % 250) as u8)?;
             Bytes::copy_from_slice(alloc, &octets)
         }
     }

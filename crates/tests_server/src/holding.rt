@@ -119,8 +119,8 @@ pub(crate) fn hold_message<E: EntryLedger, H: RecordLedger, R: Threads + Wait + 
     let (admin, mut exporter) = begin(rt, alloc, shared, PASS, &[ONE_RECORD])?;
     let delivery = shared.delivery(rt, SubId(1)).expect(rt, "a delivery");
     let patient = Patient::new(rt, shared, delivery, row);
-    let mut reader = Device::new(Sparing::new(row.input, 65_536, ENOUGH, ConnectionReset));
     let served = thread::scope(thread::scope_env(), rt, |scope| {
+        let mut reader = Device::new(Sparing::new(row.input, 65_536, ENOUGH, ConnectionReset));
         serve_exporter(
             rt,
             alloc,

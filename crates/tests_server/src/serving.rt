@@ -125,10 +125,15 @@ pub(crate) fn serve<E: EntryLedger, H: RecordLedger, R: Threads + Wait + Abort +
     if row.was_closed {
         exporter.end(rt, shared).expect(rt, "an end");
     }
-    let mut reader = Device::new(Sparing::new(row.stream, row.most, row.reads, ConnectionReset));
     let (turns, workers) = (row.turns, row.workers);
     let told = Told::nothing(alloc, row.stream);
     let served = thread::scope(thread::scope_env(), rt, |scope| {
+        let mut reader = Device::new(Sparing::new(
+            row.stream,
+            row.most,
+            row.reads,
+            ConnectionReset,
+        ));
         serve_exporter(
             rt,
             alloc,
